@@ -1,0 +1,4 @@
+//! What the layers of `sentry_core` share: plain values, and the records, ids, keys and refusals over them.
+#![tactic(auto)]
+
+pub mod plain;

@@ -1,0 +1,14 @@
+//! The values that records are made of, each of which contracts see as plain data: a text as its bytes, a list as a
+//! list, a map as its entries in order, and a share as what it shares.
+
+mod items;
+mod shared;
+mod table;
+mod text;
+mod text_map;
+
+pub use items::Items;
+pub use shared::Shared;
+pub use table::Table;
+pub use text::Text;
+pub use text_map::TextMap;

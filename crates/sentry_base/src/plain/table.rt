@@ -1,0 +1,80 @@
+//! Tables by number.
+ghost use Rattle.std.specs.Prelude.{◌≡◌, [], OnOk, OnErr, IsSome, option_copied};
+ghost use Rattle.std.specs.Borrow.{sem};
+ghost use Rattle.std.specs.Option.{option_copied_mut};
+ghost use Rattle.sentry_base.specs.Tables.{found, stored, changed, removed};
+ghost use Rattle.sentry_base.specs.Lending.{lends_value};
+
+use std::alloc::{AllocError, Global};
+use std::collections::BTreeMap;
+use std::marker::Model;
+
+/// A map from numbers, over a `BTreeMap`. Contracts see the list of its entries in the order of the numbers.
+#[derive(Drop)]
+pub struct Table<T> {
+    entries: BTreeMap<u64, T>,
+}
+
+impl<T> Model for Table<T> {
+    ghost use Rattle.std.specs.Prelude.{List, ℕ};
+
+    ghost Value = { List (ℕ × T) };
+
+    ghost view = { λ a. a.entries.entries };
+}
+
+impl<T> Table<T> {
+    /// The empty table, which takes no memory.
+    pub fn new(alloc: Global) -> Self
+        ensures { result ≡ [] }
+    {
+        Table {
+            entries: BTreeMap::new(alloc),
+        }
+    }
+
+    /// The value under a number.
+    pub fn get(&self, number: u64) -> Option<&T>
+        ensures { option_copied result ≡ found self.now number }
+    {
+        self.entries.get(&number)
+    }
+
+    /// The value under a number, to be written: the table then has what was last written there.
+    pub fn get_mut(&mut self, number: u64) -> Option<&mut T>
+        ensures* writes_back { sem 𝓛 (lends_value T.row self.entry number result) }
+        ensures value { option_copied_mut result ≡ found self.old number }
+    {
+        self.entries.get_mut(&number)
+    }
+}
+
+impl<T: Drop> Table<T> {
+    /// Puts a value under a number.
+    pub fn insert(&mut self, number: u64, value: T) -> Result<(), AllocError>
+        ensures ok { OnOk result (self.new ≡ stored self.old number value) }
+        ensures err { OnErr result (self.new ≡ self.old) }
+    {
+        self.entries.insert(number, value)?;
+        Ok(())
+    }
+
+    /// Writes over the value of a number that is there.
+    pub fn set(&mut self, number: u64, value: T)
+        requires { IsSome (found self.old number) }
+        ensures { self.new ≡ changed self.old number value }
+    {
+        let Some(place) = self.get_mut(number) else {
+            return;
+        };
+        *place = value;
+    }
+
+    /// Takes the value under a number out.
+    pub fn remove(&mut self, number: u64) -> Option<T>
+        ensures value { result ≡ found self.old number }
+        ensures rest { self.new ≡ removed self.old number }
+    {
+        self.entries.remove(&number)
+    }
+}
