@@ -1,3 +1,4 @@
 pub mod Texts
 pub mod Tables
 pub mod Lending
+pub mod Refusals
