@@ -1,3 +1,6 @@
 pub mod Texts
 pub mod Tables
 pub mod Lending
+pub mod Values
+pub mod ValueView
+pub mod ValueSizes
