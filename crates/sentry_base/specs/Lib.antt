@@ -5,3 +5,5 @@ pub mod Values
 pub mod ValueView
 pub mod ValueSizes
 pub mod Refusals
+pub mod Events
+pub mod Envelopes
