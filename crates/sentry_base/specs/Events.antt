@@ -8,9 +8,24 @@ use Rattle.sentry_base.specs.declared.protocol.level.Level.TheVariants.{Info}
 -- an event of which only its id and moment are known
 abbrev pub new_event : List ℕ → ℕ → Event
 new_event id now = record {
-  event_id = id; level = Info; fingerprint = codes "{{ default }}" ∷ []; message = None; transaction = None;
-  platform = codes "other"; timestamp = now; server_name = None; release = None; environment = None; user = None;
-  request = None; contexts = []; breadcrumbs = []; exception = []; tags = []; extra = []; sdk = None;
+  event_id = id;
+  level = Info;
+  fingerprint = codes "{{ default }}" ∷ [];
+  message = None;
+  transaction = None;
+  platform = codes "other";
+  timestamp = now;
+  server_name = None;
+  release = None;
+  environment = None;
+  user = None;
+  request = None;
+  contexts = [];
+  breadcrumbs = [];
+  exception = [];
+  tags = [];
+  extra = [];
+  sdk = None;
 }
 
 -- a breadcrumb of which only its moment is known

@@ -7,7 +7,7 @@ use crate::protocol::level::Level;
 use std::alloc::{AllocError, Global};
 
 /// One step on the way to an event.
-#[derive(Clone, Drop)]
+#[derive(Drop)]
 pub struct Breadcrumb {
     /// Nanoseconds since the epoch.
     pub timestamp: u64,
@@ -32,6 +32,21 @@ impl Breadcrumb {
             level: Level::Info,
             message: None,
             data_: ValueMap::new(alloc),
+        })
+    }
+}
+
+impl Clone for Breadcrumb {
+    ghost is_clone = { λ old new. new ≡ old };
+
+    fn clone(&self) -> Result<Breadcrumb, AllocError> {
+        Ok(Breadcrumb {
+            timestamp: self.timestamp,
+            ty: self.ty.clone()?,
+            category: self.category.clone()?,
+            level: self.level,
+            message: self.message.clone()?,
+            data_: self.data_.clone()?,
         })
     }
 }

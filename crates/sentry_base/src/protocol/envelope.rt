@@ -11,14 +11,14 @@ use std::alloc::{AllocError, Global};
 use uuid::Uuid;
 
 /// What a transport sends at once: items, and what is said of them all.
-#[derive(Clone, Drop)]
+#[derive(Drop)]
 pub struct Envelope {
     pub header: EnvelopeHeaders,
     pub items: Items<EnvelopeItem>,
 }
 
 /// What is said of a whole envelope.
-#[derive(Clone, Drop)]
+#[derive(Drop)]
 pub struct EnvelopeHeaders {
     /// The id of the first event in it.
     pub event_id: Option<Uuid>,
@@ -26,7 +26,7 @@ pub struct EnvelopeHeaders {
 }
 
 /// What a server needs to sample whole traces.
-#[derive(Clone, Drop)]
+#[derive(Drop)]
 pub struct DynamicSamplingContext {
     pub trace_id: Option<TraceId>,
     pub sample_rate: Option<SampleRate>,
@@ -35,7 +35,7 @@ pub struct DynamicSamplingContext {
 }
 
 /// One thing in an envelope.
-#[derive(Clone, Drop)]
+#[derive(Drop)]
 pub enum EnvelopeItem {
     Event(Event),
     Attachment(Attachment),
@@ -76,5 +76,53 @@ impl Envelope {
         self.items.push(item)?;
         self.header.event_id = self.header.event_id.or(id);
         Ok(())
+    }
+}
+
+impl Clone for Envelope {
+    ghost is_clone = { λ old new. new ≡ old };
+
+    fn clone(&self) -> Result<Envelope, AllocError> {
+        Ok(Envelope {
+            header: self.header.clone()?,
+            items: self.items.clone()?,
+        })
+    }
+}
+
+impl Clone for EnvelopeHeaders {
+    ghost is_clone = { λ old new. new ≡ old };
+
+    fn clone(&self) -> Result<EnvelopeHeaders, AllocError> {
+        Ok(EnvelopeHeaders {
+            event_id: self.event_id,
+            trace: self.trace.clone()?,
+        })
+    }
+}
+
+impl Clone for DynamicSamplingContext {
+    ghost is_clone = { λ old new. new ≡ old };
+
+    fn clone(&self) -> Result<DynamicSamplingContext, AllocError> {
+        Ok(DynamicSamplingContext {
+            trace_id: self.trace_id,
+            sample_rate: self.sample_rate,
+            sampled: self.sampled,
+            public_key: self.public_key.clone()?,
+        })
+    }
+}
+
+impl Clone for EnvelopeItem {
+    ghost is_clone = { λ old new. new ≡ old };
+
+    fn clone(&self) -> Result<EnvelopeItem, AllocError> {
+        match self {
+            EnvelopeItem::Event(event) => Ok(EnvelopeItem::Event(event.clone()?)),
+            EnvelopeItem::Attachment(attachment) => {
+                Ok(EnvelopeItem::Attachment(attachment.clone()?))
+            }
+        }
     }
 }
