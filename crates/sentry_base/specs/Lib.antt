@@ -7,3 +7,4 @@ pub mod ValueSizes
 pub mod Refusals
 pub mod Events
 pub mod Envelopes
+pub mod Defaults
