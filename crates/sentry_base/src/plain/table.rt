@@ -1,5 +1,6 @@
 //! Tables by number.
-ghost use Rattle.std.specs.Prelude.{◌≡◌, [], OnOk, OnErr, IsSome, option_copied};
+ghost use Rattle.std.specs.Prelude.{◌≡◌, ◌==◌, ℕ, [], OnOk, OnErr, IsSome, length, option_copied};
+ghost use Rattle.std.specs.Map.Iter.{ShowsInOrder, deref_pair};
 ghost use Rattle.std.specs.Borrow.{sem};
 ghost use Rattle.std.specs.Option.{option_copied_mut};
 ghost use Rattle.sentry_base.specs.Tables.{found, stored, changed, removed};
@@ -7,6 +8,7 @@ ghost use Rattle.sentry_base.specs.Lending.{lends_value};
 
 use std::alloc::{AllocError, Global};
 use std::collections::BTreeMap;
+use std::collections::btree_map::Iter;
 use std::marker::Model;
 
 /// A map from numbers, over a `BTreeMap`. Contracts see the list of its entries in the order of the numbers.
@@ -38,6 +40,28 @@ impl<T> Table<T> {
         ensures { option_copied result ≡ found self.now number }
     {
         self.entries.get(&number)
+    }
+
+    /// How many numbers the table has.
+    pub fn len(&self) -> usize
+        ensures { result ≡ length self.now }
+    {
+        self.entries.len()
+    }
+
+    /// Whether the table has no number.
+    pub fn is_empty(&self) -> bool
+        ensures { result ≡ (length self.now == 0) }
+    {
+        self.entries.is_empty()
+    }
+
+    /// The entries in the order of the numbers.
+    pub fn iter(&self) -> Iter<'_, u64, T>
+        ensures rest { result ≡ self.now }
+        ensures runs { ShowsInOrder (deref_pair {K = ℕ} {X = T}) }
+    {
+        self.entries.iter()
     }
 
     /// The value under a number, to be written: the table then has what was last written there.

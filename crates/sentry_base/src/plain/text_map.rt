@@ -1,10 +1,13 @@
 //! Maps by text.
-ghost use Rattle.std.specs.Prelude.{◌≡◌, ℕ, List, [], IfOk, OnOk, OnErr, option_copied};
+ghost use Rattle.std.specs.Prelude.{◌≡◌, ◌==◌, ℕ, List, [], IfOk, OnOk, OnErr, length, option_copied, String};
+ghost use Rattle.std.specs.Global.{Global};
+ghost use Rattle.std.specs.Map.Iter.{ShowsInOrder, deref_pair};
 ghost use Rattle.sentry_base.specs.Texts.{Bytes, put, without, value_at, by_bytes, merged};
 
 use crate::plain::text::Text;
 use std::alloc::{AllocError, Global};
 use std::collections::BTreeMap;
+use std::collections::btree_map::Iter;
 use std::marker::Model;
 
 /// A map from texts, over a `BTreeMap`. Contracts see the list of its entries in the order of the keys' bytes.
@@ -38,6 +41,36 @@ impl<V> TextMap<V> {
     {
         self.entries.get(key)
     }
+
+    /// How many keys the map has.
+    pub fn len(&self) -> usize
+        ensures { result ≡ length self.now }
+    {
+        self.entries.len()
+    }
+
+    /// Whether the map has no key.
+    pub fn is_empty(&self) -> bool
+        ensures { result ≡ (length self.now == 0) }
+    {
+        self.entries.is_empty()
+    }
+
+    /// The entries in the order of the keys' bytes.
+    pub fn iter(&self) -> Iter<'_, String, V>
+        ensures rest { by_bytes (λ v. v) result ≡ self.now }
+        ensures runs { ShowsInOrder (deref_pair {K = String Global} {X = V}) }
+    {
+        self.entries.iter()
+    }
+
+    /// Takes the value at a key out.
+    pub fn remove(&mut self, key: &str) -> Option<V>
+        ensures value { result ≡ value_at self.old key.now }
+        ensures rest { self.new ≡ without self.old key.now }
+    {
+        self.entries.remove(key)
+    }
 }
 
 impl<V: Drop> TextMap<V> {
@@ -48,13 +81,6 @@ impl<V: Drop> TextMap<V> {
     {
         self.entries.insert(key.into_string(), value)?;
         Ok(())
-    }
-
-    /// Takes out what stands at a key.
-    pub fn remove(&mut self, key: &str)
-        ensures { self.new ≡ without self.old key.now }
-    {
-        let _ = self.entries.remove(key);
     }
 }
 
