@@ -2,6 +2,7 @@
 ghost use Rattle.std.specs.Prelude.{◌≡◌, ◌==◌, ℕ, List, [], IfOk, OnOk, OnErr, length, option_copied, String};
 ghost use Rattle.std.specs.Global.{Global};
 ghost use Rattle.std.specs.Map.Iter.{ShowsInOrder, deref_pair};
+ghost use Rattle.std.specs.Option.{option_or};
 ghost use Rattle.sentry_base.specs.Texts.{Bytes, put, without, value_at, by_bytes, merged};
 
 use crate::plain::text::Text;
@@ -98,7 +99,9 @@ impl<V: Clone> Clone for TextMap<V> {
 impl<V: Clone + Drop> TextMap<V> {
     /// This map with the entries of `wins` put in, which have their way at each of their keys.
     pub fn merged(self, wins: &TextMap<V>) -> Result<TextMap<V>, AllocError>
-        ensures { IfOk result (λ made. ((x y : V) → V.is_clone x y → y ≡ x) → made ≡ merged wins.now self) }
+        ensures made { IfOk result (λ made. ((x y : V) → V.is_clone x y → y ≡ x) → made ≡ merged wins.now self) }
+        ensures at_each_key { IfOk result (λ made. ((x y : V) → V.is_clone x y → y ≡ x)
+            → (key : Bytes) → value_at made key ≡ option_or (value_at wins.now key) (value_at self key)) }
     {
         let mut made = self;
         for (key, value) in wins.entries.iter() {
