@@ -1,5 +1,5 @@
 -- What a map from texts has at each key once an entry, or another map, was put in.
-use Rattle.std.proofs.Common.{Bool, true, false, cond, is_eq, Option, Some, None, ◌≡◌, ◌≢◌, List, [], ◌∷◌, refl, sym, ap, ◌∙◌, String, Ordering, Less, Equal, Greater, string_bytes, string_cmp}
+use Rattle.std.proofs.Common.{Bool, true, false, cond, is_eq, Option, Some, None, ◌≡◌, List, [], ◌∷◌, refl, sym, ap, ◌∙◌, String, Ordering, Less, Equal, Greater, string_bytes, string_cmp}
 use Rattle.std.proofs.lemmas.Map.Lookups.{exact_bytes}
 use Rattle.std.specs.Option.{option_or}
 use Rattle.std.specs.Ordering.{match_ordering}

@@ -4,3 +4,4 @@ pub mod Lending
 pub mod Values
 pub mod ValueView
 pub mod ValueSizes
+pub mod Equality

@@ -1,4 +1,4 @@
-use Rattle.std.proofs.Common.{◌≡◌, ◌∙◌, ap, sym}
+use Rattle.std.proofs.Common.{◌∙◌, ap, sym}
 use Rattle.std.specs.Option.{option_or}
 use Rattle.sentry_base.specs.Texts.{value_at, by_bytes, merged}
 use Rattle.sentry_base.proofs.MergeLemmas.{value_at-merged}
