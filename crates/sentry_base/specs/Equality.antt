@@ -1,9 +1,9 @@
 -- Tests of `==` that decide equality: on texts, lists, maps and values where they do on their parts.
-use Rattle.std.specs.Prelude.{◌≡◌, ◌==◌, ◌&&◌, Bool, List, [], ◌∷◌, Some, None, refl}
+use Rattle.std.specs.Prelude.{◌≡◌, ◌==◌, ◌&&◌, Bool, List, [], ◌∷◌, Some, None, refl, ℕ}
 use Rattle.std.proofs.Common.{ap}
 use Rattle.std.specs.Bool.{Decides}
 use Rattle.std.specs.Option.{option_eq}
-use Rattle.std.specs.Cmp.{unsigned_Decides, decided, partial_equiv_from_equiv, IsPartialEquivalence}
+use Rattle.std.specs.Cmp.{unsigned_Decides, decided, and_per, on_per, and_equiv, on_equiv, partial_equiv_from_equiv, IsPartialEquivalence, IsEquivalence}
 use Rattle.std.specs.Cmp.Lexicographic.{pointwise, pointwise_decides}
 use Rattle.std.proofs.lemmas.Bool.Decides.{Decides-like, Decides-and}
 use base.Stored.{gnil, gnum, gcons}
@@ -23,16 +23,53 @@ per_exact E d = partial_equiv_from_equiv (decided E d)
 pub exact_bytes : IsExact (pointwise ◌==◌)
 exact_bytes = pointwise_decides unsigned_Decides
 
--- the keys are the same, and so are the values
-abbrev pub same_entry : {X : Type 0} → (X → X → Bool) → Bytes × X → Bytes × X → Bool
-same_entry E p q = pointwise ◌==◌ p.0 q.0 && E p.1 q.1
+module _ {K X : Type 0} (D : K → K → Bool) (E : X → X → Bool) where
+  -- both parts are the same
+  abbrev pub same_pair : K × X → K × X → Bool
+  same_pair p q = D p.0 q.0 && E p.1 q.1
 
-pub exact_entry : {X : Type 0} (E : X → X → Bool) → IsExact E → IsExact (same_entry E)
-exact_entry {X} E d p q =
-    Decides-like _
-    (λ (h : (p.0 ≡ q.0) × (p.1 ≡ q.1)). λ i. (h.0 i, h.1 i))
-    (λ (e : p ≡ q). (ap (λ (r : Bytes × X). r.0) e, ap (λ (r : Bytes × X). r.1) e))
-    (Decides-and _ _ (exact_bytes p.0 q.0) (d p.1 q.1))
+  pub exact_pair : IsExact D → IsExact E → IsExact same_pair
+  exact_pair d e p q =
+      Decides-like _
+      (λ (h : (p.0 ≡ q.0) × (p.1 ≡ q.1)). λ i. (h.0 i, h.1 i))
+      (λ (g : p ≡ q). (ap (λ (r : K × X). r.0) g, ap (λ (r : K × X). r.1) g))
+      (Decides-and _ _ (d p.0 q.0) (e p.1 q.1))
+
+  pub per_pair : IsPartialEquivalence D → IsPartialEquivalence E → IsPartialEquivalence same_pair
+  per_pair d e = and_per (on_per (λ p. p.0) d) (on_per (λ p. p.1) e)
+
+  pub equiv_pair : IsEquivalence D → IsEquivalence E → IsEquivalence same_pair
+  equiv_pair d e = and_equiv (on_equiv (λ p. p.0) d) (on_equiv (λ p. p.1) e)
+
+module _ {X : Type 0} (E : X → X → Bool) where
+  -- the keys are the same, and so are the values
+  abbrev pub same_entry : Bytes × X → Bytes × X → Bool
+  same_entry = same_pair (pointwise ◌==◌) E
+
+  pub exact_entry : IsExact E → IsExact same_entry
+  exact_entry = exact_pair (pointwise ◌==◌) E exact_bytes
+
+  -- the numbers are the same, and so are the values
+  abbrev pub same_row : ℕ × X → ℕ × X → Bool
+  same_row = same_pair ◌==◌ E
+
+  pub exact_row : IsExact E → IsExact same_row
+  exact_row = exact_pair ◌==◌ E unsigned_Decides
+
+pub per_entry : {X : Type 0} {E : X → X → Bool} → IsPartialEquivalence E → IsPartialEquivalence (same_entry E)
+per_entry {E = E} h = per_pair (pointwise ◌==◌) E (per_exact (pointwise ◌==◌) exact_bytes) h
+
+pub equiv_entry : {X : Type 0} {E : X → X → Bool} → IsEquivalence E → IsEquivalence (same_entry E)
+equiv_entry {E = E} h = equiv_pair (pointwise ◌==◌) E (decided (pointwise ◌==◌) exact_bytes) h
+
+pub per_row : {X : Type 0} {E : X → X → Bool} → IsPartialEquivalence E → IsPartialEquivalence (same_row E)
+per_row {E = E} h = per_pair ◌==◌ E (per_exact ◌==◌ unsigned_Decides) h
+
+pub equiv_row : {X : Type 0} {E : X → X → Bool} → IsEquivalence E → IsEquivalence (same_row E)
+equiv_row {E = E} h = equiv_pair ◌==◌ E (decided ◌==◌ unsigned_Decides) h
+
+pub exact_rows : {X : Type 0} (E : X → X → Bool) → IsExact E → IsExact (pointwise (same_row E))
+exact_rows E d = pointwise_decides (exact_row E d)
 
 pub exact_entries : {X : Type 0} (E : X → X → Bool) → IsExact E → IsExact (pointwise (same_entry E))
 exact_entries E d = pointwise_decides (exact_entry E d)

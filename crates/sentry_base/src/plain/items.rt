@@ -1,7 +1,11 @@
 //! Lists.
-ghost use Rattle.std.specs.Prelude.{◌≡◌, ◌==◌, ◌-◌, ◌<◌, ◌≤◌, [], ◌∷◌, ◌++◌, OnOk, OnErr, length, take, option_copied};
+ghost use Rattle.std.specs.Prelude.{◌≡◌, ◌==◌, ◌↔◌, IsTrue, ◌-◌, ◌<◌, ◌≤◌, [], ◌∷◌, ◌++◌, OnOk, OnErr, length, take, option_copied};
 ghost use Rattle.std.specs.List.{slice_get, remove, insert};
 ghost use Rattle.std.specs.Option.{option_to_list};
+ghost use Rattle.std.proofs.Common.{rules};
+ghost use Rattle.std.specs.Cmp.Rules.{comparing};
+ghost use Rattle.std.specs.Cmp.Lexicographic.{pointwise};
+ghost use Rattle.sentry_base.specs.Equality.{IsExact};
 
 use std::alloc::{AllocError, Global};
 use std::marker::Model;
@@ -137,22 +141,19 @@ impl<T: Clone> Clone for Items<T> {
 }
 
 impl<T: PartialEq> PartialEq for Items<T> {
-    ghost use Rattle.std.proofs.Common.{rules};
-    ghost use Rattle.std.specs.Cmp.Rules.{comparing};
-    ghost use Rattle.std.specs.Cmp.Lexicographic.{pointwise};
-
     ghost eq = { pointwise T.eq };
 
     ghost laws = { Prim.search (comparing, rules) };
 
-    fn eq(&self, other: &Items<T>) -> bool {
+    // Where `==` of the items is equality, so is `==` of the lists.
+    fn eq(&self, other: &Items<T>) -> bool
+        ensures test { result ≡ pointwise T.eq self.now other.now }
+        ensures equality { IsExact T.eq → (IsTrue result ↔ (self.now ≡ other.now)) }
+    {
         self.items == other.items
     }
 }
 
 impl<T: Eq> Eq for Items<T> {
-    ghost use Rattle.std.proofs.Common.{rules};
-    ghost use Rattle.std.specs.Cmp.Rules.{comparing};
-
     ghost laws = { Prim.search (comparing, rules) };
 }

@@ -48,3 +48,17 @@ impl<T: Drop> Clone for Shared<T> {
         })
     }
 }
+
+impl<T: PartialEq> PartialEq for Shared<T> {
+    ghost eq = { T.eq };
+
+    ghost laws = { T.laws };
+
+    fn eq(&self, other: &Shared<T>) -> bool {
+        *self.share == *other.share
+    }
+}
+
+impl<T: Eq> Eq for Shared<T> {
+    ghost laws = { T.Eq.laws };
+}

@@ -1,10 +1,12 @@
 //! Tables by number.
-ghost use Rattle.std.specs.Prelude.{◌≡◌, ◌==◌, ℕ, [], OnOk, OnErr, IsSome, length, option_copied};
+ghost use Rattle.std.specs.Prelude.{◌≡◌, ◌==◌, ◌↔◌, IsTrue, ℕ, [], OnOk, OnErr, IsSome, length, option_copied};
 ghost use Rattle.std.specs.Map.Iter.{ShowsInOrder, deref_pair};
 ghost use Rattle.std.specs.Borrow.{sem};
 ghost use Rattle.std.specs.Option.{option_copied_mut};
 ghost use Rattle.sentry_base.specs.Tables.{found, stored, changed, removed};
 ghost use Rattle.sentry_base.specs.Lending.{lends_value};
+ghost use Rattle.std.specs.Cmp.Lexicographic.{pointwise, lists_per, lists_equiv};
+ghost use Rattle.sentry_base.specs.Equality.{IsExact, same_row, per_row, equiv_row};
 
 use std::alloc::{AllocError, Global};
 use std::collections::BTreeMap;
@@ -101,4 +103,33 @@ impl<T: Drop> Table<T> {
     {
         self.entries.remove(&number)
     }
+}
+
+impl<T: Clone> Clone for Table<T> {
+    // Where a clone of a value is that value, so is a clone of the table.
+    ghost is_clone = { λ old new. ((x y : T) → T.is_clone x y → y ≡ x) → new ≡ old };
+
+    fn clone(&self) -> Result<Table<T>, AllocError> {
+        Ok(Table {
+            entries: self.entries.clone()?,
+        })
+    }
+}
+
+impl<T: PartialEq> PartialEq for Table<T> {
+    ghost eq = { pointwise (same_row T.eq) };
+
+    ghost laws = { lists_per (per_row T.laws) };
+
+    // Where `==` of the values is equality, so is `==` of the tables.
+    fn eq(&self, other: &Table<T>) -> bool
+        ensures test { result ≡ pointwise (same_row T.eq) self.now other.now }
+        ensures equality { IsExact T.eq → (IsTrue result ↔ (self.now ≡ other.now)) }
+    {
+        self.entries == other.entries
+    }
+}
+
+impl<T: Eq> Eq for Table<T> {
+    ghost laws = { lists_equiv (equiv_row T.Eq.laws) };
 }

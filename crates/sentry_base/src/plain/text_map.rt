@@ -1,9 +1,11 @@
 //! Maps by text.
-ghost use Rattle.std.specs.Prelude.{◌≡◌, ◌==◌, ℕ, List, [], IfOk, OnOk, OnErr, length, option_copied, String};
+ghost use Rattle.std.specs.Prelude.{◌≡◌, ◌==◌, ◌↔◌, IsTrue, ℕ, List, [], IfOk, OnOk, OnErr, length, option_copied, String};
 ghost use Rattle.std.specs.Global.{Global};
 ghost use Rattle.std.specs.Map.Iter.{ShowsInOrder, deref_pair};
 ghost use Rattle.std.specs.Option.{option_or};
 ghost use Rattle.sentry_base.specs.Texts.{Bytes, put, without, value_at, by_bytes, merged};
+ghost use Rattle.std.specs.Cmp.Lexicographic.{pointwise, lists_per, lists_equiv};
+ghost use Rattle.sentry_base.specs.Equality.{IsExact, same_entry, per_entry, equiv_entry};
 
 use crate::plain::text::Text;
 use std::alloc::{AllocError, Global};
@@ -109,4 +111,22 @@ impl<V: Clone + Drop> TextMap<V> {
         }
         Ok(made)
     }
+}
+
+impl<V: PartialEq> PartialEq for TextMap<V> {
+    ghost eq = { pointwise (same_entry V.eq) };
+
+    ghost laws = { lists_per (per_entry V.laws) };
+
+    // Where `==` of the values is equality, so is `==` of the maps.
+    fn eq(&self, other: &TextMap<V>) -> bool
+        ensures test { result ≡ pointwise (same_entry V.eq) self.now other.now }
+        ensures equality { IsExact V.eq → (IsTrue result ↔ (self.now ≡ other.now)) }
+    {
+        self.entries == other.entries
+    }
+}
+
+impl<V: Eq> Eq for TextMap<V> {
+    ghost laws = { lists_equiv (equiv_entry V.Eq.laws) };
 }
