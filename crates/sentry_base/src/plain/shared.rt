@@ -1,5 +1,6 @@
 //! A value that its clones share.
-ghost use Rattle.std.specs.Prelude.{◌≡◌, IfOk};
+ghost use Rattle.std.specs.Prelude.{◌≡◌, ◌↔◌, IsTrue, IfOk};
+ghost use Rattle.sentry_base.specs.Equality.{IsExact};
 
 use std::alloc::{AllocError, Global};
 use std::marker::Model;
@@ -54,7 +55,11 @@ impl<T: PartialEq> PartialEq for Shared<T> {
 
     ghost laws = { T.laws };
 
-    fn eq(&self, other: &Shared<T>) -> bool {
+    // Where `==` of the values is equality, so is `==` of the shares.
+    fn eq(&self, other: &Shared<T>) -> bool
+        ensures test { result ≡ T.eq self.now other.now }
+        ensures equality { IsExact T.eq → (IsTrue result ↔ (self.now ≡ other.now)) }
+    {
         *self.share == *other.share
     }
 }
