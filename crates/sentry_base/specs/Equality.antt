@@ -1,17 +1,14 @@
--- Tests of `==` that decide equality: on texts, lists, maps and values where they do on their parts.
-use Rattle.std.specs.Prelude.{◌≡◌, ◌==◌, ◌&&◌, Bool, List, [], ◌∷◌, Some, None, refl, ℕ}
+-- Tests of `==` that decide equality: on lists, maps and records where they do on their parts.
+use Rattle.std.specs.Prelude.{◌≡◌, ◌==◌, ◌&&◌, Bool, Some, None, refl, ℕ}
 use Rattle.std.proofs.Common.{ap}
 use Rattle.std.specs.Bool.{Decides}
 use Rattle.std.specs.Option.{option_eq}
 use Rattle.std.specs.Cmp.{unsigned_Decides, decided, and_per, on_per, and_equiv, on_equiv, partial_equiv_from_equiv, IsPartialEquivalence, IsEquivalence}
 use Rattle.std.specs.Cmp.Lexicographic.{pointwise, pointwise_decides}
 use Rattle.std.proofs.lemmas.Bool.Decides.{Decides-like, Decides-and}
-use base.Stored.{gnil, gnum, gcons}
+use denote.Enum.Declared.{Declared}
+use denote.Enum.Bare.{Bare, sameb, same_true, true_same}
 use Rattle.sentry_base.specs.Texts.{Bytes}
-use Rattle.sentry_base.specs.Values.{Data, code_data, inj_data, same_code, same_data}
-use Rattle.sentry_base.specs.ValueView.{data_of, items_from, members_from}
-use Rattle.sentry_base.specs.declared.plain.value.Value.{Value}
-use Rattle.sentry_base.specs.declared.plain.value.Value.TheVariants.{Null, Bool as Truth, Int, Text, List as Listed, Map as Mapped}
 
 -- the test decides equality
 abbrev pub IsExact : {X : Type 0} → (X → X → Bool) → Type 0
@@ -80,57 +77,10 @@ exact_option E d None (Some y) = (λ h. cc, λ h. cc)
 exact_option E d (Some x) None = (λ h. cc, λ h. cc)
 exact_option E d (Some x) (Some y) = Decides-like (E x y) (λ (h : x ≡ y). ap Some h) (λ (h : Some x ≡ Some y). cc) (d x y)
 
-exact_code : IsExact same_code
-exact_code gnil gnil = (λ _. refl, λ _. refl)
-exact_code (gnum m) (gnum n) = Decides-like _ (λ (h : m ≡ n). ap gnum h) (λ (h : gnum m ≡ gnum n). cc) (unsigned_Decides m n)
-exact_code (gcons a b) (gcons c d) =
-    Decides-like _
-    (λ (h : (a ≡ c) × (b ≡ d)). λ i. gcons (h.0 i) (h.1 i))
-    (λ (e : gcons a b ≡ gcons c d). let p : a ≡ c = cc in let q : b ≡ d = cc in (p, q))
-    (Decides-and _ _ (exact_code a c) (exact_code b d))
-exact_code gnil (gnum n) = (λ h. cc, λ h. cc)
-exact_code gnil (gcons c d) = (λ h. cc, λ h. cc)
-exact_code (gnum m) gnil = (λ h. cc, λ h. cc)
-exact_code (gnum m) (gcons c d) = (λ h. cc, λ h. cc)
-exact_code (gcons a b) gnil = (λ h. cc, λ h. cc)
-exact_code (gcons a b) (gnum n) = (λ h. cc, λ h. cc)
+-- a record is told by its fields, as `read` gives them in pairs
+pub exact_record : {X F : Type 0} (E : F → F → Bool) (read : X → F) → ((x y : X) → read x ≡ read y → x ≡ y) → IsExact E → IsExact (λ x y. E (read x) (read y))
+exact_record E read made d x y = Decides-like _ (made x y) (λ (e : x ≡ y). ap read e) (d (read x) (read y))
 
-pub exact_data : IsExact same_data
-exact_data x y = Decides-like _ (inj_data x y) (λ (e : x ≡ y). ap code_data e) (exact_code (code_data x) (code_data y))
-
-items_from-inj : (xs ys : List Data) → items_from xs ≡ items_from ys → xs ≡ ys
-items_from-inj [] [] e = refl
-items_from-inj (x ∷ xs) (y ∷ ys) e =
-    let p : x ≡ y = cc in
-    let q : items_from xs ≡ items_from ys = cc in
-    let r : xs ≡ ys = items_from-inj xs ys q in cc
-items_from-inj [] (y ∷ ys) e = cc
-items_from-inj (x ∷ xs) [] e = cc
-
-members_from-inj : (xs ys : List (Bytes × Data)) → members_from xs ≡ members_from ys → xs ≡ ys
-members_from-inj [] [] e = refl
-members_from-inj (x ∷ xs) (y ∷ ys) e =
-    let o : x.0 ≡ y.0 = cc in
-    let p : x.1 ≡ y.1 = cc in
-    let q : members_from xs ≡ members_from ys = cc in
-    let r : xs ≡ ys = members_from-inj xs ys q in
-    λ i. (o i, p i) ∷ r i
-members_from-inj [] (y ∷ ys) e = cc
-members_from-inj (x ∷ xs) [] e = cc
-
--- values that hold the same are equal
-pub data_of-inj : (a b : Value) → data_of a ≡ data_of b → a ≡ b
-data_of-inj Null Null e = refl
-data_of-inj (Truth a) (Truth b) e = cc
-data_of-inj (Int a) (Int b) e = cc
-data_of-inj (Text a) (Text b) e = cc
-data_of-inj (Listed a) (Listed b) e = let h : items_from a ≡ items_from b = cc in ap Listed (items_from-inj a b h)
-data_of-inj (Mapped a) (Mapped b) e = let h : members_from a ≡ members_from b = cc in ap Mapped (members_from-inj a b h)
-data_of-inj _ _ e = cc
-
--- whether two values hold the same, all the way down
-abbrev pub same_value : Value → Value → Bool
-same_value a b = same_data (data_of a) (data_of b)
-
-pub exact_value : IsExact same_value
-exact_value a b = Decides-like _ (data_of-inj a b) (λ (e : a ≡ b). ap data_of e) (exact_data (data_of a) (data_of b))
+-- the derived test of an enum whose variants hold nothing
+pub exact_enum : (D : Declared) → Bare D.parts → IsExact (sameb D)
+exact_enum D bare x y = (same_true D bare x y, true_same D x y)

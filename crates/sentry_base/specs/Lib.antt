@@ -5,3 +5,4 @@ pub mod Values
 pub mod ValueView
 pub mod ValueSizes
 pub mod Equality
+pub mod ValueEquality

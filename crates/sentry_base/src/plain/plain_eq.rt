@@ -3,7 +3,8 @@ ghost use Rattle.std.specs.Prelude.{◌≡◌, ◌==◌, ◌↔◌, IsTrue};
 ghost use Rattle.std.specs.Cmp.{unsigned_Decides, signed_Decides, booleans_Decides};
 ghost use Rattle.std.specs.Cmp.Lexicographic.{pointwise_decides};
 ghost use Rattle.sentry_base.specs.Values.{same_data};
-ghost use Rattle.sentry_base.specs.Equality.{IsExact, exact_bytes, exact_option, exact_entries, exact_rows, exact_value, exact_data};
+ghost use Rattle.sentry_base.specs.Equality.{IsExact, exact_bytes, exact_option, exact_entries, exact_rows};
+ghost use Rattle.sentry_base.specs.ValueEquality.{exact_value, exact_data};
 
 use crate::plain::items::Items;
 use crate::plain::shared::Shared;
@@ -13,6 +14,9 @@ use crate::plain::text_map::TextMap;
 use crate::plain::value::{Value, ValueMap, Values};
 
 /// Values that are `==` exactly where contracts see the same of both.
+///
+/// A record with derived `PartialEq` has its `exact` from `exact_record`, which takes its fields as nested pairs, the way
+/// back, and what shows each field's test; `plain/tests.rt` has one.
 pub trait PlainEq: PartialEq {
     ghost exact: { IsExact Self.eq };
 }

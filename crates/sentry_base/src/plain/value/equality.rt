@@ -3,7 +3,8 @@ ghost use Rattle.std.specs.Prelude.{◌≡◌, IsTrue, ◌↔◌};
 ghost use Rattle.std.specs.Cmp.{decided};
 ghost use Rattle.std.specs.Cmp.Lexicographic.{pointwise, pointwise_decides};
 ghost use Rattle.sentry_base.specs.Values.{same_data};
-ghost use Rattle.sentry_base.specs.Equality.{same_value, same_entry, exact_value, exact_data, exact_entries, per_exact};
+ghost use Rattle.sentry_base.specs.Equality.{same_entry, exact_entries, per_exact};
+ghost use Rattle.sentry_base.specs.ValueEquality.{same_value, exact_value, exact_data};
 
 use super::{Value, ValueMap, Values};
 

@@ -2,7 +2,7 @@ use Rattle.std.proofs.Common.{◌≡◌, ◌∙◌, sym, ap, List, ◌∷◌, ma
 use Rattle.sentry_base.specs.Texts.{Bytes, by_bytes}
 use Rattle.sentry_base.specs.Values.{Data}
 use Rattle.sentry_base.specs.ValueView.{data_of}
-use Rattle.sentry_base.specs.Equality.{data_of-inj}
+use Rattle.sentry_base.specs.ValueEquality.{data_of-inj}
 use Rattle.sentry_base.specs.declared.plain.value.Value.{Value}
 use Rattle.sentry_base.proofs.plain.value.equality.+same.Goals as goal
 

@@ -1,5 +1,5 @@
 use Rattle.std.proofs.lemmas.Bool.Decides.{same_from_decides}
-use Rattle.sentry_base.specs.Equality.{exact_value}
+use Rattle.sentry_base.specs.ValueEquality.{exact_value}
 use Rattle.sentry_base.proofs.plain.value.equality.ValuePartialEq.eq.Goals as goal
 
 pub returns-clause-test : goal.returns-clause-test
