@@ -8,3 +8,5 @@ pub mod Refusals
 pub mod Events
 pub mod Envelopes
 pub mod Defaults
+pub mod Equality
+pub mod ValueEquality

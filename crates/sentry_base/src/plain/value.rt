@@ -75,3 +75,4 @@ impl Model for ValueMap {
 
 mod copies;
 mod edits;
+mod equality;
