@@ -1,5 +1,5 @@
 -- What the texts of ids say: hex digits name traces and spans, decimal digits name organizations.
-use Rattle.std.specs.Prelude.{Bool, ℕ, ◌^◌, ◌&&◌, nat_lt, length, Option, Some, None, option_map, if◌then◌else◌}
+use Rattle.std.specs.Prelude.{Bool, ◌^◌, ◌&&◌, nat_lt, length, Option, Some, None, option_map, if◌then◌else◌}
 use Rattle.std.specs.Result.{result_ok}
 use Rattle.std.specs.Char.{is_ascii_digit}
 use Rattle.std.specs.List.{list_all}

@@ -3,3 +3,4 @@ pub mod Tables
 pub mod Lending
 pub mod Refusals
 pub mod Ids
+pub mod DsnTexts
