@@ -4,3 +4,5 @@ pub mod Lending
 pub mod Refusals
 pub mod Ids
 pub mod DsnTexts
+pub mod TraceTexts
+pub mod Readings
