@@ -10,3 +10,7 @@ pub mod Envelopes
 pub mod Defaults
 pub mod Equality
 pub mod ValueEquality
+pub mod Ids
+pub mod DsnTexts
+pub mod TraceTexts
+pub mod Readings
