@@ -1,5 +1,11 @@
 pub mod Texts
 pub mod Tables
 pub mod Lending
+pub mod Values
+pub mod ValueView
+pub mod ValueSizes
 pub mod Refusals
+pub mod Events
+pub mod Envelopes
 pub mod Losses
+pub mod RecordLosses

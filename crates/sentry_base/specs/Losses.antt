@@ -1,6 +1,5 @@
--- Losses: 63 quantities by index, one for each category under each reason, and the losses of a value that is dropped.
+-- Losses: 63 quantities by index, one for each category under each reason.
 use Rattle.std.specs.Prelude.{ℕ, zero, suc, ◌+◌, ◌*◌, ◌%◌, ◌^◌, ◌==◌, cond, List, [], ◌∷◌, sum_by, slice_index, slice_index_or, codes}
-use Rattle.sentry_base.specs.declared.protocol.client_report.ClientReportItem.{ClientReportItem}
 use Rattle.sentry_base.specs.declared.protocol.losses.Category.{Category}
 use Rattle.sentry_base.specs.declared.protocol.losses.Category.TheVariants.{Error, Transaction, Span, Session, Attachment, LogItem, Metric}
 use Rattle.sentry_base.specs.declared.protocol.losses.Reason.{Reason}
@@ -85,7 +84,3 @@ plus some others = by_index (λ i. (slice_index some i + slice_index others i) %
 -- the losses f x of each x, added up
 abbrev pub sum_losses : {A : Type 0} → (A → List ℕ) → List A → List ℕ
 sum_losses f xs = by_index (λ i. sum_by (λ x. slice_index (f x) i) xs % 2 ^ 64)
-
--- a report that is dropped loses its items, each under its own reason
-abbrev pub report_losses : List ClientReportItem → List ℕ
-report_losses items = sum_losses (λ item. lost item.category item.reason item.quantity) items

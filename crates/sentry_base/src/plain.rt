@@ -6,9 +6,11 @@ mod shared;
 mod table;
 mod text;
 mod text_map;
+mod value;
 
 pub use items::Items;
 pub use shared::Shared;
 pub use table::Table;
 pub use text::Text;
 pub use text_map::TextMap;
+pub use value::{Value, ValueMap, Values};

@@ -19,7 +19,7 @@ impl<V> Model for TextMap<V> {
 
     ghost Value = { List (Bytes × V) };
 
-    ghost view = { λ a. by_bytes a.entries.entries };
+    ghost view = { λ a. by_bytes (λ v. v) a.entries.entries };
 }
 
 impl<V> TextMap<V> {

@@ -5,6 +5,6 @@ use Rattle.sentry_base.proofs.plain.text_map.TextMap.remove.Goals as goal
 
 pub returns : goal.returns
 returns g c =
-    ap by_bytes c.remove.ensures.entries
-    ∙ by_bytes-remove c.args.key.now c.self.inside.entries.entries
+    ap (by_bytes (λ v. v)) c.remove.ensures.entries
+    ∙ by_bytes-remove (λ v. v) c.args.key.now c.self.inside.entries.entries
     ∙ ap (λ m. without m c.args.key.now) c.self.view_is

@@ -1,7 +1,7 @@
 use Rattle.std.proofs.Common.{◌∙◌, ap₂}
 use Rattle.sentry_base.specs.Losses.{lost, plus}
 use Rattle.sentry_base.proofs.ByIndex.{sum_more}
-use Rattle.sentry_base.proofs.protocol.client_report.ClientReportLossSource.losses.Goals as goal
+use Rattle.sentry_base.proofs.protocol.record_losses.ClientReportLossSource.losses.Goals as goal
 
 pub loop-item-preserved : goal.loop-item-preserved
 loop-item-preserved c =
