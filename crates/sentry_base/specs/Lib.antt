@@ -14,3 +14,5 @@ pub mod Ids
 pub mod DsnTexts
 pub mod TraceTexts
 pub mod Readings
+pub mod Losses
+pub mod RecordLosses

@@ -4,6 +4,7 @@ ghost use Rattle.sentry_base.specs.Envelopes.{item_event_id, with_item, empty_en
 
 use crate::plain::{Items, Text};
 use crate::protocol::attachment::Attachment;
+use crate::protocol::client_report::ClientReport;
 use crate::protocol::event::Event;
 use crate::protocol::ids::TraceId;
 use crate::protocol::rates::SampleRate;
@@ -39,6 +40,7 @@ pub struct DynamicSamplingContext {
 pub enum EnvelopeItem {
     Event(Event),
     Attachment(Attachment),
+    ClientReport(ClientReport),
 }
 
 impl EnvelopeItem {
@@ -48,7 +50,7 @@ impl EnvelopeItem {
     {
         match self {
             EnvelopeItem::Event(event) => Some(event.event_id),
-            EnvelopeItem::Attachment(_) => None,
+            EnvelopeItem::Attachment(_) | EnvelopeItem::ClientReport(_) => None,
         }
     }
 }
@@ -123,6 +125,7 @@ impl Clone for EnvelopeItem {
             EnvelopeItem::Attachment(attachment) => {
                 Ok(EnvelopeItem::Attachment(attachment.clone()?))
             }
+            EnvelopeItem::ClientReport(report) => Ok(EnvelopeItem::ClientReport(report.clone()?)),
         }
     }
 }
