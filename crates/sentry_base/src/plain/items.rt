@@ -11,7 +11,7 @@ use std::alloc::{AllocError, Global};
 use std::marker::Model;
 
 /// A list, over a `Vec`. Contracts see the list of its items, and no capacity.
-#[derive(Drop)]
+#[derive(Debug, Drop)]
 pub struct Items<T> {
     items: Vec<T>,
 }

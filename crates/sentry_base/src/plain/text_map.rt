@@ -14,7 +14,7 @@ use std::collections::btree_map::Iter;
 use std::marker::Model;
 
 /// A map from texts, over a `BTreeMap`. Contracts see the list of its entries in the order of the keys' bytes.
-#[derive(Drop)]
+#[derive(Debug, Drop)]
 pub struct TextMap<V> {
     entries: BTreeMap<String, V>,
 }
