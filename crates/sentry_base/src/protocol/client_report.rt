@@ -14,7 +14,7 @@ pub struct ClientReportItem {
 }
 
 /// Tells the server what was lost on the way to it.
-#[derive(Drop)]
+#[derive(Drop, PartialEq)]
 pub struct ClientReport {
     pub items: Items<ClientReportItem>,
 }
