@@ -81,10 +81,10 @@ impl LossBook {
     }
 
     /// Takes drained losses over.
-    pub fn absorb(&mut self, losses: &Losses)
-        ensures { (history : List LossEntry) → self.old ≡ kept history → self.new ≡ kept (absorbed losses.now.quantities ∷ history) }
+    pub fn absorb(&mut self, drained: &Losses)
+        ensures { (history : List LossEntry) → self.old ≡ kept history → self.new ≡ kept (absorbed drained.now.quantities ∷ history) }
     {
-        self.pending.add(losses);
+        self.pending.add(drained);
     }
 
     /// A report of what is pending, which then counts as reported; none where nothing is pending. Where there is no
