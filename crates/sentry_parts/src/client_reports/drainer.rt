@@ -55,8 +55,9 @@ impl Drainer {
     /// it was down the answer is all zeros. It takes no memory and waits for nobody. Which steps of other threads came
     /// before it isn't said.
     pub fn drain(&mut self) -> Drained
-        ensures words { (self.new.words ≡ self.old.words) × (self.new.label ≡ self.old.label) }
-        ensures label { result.0 ≡ self.old.label }
+        ensures words { self.new.words ≡ self.old.words }
+        ensures label { self.new.label ≡ self.old.label }
+        ensures drained_label { result.0 ≡ self.old.label }
         ensures steps { IsDrain the_flags self.old.steps self.new.steps result.1.quantities }
         ensures quiet { Quiet self.new.steps }
     {
@@ -89,7 +90,8 @@ impl Drainer {
     /// Takes the steps of another drainer of the same words over.
     pub fn join(&mut self, other: Drainer)
         requires { other.words ≡ self.old.words }
-        ensures words { (self.new.words ≡ self.old.words) × (self.new.label ≡ self.old.label) }
+        ensures words { self.new.words ≡ self.old.words }
+        ensures label { self.new.label ≡ self.old.label }
         ensures steps { self.new.steps ≡ self.old.steps ++ other.steps }
     {
         let Drainer { part, label: _ } = other;

@@ -17,7 +17,9 @@ pub struct LossWords;
 impl LossWords {
     /// New words with all counters at 0: a recorder and a drainer, which have done nothing.
     pub fn new(alloc: Global, label: Label) -> Result<(Recorder, Drainer), Refusal>
-        ensures made { IfOk result (λ r. (r.0 ≡ r.1) × (r.1.label ≡ label) × (r.1.steps ≡ [])) }
+        ensures words { IfOk result (λ parts. parts.1.words ≡ parts.0.words) }
+        ensures labels { IfOk result (λ parts. (parts.0.label ≡ label) × (parts.1.label ≡ label)) }
+        ensures steps { IfOk result (λ parts. (parts.0.steps ≡ []) × (parts.1.steps ≡ [])) }
         ensures refused { IfErr result (λ refusal. refusal ≡ OutOfMemory) }
     {
         let mut first = Part::open(alloc)?;
@@ -36,7 +38,7 @@ impl LossWords {
     pub fn close(recorder: Recorder, drainer: Drainer) -> Result<Losses, (Recorder, Drainer)>
         requires { drainer.words ≡ recorder.words }
         ensures closed { IfOk result (λ losses. IsClosed (recorder.steps ++ drainer.steps) losses.quantities) }
-        ensures back { IfErr result (λ r. r ≡ (recorder, drainer)) }
+        ensures back { IfErr result (λ parts. parts ≡ (recorder, drainer)) }
     {
         let Recorder {
             part: first,
@@ -65,7 +67,7 @@ impl LossWords {
     /// It takes no memory.
     pub fn close_drainer(drainer: Drainer) -> Result<Losses, Drainer>
         ensures closed { IfOk result (λ losses. IsClosed drainer.steps losses.quantities) }
-        ensures back { IfErr result (λ r. r ≡ drainer) }
+        ensures back { IfErr result (λ part. part ≡ drainer) }
     {
         let Drainer { part, label } = drainer;
         match close_one(part) {

@@ -31,7 +31,8 @@ impl Recorder {
     /// then one raise of the flag. It takes no memory and waits for nobody. When another thread's drain sees the loss
     /// isn't said.
     pub fn record_lost_data<L: LossSource>(&mut self, source: &L, reason: TransportLossReason)
-        ensures words { (self.new.words ≡ self.old.words) × (self.new.label ≡ self.old.label) }
+        ensures words { self.new.words ≡ self.old.words }
+        ensures label { self.new.label ≡ self.old.label }
         ensures steps { self.new.steps ≡ self.old.steps ++ recording (L.losses_under source.now (reason_of reason)) }
         ensures quiet { Quiet self.new.steps }
     {
@@ -61,7 +62,8 @@ impl Recorder {
     /// Takes the steps of another recorder of the same words over.
     pub fn join(&mut self, other: Recorder)
         requires { other.words ≡ self.old.words }
-        ensures words { (self.new.words ≡ self.old.words) × (self.new.label ≡ self.old.label) }
+        ensures words { self.new.words ≡ self.old.words }
+        ensures label { self.new.label ≡ self.old.label }
         ensures steps { self.new.steps ≡ self.old.steps ++ other.steps }
     {
         let Recorder { part, label: _ } = other;
