@@ -7,5 +7,12 @@ pub mod ValueSizes
 pub mod Refusals
 pub mod Events
 pub mod Envelopes
+pub mod Defaults
+pub mod Equality
+pub mod ValueEquality
+pub mod Ids
+pub mod DsnTexts
+pub mod TraceTexts
+pub mod Readings
 pub mod Losses
 pub mod RecordLosses

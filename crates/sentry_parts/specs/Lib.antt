@@ -1,3 +1,4 @@
+pub mod Pipeline
 pub mod Reasons
 pub mod LossViews
 pub mod LossWords

@@ -12,14 +12,14 @@ use std::alloc::{AllocError, Global};
 use uuid::Uuid;
 
 /// What a transport sends at once: items, and what is said of them all.
-#[derive(Drop)]
+#[derive(Drop, PartialEq)]
 pub struct Envelope {
     pub header: EnvelopeHeaders,
     pub items: Items<EnvelopeItem>,
 }
 
 /// What is said of a whole envelope.
-#[derive(Drop)]
+#[derive(Drop, PartialEq)]
 pub struct EnvelopeHeaders {
     /// The id of the first event in it.
     pub event_id: Option<Uuid>,
@@ -27,7 +27,7 @@ pub struct EnvelopeHeaders {
 }
 
 /// What a server needs to sample whole traces.
-#[derive(Drop)]
+#[derive(Drop, PartialEq)]
 pub struct DynamicSamplingContext {
     pub trace_id: Option<TraceId>,
     pub sample_rate: Option<SampleRate>,
@@ -36,7 +36,7 @@ pub struct DynamicSamplingContext {
 }
 
 /// One thing in an envelope.
-#[derive(Drop)]
+#[derive(Drop, PartialEq)]
 pub enum EnvelopeItem {
     Event(Event),
     Attachment(Attachment),
