@@ -3,7 +3,7 @@
 # counter, first alone and then with a drainer beside them. The least of several runs counts, less a run with no losses.
 # usage: bench/losses.sh [LOSSES OF EACH THREAD] [RUNS]
 set -euo pipefail
-cd "$(dirname "$0")/../crates/loss_bench"
+cd "$(dirname "$0")/../crates/bench_losses"
 losses=${1:-10000000}
 runs=${2:-5}
 rt run >/dev/null
@@ -13,7 +13,7 @@ least() {
     local best="" start taken
     for _ in $(seq "$runs"); do
         start=$(date +%s%N)
-        out/loss_bench "$@" >/dev/null
+        out/bench_losses "$@" >/dev/null
         taken=$(($(date +%s%N) - start))
         if [ -z "$best" ] || [ "$taken" -lt "$best" ]; then
             best=$taken
