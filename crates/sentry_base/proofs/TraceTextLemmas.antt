@@ -8,7 +8,7 @@ use Rattle.std.proofs.Math.Seq.{get_or-append_seam}
 use Rattle.hex.specs.Hex.{decode_sized, is_hex_digit}
 use Rattle.hex.specs.declared.error.FromHexError.{FromHexError}
 use Rattle.hex.proofs.HexLemmas.{IsOk-decode_sized}
-use Rattle.sentry_base.specs.declared.headers.SentryTrace.{SentryTrace}
+use Rattle.sentry_base.specs.declared.headers.trace_text.SentryTrace.{SentryTrace}
 use Rattle.sentry_base.specs.declared.protocol.ids.SpanId.{SpanId}
 use Rattle.sentry_base.specs.declared.protocol.ids.TraceId.{TraceId}
 use Rattle.sentry_base.specs.Ids.{trace_id_of, span_id_of}

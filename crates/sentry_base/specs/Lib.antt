@@ -6,3 +6,5 @@ pub mod Ids
 pub mod DsnTexts
 pub mod TraceTexts
 pub mod Readings
+pub mod HeaderLists
+pub mod TraceHeaders

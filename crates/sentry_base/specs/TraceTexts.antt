@@ -2,7 +2,7 @@
 use Rattle.std.specs.Prelude.{◌≡◌, ◌⊎◌, ℕ, Bool, true, false, List, [], ◌∷◌, ◌++◌, codes, bytes_eq, Option, Some, None, option_map, if◌then◌else◌}
 use Rattle.std.specs.Str.{trim}
 use Rattle.hex.specs.Hex.{encode_lower}
-use Rattle.sentry_base.specs.declared.headers.SentryTrace.{SentryTrace}
+use Rattle.sentry_base.specs.declared.headers.trace_text.SentryTrace.{SentryTrace}
 use Rattle.sentry_base.specs.declared.protocol.ids.SpanId.{SpanId}
 use Rattle.sentry_base.specs.declared.protocol.ids.TraceId.{TraceId}
 use Rattle.sentry_base.specs.Ids.{trace_id_of, span_id_of}
