@@ -1,8 +1,9 @@
 //! Headers that carry a trace from one service to the next.
-ghost use Rattle.std.specs.Prelude.{◌≡◌, ◌∷◌, ◌++◌, [], List, map, Some, None, IfOk, string_bytes};
+ghost use Rattle.std.specs.Prelude.{◌≡◌, ◌∷◌, ◌++◌, [], List, map, Some, None, Result, Ok, IfOk, string_bytes};
 ghost use Rattle.std.specs.Iterator.{IsFiniteIterable, Drains};
 ghost use Rattle.sentry_base.specs.HeaderLists.{Header, HeadersSay, SayTrace, GiveContext, GiveTrace, header_of, trace_of};
 ghost use Rattle.sentry_base.specs.Texts.{Bytes};
+ghost use Rattle.sentry_base.specs.TraceHeaders.{trace_header};
 ghost use Rattle.sentry_base.specs.TraceTexts.{trace_text};
 
 mod baggage;
@@ -150,7 +151,8 @@ impl TracePropagationContext {
 
     /// The value of the `sentry-trace` header that hands the trace on.
     pub fn sentry_trace_header(&self, alloc: Global) -> Result<String, AllocError>
-        ensures { IfOk result (λ text. string_bytes text ≡ trace_text (trace_of self.now)) }
+        ensures text { IfOk result (λ text. string_bytes text ≡ trace_text (trace_of self.now)) }
+        ensures read_back { IfOk result (λ text. (answer : Result TracePropagationContext HeaderParseError) → GiveContext (trace_header (string_bytes text) ∷ []) answer → answer ≡ Ok (record self.now { org_id = None })) }
     {
         self.trace().to_string(alloc)
     }

@@ -1,4 +1,4 @@
-use Rattle.std.proofs.Common.{◌≡◌, sym, subst, map, List}
+use Rattle.std.proofs.Common.{sym, subst, map, List}
 use Rattle.std.proofs.lemmas.List.{map_push}
 use Rattle.sentry_base.specs.HeaderLists.{Header, HeadersSay, header_of}
 use Rattle.sentry_base.proofs.headers.TracePropagationContext.try_from_headers.Goals as goal
