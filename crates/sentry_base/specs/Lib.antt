@@ -8,3 +8,4 @@ pub mod TraceTexts
 pub mod Readings
 pub mod HeaderLists
 pub mod TraceHeaders
+pub mod UtilityTexts
