@@ -3,6 +3,9 @@ ghost use Rattle.std.specs.Prelude.{◌≡◌, ◌==◌, bytes_eq, map, position
 ghost use Rattle.std.specs.List.{list_all, zip};
 ghost use Rattle.sentry_base.specs.UtilityTexts.{header_letter, is_sensitive, ends_type, type_of_debug};
 
+#[cfg(test)]
+mod tests;
+
 use crate::protocol::Refusal;
 use url::{ParseError, ParseResult, Url};
 
