@@ -1,7 +1,15 @@
 pub mod Texts
 pub mod Tables
 pub mod Lending
+pub mod Values
+pub mod ValueView
+pub mod ValueSizes
 pub mod Refusals
+pub mod Events
+pub mod Envelopes
+pub mod Defaults
+pub mod Equality
+pub mod ValueEquality
 pub mod Ids
 pub mod DsnTexts
 pub mod TraceTexts
@@ -9,3 +17,6 @@ pub mod Readings
 pub mod HeaderLists
 pub mod TraceHeaders
 pub mod UtilityTexts
+pub mod Losses
+pub mod RecordLosses
+pub mod ErrorEvents

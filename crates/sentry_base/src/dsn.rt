@@ -19,19 +19,19 @@ use url::{ParseError, Url};
 #[derive(Clone, Copy, Debug, Error, PartialEq, Eq)]
 pub enum ParseDsnError {
     /// The text is no URL, or one without a host.
-    #[error("no valid url provided")]
+    #[error("not a URL with a host")]
     InvalidUrl,
     /// The scheme is neither `http` nor `https`.
-    #[error("no valid scheme")]
+    #[error("the scheme is neither http nor https")]
     InvalidScheme,
     /// The user name, which holds the public key, is empty.
-    #[error("username is empty")]
+    #[error("no user name")]
     NoUsername,
     /// The path names no project.
-    #[error("empty path")]
+    #[error("no project id")]
     NoProjectId,
     /// The text of a project id is empty.
-    #[error("invalid project id")]
+    #[error("an empty project id")]
     InvalidProjectId,
 }
 

@@ -3,10 +3,12 @@ ghost use Rattle.std.specs.Prelude.{◌≡◌, ◌==◌, bytes_eq, map, position
 ghost use Rattle.std.specs.List.{list_all, zip};
 ghost use Rattle.sentry_base.specs.UtilityTexts.{header_letter, is_sensitive, ends_type, type_of_debug};
 
+mod error_event;
 #[cfg(test)]
 mod tests;
 
 use crate::protocol::Refusal;
+pub use error_event::event_from_error;
 use url::{ParseError, ParseResult, Url};
 
 const PII_REPLACEMENT: &str = "[Filtered]";

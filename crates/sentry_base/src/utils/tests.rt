@@ -1,5 +1,8 @@
 //! Worked examples of the utilities.
 use super::*;
+use crate::plain::Text;
+use crate::protocol::{ErrorLink, Level, Uuid};
+use std::alloc::{AllocError, Global};
 use std::test::Fail;
 
 #[test]
@@ -80,5 +83,55 @@ fn debug_texts_begin_with_a_type(rt: HostRuntime) -> Result<(), Fail> {
     ] {
         assert_eq!(rt; parse_type_from_debug(text), name, "at {text}");
     }
+    Ok(())
+}
+
+fn link(alloc: Global, debug: &str, shown: &str, quoted: &str) -> Result<ErrorLink, AllocError> {
+    Ok(ErrorLink {
+        debug: Text::new(alloc, debug)?,
+        shown: Text::new(alloc, shown)?,
+        quoted: Text::new(alloc, quoted)?,
+    })
+}
+
+#[test]
+fn an_event_has_the_innermost_error_first(rt: HostRuntime) -> Result<(), Fail> {
+    let alloc = rt.alloc();
+    let outer = link(
+        alloc,
+        "Load { line: 3 }",
+        "line 3 is bad",
+        "\"line 3 is bad\"",
+    )?;
+    let inner = link(alloc, "ParseIntError(Empty)", "no digits", "\"no digits\"")?;
+    let event = event_from_error(alloc, &[outer, inner], Uuid::nil(), 5)?;
+    assert_eq!(rt; event.level, Level::Error);
+    assert_eq!(rt; event.timestamp, 5);
+    let exceptions = event.exception.as_slice();
+    assert_eq!(rt; exceptions.len(), 2);
+    let (first, last) = (
+        exceptions.first().ok_or("first")?,
+        exceptions.last().ok_or("last")?,
+    );
+    assert_eq!(rt; first.ty.as_str(), "ParseIntError");
+    assert_eq!(rt; last.ty.as_str(), "Load");
+    let value = last.value.as_ref().ok_or("value")?;
+    assert_eq!(rt; value.as_str(), "line 3 is bad");
+    Ok(())
+}
+
+#[test]
+fn a_bare_message_is_of_no_type(rt: HostRuntime) -> Result<(), Fail> {
+    let alloc = rt.alloc();
+    let message = "Ooops, something bad happened";
+    let quoted = "\"Ooops, something bad happened\"";
+    let event = event_from_error(
+        alloc,
+        &[link(alloc, quoted, message, quoted)?],
+        Uuid::nil(),
+        0,
+    )?;
+    let exception = event.exception.as_slice().first().ok_or("exception")?;
+    assert_eq!(rt; exception.ty.as_str(), "Error");
     Ok(())
 }

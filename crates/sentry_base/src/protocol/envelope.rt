@@ -1,0 +1,131 @@
+//! Envelopes: what is handed to a transport at once.
+ghost use Rattle.std.specs.Prelude.{◌≡◌, [], None, OnOk, OnErr};
+ghost use Rattle.sentry_base.specs.Envelopes.{item_event_id, with_item, empty_envelope};
+
+use crate::plain::{Items, Text};
+use crate::protocol::attachment::Attachment;
+use crate::protocol::client_report::ClientReport;
+use crate::protocol::event::Event;
+use crate::protocol::ids::TraceId;
+use crate::protocol::rates::SampleRate;
+use std::alloc::{AllocError, Global};
+use uuid::Uuid;
+
+/// What a transport sends at once: items, and what is said of them all.
+#[derive(Drop, PartialEq)]
+pub struct Envelope {
+    pub header: EnvelopeHeaders,
+    pub items: Items<EnvelopeItem>,
+}
+
+/// What is said of a whole envelope.
+#[derive(Drop, PartialEq)]
+pub struct EnvelopeHeaders {
+    /// The id of the first event in it.
+    pub event_id: Option<Uuid>,
+    pub trace: Option<DynamicSamplingContext>,
+}
+
+/// What a server needs to sample whole traces.
+#[derive(Drop, PartialEq)]
+pub struct DynamicSamplingContext {
+    pub trace_id: Option<TraceId>,
+    pub sample_rate: Option<SampleRate>,
+    pub sampled: Option<bool>,
+    pub public_key: Option<Text>,
+}
+
+/// One thing in an envelope.
+#[derive(Drop, PartialEq)]
+pub enum EnvelopeItem {
+    Event(Event),
+    Attachment(Attachment),
+    ClientReport(ClientReport),
+}
+
+impl EnvelopeItem {
+    /// The id that the item gives its envelope.
+    pub fn event_id(&self) -> Option<Uuid>
+        ensures { result ≡ item_event_id self.now }
+    {
+        match self {
+            EnvelopeItem::Event(event) => Some(event.event_id),
+            EnvelopeItem::Attachment(_) | EnvelopeItem::ClientReport(_) => None,
+        }
+    }
+}
+
+impl Envelope {
+    /// The empty envelope, which takes no memory.
+    pub fn new(alloc: Global) -> Envelope
+        ensures { result ≡ empty_envelope }
+    {
+        Envelope {
+            header: EnvelopeHeaders {
+                event_id: None,
+                trace: None,
+            },
+            items: Items::new(alloc),
+        }
+    }
+
+    /// Puts an item last. The envelope takes the id of its first event.
+    pub fn add_item(&mut self, item: EnvelopeItem) -> Result<(), AllocError>
+        ensures ok { OnOk result (self.new ≡ with_item self.old item) }
+        ensures err { OnErr result (self.new ≡ self.old) }
+    {
+        let id = item.event_id();
+        self.items.push(item)?;
+        self.header.event_id = self.header.event_id.or(id);
+        Ok(())
+    }
+}
+
+impl Clone for Envelope {
+    ghost is_clone = { λ old new. new ≡ old };
+
+    fn clone(&self) -> Result<Envelope, AllocError> {
+        Ok(Envelope {
+            header: self.header.clone()?,
+            items: self.items.clone()?,
+        })
+    }
+}
+
+impl Clone for EnvelopeHeaders {
+    ghost is_clone = { λ old new. new ≡ old };
+
+    fn clone(&self) -> Result<EnvelopeHeaders, AllocError> {
+        Ok(EnvelopeHeaders {
+            event_id: self.event_id,
+            trace: self.trace.clone()?,
+        })
+    }
+}
+
+impl Clone for DynamicSamplingContext {
+    ghost is_clone = { λ old new. new ≡ old };
+
+    fn clone(&self) -> Result<DynamicSamplingContext, AllocError> {
+        Ok(DynamicSamplingContext {
+            trace_id: self.trace_id,
+            sample_rate: self.sample_rate,
+            sampled: self.sampled,
+            public_key: self.public_key.clone()?,
+        })
+    }
+}
+
+impl Clone for EnvelopeItem {
+    ghost is_clone = { λ old new. new ≡ old };
+
+    fn clone(&self) -> Result<EnvelopeItem, AllocError> {
+        match self {
+            EnvelopeItem::Event(event) => Ok(EnvelopeItem::Event(event.clone()?)),
+            EnvelopeItem::Attachment(attachment) => {
+                Ok(EnvelopeItem::Attachment(attachment.clone()?))
+            }
+            EnvelopeItem::ClientReport(report) => Ok(EnvelopeItem::ClientReport(report.clone()?)),
+        }
+    }
+}

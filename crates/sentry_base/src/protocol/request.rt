@@ -1,0 +1,35 @@
+//! HTTP requests.
+ghost use Rattle.std.specs.Prelude.{◌≡◌};
+
+use crate::plain::{Text, TextMap};
+use std::alloc::AllocError;
+
+/// The HTTP request that was being served.
+#[derive(Drop, PartialEq)]
+pub struct Request {
+    pub method: Option<Text>,
+    pub url: Option<Text>,
+    /// The body.
+    pub data_: Option<Text>,
+    pub query_string: Option<Text>,
+    pub cookies: Option<Text>,
+    pub headers: TextMap<Text>,
+    /// Variables of the server's environment.
+    pub env: TextMap<Text>,
+}
+
+impl Clone for Request {
+    ghost is_clone = { λ old new. new ≡ old };
+
+    fn clone(&self) -> Result<Request, AllocError> {
+        Ok(Request {
+            method: self.method.clone()?,
+            url: self.url.clone()?,
+            data_: self.data_.clone()?,
+            query_string: self.query_string.clone()?,
+            cookies: self.cookies.clone()?,
+            headers: self.headers.clone()?,
+            env: self.env.clone()?,
+        })
+    }
+}

@@ -1,0 +1,30 @@
+//! Users.
+ghost use Rattle.std.specs.Prelude.{◌≡◌};
+
+use crate::plain::{Text, ValueMap};
+use std::alloc::AllocError;
+
+/// Who used the program.
+#[derive(Drop, PartialEq)]
+pub struct User {
+    pub id: Option<Text>,
+    pub email: Option<Text>,
+    pub username: Option<Text>,
+    /// An address as text; `{{auto}}` stands for the one that the server sees.
+    pub ip_address: Option<Text>,
+    pub data_: ValueMap,
+}
+
+impl Clone for User {
+    ghost is_clone = { λ old new. new ≡ old };
+
+    fn clone(&self) -> Result<User, AllocError> {
+        Ok(User {
+            id: self.id.clone()?,
+            email: self.email.clone()?,
+            username: self.username.clone()?,
+            ip_address: self.ip_address.clone()?,
+            data_: self.data_.clone()?,
+        })
+    }
+}
