@@ -1,11 +1,9 @@
-use Rattle.std.proofs.Common.{◌≡◌, refl, sym, ap, subst, ◌∙◌, ◌++◌, ◌∷◌, lit<}
+use Rattle.std.proofs.Common.{refl, sym, ap, subst, ◌∙◌, ◌++◌, ◌∷◌, lit<}
 use Rattle.std.specs.Prelude.{Some, None}
 use Rattle.std.proofs.lemmas.Str.Pattern.{split_parts}
-use Rattle.sentry_base.specs.TraceTexts.{dash, HasParts, with_span, sampling_of}
-use Rattle.sentry_base.specs.Readings.{IsReading}
-use Rattle.sentry_base.specs.Ids.{span_id_of}
+use Rattle.sentry_base.specs.TraceTexts.{dash}
 use Rattle.sentry_base.proofs.TraceTextLemmas.{NoDash, nothing_uncut, reads_no_trace, reads_two, reads_three}
-use Rattle.sentry_base.proofs.headers.SentryTrace.parse.Goals as goal
+use Rattle.sentry_base.proofs.headers.trace_text.SentryTrace.parse.Goals as goal
 
 pub returns-in_err-first : goal.returns-in_err-first
 returns-in_err-first c =
