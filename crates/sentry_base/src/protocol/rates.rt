@@ -1,5 +1,5 @@
 //! Rates and draws, in millionths.
-ghost use Rattle.std.specs.Prelude.{◌≡◌, ◌<◌, ◌≤◌, IfOk, IfErr, IfSome, IsOk, IsSome, ◌↔◌};
+ghost use Rattle.std.specs.Prelude.{◌≡◌, ◌<◌, ◌≤◌, IfOk, IfErr, IfSome, IsOk, IsSome, ◌↔◌, nat_lt};
 
 use crate::protocol::refusal::Refusal;
 use std::marker::Model;
@@ -44,6 +44,13 @@ impl SampleRate {
         ensures bound { result ≤ 1000000 }
     {
         self.millionths
+    }
+
+    /// Whether what has this draw is kept. It takes no memory.
+    pub fn keeps(&self, draw: Draw) -> bool
+        ensures { result ≡ nat_lt draw self.now }
+    {
+        draw.millionths < self.millionths
     }
 }
 
