@@ -1,7 +1,6 @@
 //! The values that records are made of, each of which contracts see as plain data: a text as its bytes, a list as a
 //! list, a map as its entries in order, and a share as what it shares.
 
-mod cow_text;
 mod items;
 mod plain_eq;
 mod shared;
@@ -10,7 +9,6 @@ mod text;
 mod text_map;
 mod value;
 
-pub use cow_text::CowText;
 pub use items::Items;
 pub use plain_eq::{PlainEq, is_same};
 pub use shared::Shared;

@@ -6,7 +6,6 @@ ghost use Rattle.sentry_base.specs.Values.{same_data};
 ghost use Rattle.sentry_base.specs.Equality.{IsExact, exact_bytes, exact_option, exact_entries, exact_rows};
 ghost use Rattle.sentry_base.specs.ValueEquality.{exact_value, exact_data};
 
-use crate::plain::cow_text::CowText;
 use crate::plain::items::Items;
 use crate::plain::shared::Shared;
 use crate::plain::table::Table;
@@ -58,10 +57,6 @@ impl PlainEq for i128 {
 }
 
 impl PlainEq for Text {
-    ghost exact = { exact_bytes };
-}
-
-impl PlainEq for CowText {
     ghost exact = { exact_bytes };
 }
 

@@ -38,6 +38,15 @@ impl SampleRate {
         Ok(SampleRate { millionths })
     }
 
+    /// The rate at which all are kept.
+    pub fn all() -> SampleRate
+        ensures { result ≡ 1000000 }
+    {
+        SampleRate {
+            millionths: SampleRate::ALL,
+        }
+    }
+
     /// The rate in millionths.
     pub fn millionths(&self) -> u32
         ensures value { result ≡ self.now }
