@@ -290,7 +290,7 @@ fn what_is_read_as_no_dsn_takes_it_away(rt: HostRuntime) -> Result<(), Fail> {
     Ok(())
 }
 
-fn silences(alloc: Global) -> Result<BoxedIntegration, AllocError> {
+fn boxed_silences(alloc: Global) -> Result<BoxedIntegration, AllocError> {
     Ok(Box::new(alloc, Silences)?)
 }
 
@@ -333,7 +333,7 @@ fn a_dsn_of_set_up_opens_no_slot(rt: HostRuntime) -> Result<(), Fail> {
 #[test]
 fn a_dsn_that_set_up_takes_leaves_the_slot_occupied(rt: HostRuntime) -> Result<(), Fail> {
     let alloc = rt.alloc();
-    let silences = silences(alloc)?;
+    let silences = boxed_silences(alloc)?;
     let options = options(alloc)?.integrations(vec![in alloc; silences]?)?;
     let mut engine = Engine::new(alloc, 0);
     let client = engine.add_client(options, true, LABEL, 0)?.reply;
@@ -350,9 +350,9 @@ fn a_clients_options_are_read_as_its_own(rt: HostRuntime) -> Result<(), Fail> {
     let alloc = rt.alloc();
     let options = options(alloc)?
         .release("app@1")?
-        .add_integration(silences(alloc)?)?
+        .add_integration(boxed_silences(alloc)?)?
         .integrations(Vec::new(alloc))?
-        .add_integration(silences(alloc)?)?;
+        .add_integration(boxed_silences(alloc)?)?;
     let mut engine = Engine::new(alloc, 0);
     let client = engine.add_client(options, true, LABEL, 0)?.reply;
     let held = engine.options(client)?.reply;
