@@ -1,6 +1,8 @@
 -- What a map from texts has at each key once an entry, or another map, was put in.
-use Rattle.std.proofs.Common.{Bool, true, false, cond, is_eq, Option, Some, None, ◌≡◌, List, [], ◌∷◌, refl, sym, ap, ◌∙◌, String, Ordering, Less, Equal, Greater, string_bytes, string_cmp}
+use Rattle.std.proofs.Common.{◌≢◌, Bool, true, false, cond, is_eq, Option, Some, None, ◌≡◌, List, [], ◌∷◌, refl, sym, ap, ◌∙◌, String, Ordering, Less, Equal, Greater, string_bytes, string_cmp}
+use Rattle.std.proofs.lemmas.Cmp.{nat_list_cmp_total}
 use Rattle.std.proofs.lemmas.Map.Lookups.{exact_bytes}
+use Rattle.std.specs.Cmp.{tied_itself}
 use Rattle.std.specs.Option.{option_or}
 use Rattle.std.specs.Ordering.{match_ordering}
 use Rattle.std.specs.List.{AllByRecursion}
@@ -21,6 +23,10 @@ cond-swap : {A : Type 0} (b c : Bool) (x y z : A) → (b ≡ true → c ≡ true
 cond-swap true true x y z h = h refl refl
 cond-swap true false x y z h = refl
 cond-swap false c x y z h = refl
+
+cond-not : {A : Type 0} (b : Bool) (x y : A) → (b ≡ true → ⊥) → cond b x y ≡ y
+cond-not true x y h = absurd (h refl)
+cond-not false x y h = refl
 
 cond-twice : {A : Type 0} (b : Bool) (x y z : A) → cond b x z ≡ cond b x (cond b y z)
 cond-twice true x y z = refl
@@ -46,6 +52,12 @@ module _ {X : Type 0} where
   pub value_at-put : (m : List (Bytes × X)) (k : Bytes) (v : X) (j : Bytes) → value_at (put m k v) j ≡ cond (is_at (text_cmp j) k) (Some v) (value_at m j)
   value_at-put [] k v j = refl
   value_at-put (e ∷ es) k v j = put_here k v j e es (text_cmp k e.0) refl (value_at-put es k v j)
+
+  pub value_at-put-here : (m : List (Bytes × X)) (k : Bytes) (v : X) → value_at (put m k v) k ≡ Some v
+  value_at-put-here m k v = value_at-put m k v k ∙ ap (λ o. cond (is_eq o) (Some v) (value_at m k)) (tied_itself nat_list_cmp_total k)
+
+  pub value_at-put-elsewhere : (m : List (Bytes × X)) (k : Bytes) (v : X) (j : Bytes) → j ≢ k → value_at (put m k v) j ≡ value_at m j
+  value_at-put-elsewhere m k v j n = value_at-put m k v j ∙ cond-not (is_at (text_cmp j) k) (Some v) (value_at m j) (λ h. n (same_key j k h))
 
 merge_here : {Y : Type 0} (b : Bool) (v : Y) (o p : Option Y) → (b ≡ true → o ≡ None) → option_or o (cond b (Some v) p) ≡ option_or (cond b (Some v) o) p
 merge_here true v o p h = ap (λ q. option_or q (Some v)) (h refl)

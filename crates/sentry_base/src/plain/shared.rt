@@ -8,7 +8,7 @@ use std::ops::Deref;
 use std::sync::Arc;
 
 /// A value that its clones share, by an `Arc`. Contracts see the value, so a clone is equal to its original.
-#[derive(Drop)]
+#[derive(Debug, Drop)]
 pub struct Shared<T> {
     share: Arc<T>,
 }

@@ -14,7 +14,7 @@ use std::collections::btree_map::Iter;
 use std::marker::Model;
 
 /// A map from numbers, over a `BTreeMap`. Contracts see the list of its entries in the order of the numbers.
-#[derive(Drop)]
+#[derive(Debug, Drop)]
 pub struct Table<T> {
     entries: BTreeMap<u64, T>,
 }

@@ -1,5 +1,5 @@
 //! Maps by text.
-ghost use Rattle.std.specs.Prelude.{◌≡◌, ◌==◌, ◌↔◌, IsTrue, ℕ, List, [], IfOk, OnOk, OnErr, length, option_copied, String};
+ghost use Rattle.std.specs.Prelude.{◌≡◌, ◌≢◌, ◌==◌, Some, ◌↔◌, IsTrue, ℕ, List, [], IfOk, OnOk, OnErr, length, option_copied, String};
 ghost use Rattle.std.specs.Global.{Global};
 ghost use Rattle.std.specs.Map.Iter.{ShowsInOrder, deref_pair};
 ghost use Rattle.std.specs.Option.{option_or};
@@ -14,7 +14,7 @@ use std::collections::btree_map::Iter;
 use std::marker::Model;
 
 /// A map from texts, over a `BTreeMap`. Contracts see the list of its entries in the order of the keys' bytes.
-#[derive(Drop)]
+#[derive(Debug, Drop)]
 pub struct TextMap<V> {
     entries: BTreeMap<String, V>,
 }
@@ -80,6 +80,8 @@ impl<V: Drop> TextMap<V> {
     /// Puts a value at a key, in place of one that is there.
     pub fn insert(&mut self, key: Text, value: V) -> Result<(), AllocError>
         ensures ok { OnOk result (self.new ≡ put self.old key value) }
+        ensures here { OnOk result (value_at self.new key ≡ Some value) }
+        ensures elsewhere { OnOk result ((other : Bytes) → other ≢ key → value_at self.new other ≡ value_at self.old other) }
         ensures err { OnErr result (self.new ≡ self.old) }
     {
         self.entries.insert(key.into_string(), value)?;

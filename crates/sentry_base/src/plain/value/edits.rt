@@ -1,5 +1,5 @@
 //! Making and reading lists and maps of values.
-ghost use Rattle.std.specs.Prelude.{◌≡◌, ◌==◌, ◌∷◌, [], ◌++◌, IfOk, OnOk, OnErr, length, map, option_map, String};
+ghost use Rattle.std.specs.Prelude.{◌≡◌, ◌≢◌, ◌==◌, Some, ◌∷◌, [], ◌++◌, IfOk, OnOk, OnErr, length, map, option_map, String};
 ghost use Rattle.std.specs.Global.{Global};
 ghost use Rattle.std.specs.Map.Iter.{ShowsInOrder, deref_pair};
 ghost use Rattle.std.specs.Option.{option_or};
@@ -82,6 +82,8 @@ impl ValueMap {
     /// Puts a value at a key, in place of one that is there.
     pub fn insert(&mut self, key: Text, value: Value) -> Result<(), AllocError>
         ensures ok { OnOk result (self.new ≡ put self.old key (data_of value)) }
+        ensures here { OnOk result (value_at self.new key ≡ Some (data_of value)) }
+        ensures elsewhere { OnOk result ((other : Bytes) → other ≢ key → value_at self.new other ≡ value_at self.old other) }
         ensures err { OnErr result (self.new ≡ self.old) }
     {
         drop(self.entries.insert(key.into_string(), value)?);

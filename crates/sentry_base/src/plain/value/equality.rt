@@ -78,25 +78,25 @@ fn same(a: &Value, b: &Value) -> bool
 fn same_values(a: &Values, b: &Values) -> bool
     ensures { IsTrue result ↔ (a.now ≡ b.now) }
 {
-    let mut others = b.items.iter();
+    let mut other_items = b.items.iter();
     for item in &a.items {
-        let Some(other) = others.next() else {
+        let Some(other) = other_items.next() else {
             return false;
         };
         if !same(item, other) {
             return false;
         }
     }
-    others.next().is_none()
+    other_items.next().is_none()
 }
 
 #[cycle(same)]
 fn same_maps(a: &ValueMap, b: &ValueMap) -> bool
     ensures { IsTrue result ↔ (a.now ≡ b.now) }
 {
-    let mut others = b.entries.iter();
+    let mut other_entries = b.entries.iter();
     for (key, value) in a.entries.iter() {
-        let Some((other_key, other)) = others.next() else {
+        let Some((other_key, other)) = other_entries.next() else {
             return false;
         };
         if key != other_key {
@@ -106,5 +106,5 @@ fn same_maps(a: &ValueMap, b: &ValueMap) -> bool
             return false;
         }
     }
-    others.next().is_none()
+    other_entries.next().is_none()
 }

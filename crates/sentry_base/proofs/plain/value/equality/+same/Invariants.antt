@@ -6,7 +6,7 @@ use Rattle.sentry_base.proofs.plain.value.equality.+same.Given as goal
 
 -- what is left decides
 abbrev pub invariant-same_values-loop-item : goal.invariant-same_values-loop-item
-invariant-same_values-loop-item l = (l.fn.a ≡ l.fn.b) ↔ (map data_of (drop l.item-index l.item-items) ≡ map data_of (iter_rest l.others))
+invariant-same_values-loop-item l = (l.fn.a ≡ l.fn.b) ↔ (map data_of (drop l.item-index l.item-items) ≡ map data_of (iter_rest l.other_items))
 
 abbrev pub invariant-same_maps-loop-key : goal.invariant-same_maps-loop-key
-invariant-same_maps-loop-key l = (l.fn.a ≡ l.fn.b) ↔ (by_bytes data_of l.key-iterator ≡ by_bytes data_of l.others)
+invariant-same_maps-loop-key l = (l.fn.a ≡ l.fn.b) ↔ (by_bytes data_of l.key-iterator ≡ by_bytes data_of l.other_entries)
