@@ -1,12 +1,12 @@
 //! Options, and what an engine makes of them.
 use crate::support::{DSN, LABEL, fresh, options, scope};
-use sentry_base::dsn::{Dsn, ParseDsnError};
-use sentry_base::plain::{Items, Text};
+use sentry_base::plain::Text;
 use sentry_core::engine::{Call, Engine, Reply};
 use sentry_core::protocol::{ClientKey, Draw, Event, OrganizationId, Refusal, SampleRate};
-use sentry_core::{BoxedEventCallback, BoxedIntegration, ClientOptions, Integration, Level};
-use sentry_state::clientoptions::{
-    EventSamplingStrategy, MaxRequestBodySize, PlainOptions, SessionMode, TracesSamplingStrategy,
+use sentry_core::types::{Dsn, ParseDsnError};
+use sentry_core::{
+    BoxedIntegration, ClientOptions, EventSamplingStrategy, Integration, Level, MaxRequestBodySize,
+    PlainOptions, SessionMode, TracesSamplingStrategy,
 };
 use std::alloc::{AllocError, Global};
 use std::num::NonZeroUsize;
