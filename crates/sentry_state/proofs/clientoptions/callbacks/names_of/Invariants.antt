@@ -1,5 +1,5 @@
 use Rattle.std.proofs.Common.{◌≡◌, map, take}
-use Rattle.sentry_state.proofs.clientoptions.names_of.Given as goal
+use Rattle.sentry_state.proofs.clientoptions.callbacks.names_of.Given as goal
 
 -- the names so far
 abbrev pub invariant-loop-integration : goal.invariant-loop-integration

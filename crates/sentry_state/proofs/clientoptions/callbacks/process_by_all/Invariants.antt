@@ -1,6 +1,6 @@
 use Rattle.std.proofs.Common.{◌≡◌, map, drop}
 use Rattle.sentry_state.specs.Callbacks.{integrated_by}
-use Rattle.sentry_state.proofs.clientoptions.process_by_all.Given as goal
+use Rattle.sentry_state.proofs.clientoptions.callbacks.process_by_all.Given as goal
 
 -- the integrations that are left lead to the whole
 abbrev pub invariant-loop-integration : goal.invariant-loop-integration
