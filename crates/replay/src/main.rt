@@ -2,6 +2,7 @@
 #![tactic(auto)]
 
 mod command;
+mod lines;
 mod word;
 
 fn main(_rt: HostRuntime) {}

@@ -12,5 +12,5 @@ pub use items::Items;
 pub use shared::Shared;
 pub use table::Table;
 pub use text::Text;
-pub use text_map::TextMap;
+pub use text_map::{Entries, TextMap};
 pub use value::{Value, ValueMap, Values};

@@ -1,10 +1,12 @@
 //! Maps by text.
 ghost use Rattle.std.specs.Prelude.{◌≡◌, ℕ, List, [], IfOk, OnOk, OnErr, option_copied};
 ghost use Rattle.sentry_base.specs.Texts.{Bytes, put, without, value_at, by_bytes, merged};
+ghost use Rattle.std.specs.Iterator.{YieldsFirstBy, item_count};
+ghost use Rattle.sentry_base.specs.Entries.{entries_left};
 
 use crate::plain::text::Text;
 use std::alloc::{AllocError, Global};
-use std::collections::BTreeMap;
+use std::collections::{BTreeMap, btree_map};
 use std::marker::Model;
 
 /// A map from texts, over a `BTreeMap`. Contracts see the list of its entries in the order of the keys' bytes.
@@ -79,5 +81,35 @@ impl<V: Clone + Drop> TextMap<V> {
             made.insert(Text::from_string(key.clone()?), value.clone()?)?;
         }
         Ok(made)
+    }
+}
+
+/// The entries of a map, in the order of the keys' bytes.
+#[derive(Drop)]
+pub struct Entries<'a, V> {
+    left: btree_map::Iter<'a, String, V>,
+}
+
+impl<V> TextMap<V> {
+    /// Goes over the entries, in the order of the keys' bytes.
+    pub fn entries(&self) -> Entries<'_, V>
+        ensures { entries_left result ≡ self.now }
+    {
+        Entries {
+            left: self.entries.iter(),
+        }
+    }
+}
+
+impl<'a, V> Iterator for Entries<'a, V> {
+    type Item = (&'a str, &'a V);
+
+    ghost next_gives = { YieldsFirstBy (λ x. (x.0.now, x.1.now)) entries_left };
+
+    ghost remaining = { item_count entries_left };
+
+    fn next(&mut self) -> Option<(&'a str, &'a V)> {
+        let (key, value) = self.left.next()?;
+        Some((key.as_str(), value))
     }
 }
