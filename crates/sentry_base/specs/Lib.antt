@@ -1,5 +1,6 @@
 pub mod Entries
 pub mod Envelopes
+pub mod Defaults
 pub mod Events
 pub mod Lending
 pub mod Refusals

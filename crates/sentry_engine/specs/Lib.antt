@@ -1,0 +1,5 @@
+pub mod Worlds
+pub mod Outcomes
+pub mod Clients
+pub mod Hubs
+pub mod Runs

@@ -1,0 +1,123 @@
+//! What an engine holds, and how its calls find and change it.
+ghost use Rattle.std.specs.Prelude.{◌≡◌, [], Some, option_copied};
+ghost use Rattle.sentry_base.specs.Tables.{found};
+ghost use Rattle.sentry_engine.specs.Worlds.{World, Stands, first_world, starting_world};
+ghost use Rattle.sentry_engine.specs.Outcomes.{hub_at, plain_client_at, is_held_or_none};
+
+mod clients;
+mod hubs;
+
+use sentry_base::plain::{Items, Shared, Table};
+use sentry_base::protocol::{ClientKey, Envelope, HubKey, Label, Uuid};
+use sentry_state::callbacks::EventCallback;
+use sentry_state::clientoptions::{Callbacks, ClientOptions};
+use sentry_state::scope::{Scope, Stack};
+use std::alloc::{AllocError, Global};
+
+/// The answer of a call, and the envelopes that it hands out, each with the client whose transport is to send it.
+#[derive(Drop)]
+pub struct Out<T> {
+    pub reply: T,
+    pub sent: Items<(ClientKey, Envelope)>,
+}
+
+/// What an engine keeps of a client.
+#[derive(Drop)]
+pub struct Client<C> {
+    pub options: Shared<ClientOptions<C>>,
+    /// Names the table of losses that it records into.
+    pub label: Label,
+    /// Whether it has a transport, by which envelopes leave.
+    pub occupied: bool,
+}
+
+/// What an engine keeps of a hub.
+#[derive(Drop)]
+pub struct Hub<P> {
+    pub stack: Stack<P>,
+    pub last_event_id: Option<Uuid>,
+}
+
+/// The next number of each kind of key.
+#[derive(Clone, Copy, Debug, PartialEq, Eq)]
+pub struct NextNumbers {
+    pub client: u64,
+    pub hub: u64,
+}
+
+/// Holds clients and hubs by key, and does every call on them. `P` is the type of a scope's processors, `C` that of a
+/// client's callbacks. A call that is refused changed nothing.
+#[derive(Drop)]
+pub struct Engine<P, C> {
+    pub tag: u64,
+    pub next: NextNumbers,
+    pub clients: Table<Client<C>>,
+    pub hubs: Table<Hub<P>>,
+    alloc: Global,
+}
+
+impl<P: EventCallback + Drop, C: Callbacks> Engine<P, C> {
+    /// An engine that holds nothing. Its keys carry the tag, by which those of another engine are refused. It takes no
+    /// memory.
+    pub fn new(alloc: Global, tag: u64) -> Engine<P, C>
+        ensures { Stands result (first_world tag) }
+    {
+        Engine::starting_at(alloc, tag, 0)
+    }
+
+    /// The same, with key numbers that count up from `first`. The number 2^64-1 is never given.
+    pub fn starting_at(alloc: Global, tag: u64, first: u64) -> Engine<P, C>
+        ensures { Stands result (starting_world tag first) }
+    {
+        Engine {
+            tag,
+            next: NextNumbers {
+                client: first,
+                hub: first,
+            },
+            clients: Table::new(alloc),
+            hubs: Table::new(alloc),
+            alloc,
+        }
+    }
+
+    fn hub_at(&self, key: HubKey) -> Option<&Hub<P>>
+        ensures in_world { (world : World P C) → Stands self.now world → option_copied result ≡ hub_at world key }
+        ensures in_table { (hub : Hub P) → option_copied result ≡ Some hub → found self.now.hubs key.number ≡ Some hub }
+    {
+        if key.tag != self.tag {
+            return None;
+        }
+        self.hubs.get(key.number)
+    }
+
+    #[tactic(auto, using(crate::proofs::Keeping::found_in_world))]
+    fn client_at(&self, key: ClientKey) -> Option<&Client<C>>
+        ensures { (world : World P C) → Stands self.now world → option_copied result ≡ plain_client_at world key }
+    {
+        if key.tag != self.tag {
+            return None;
+        }
+        self.clients.get(key.number)
+    }
+
+    // No client is named, or one that is held.
+    fn holds(&self, client: Option<ClientKey>) -> bool
+        ensures { (world : World P C) → Stands self.now world → result ≡ is_held_or_none world client }
+    {
+        match client {
+            None => true,
+            Some(key) => self.client_at(key).is_some(),
+        }
+    }
+
+    // The answer of a call that hands nothing out.
+    fn out<T>(&self, reply: T) -> Out<T>
+        ensures { result ≡ record { reply = reply; sent = [] } }
+    {
+        Out {
+            reply,
+            sent: Items::new(self.alloc),
+        }
+    }
+}

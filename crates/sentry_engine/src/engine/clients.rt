@@ -1,0 +1,62 @@
+//! The calls on clients.
+ghost use Rattle.std.specs.Prelude.{◌≡◌, OnOk, OnErr};
+ghost use Rattle.sentry_base.specs.Tables.{stored};
+ghost use Rattle.sentry_engine.specs.Worlds.{World, ClientState, Stands, kept};
+ghost use Rattle.sentry_engine.specs.Outcomes.{Does};
+ghost use Rattle.sentry_engine.specs.Clients as call;
+
+use crate::engine::{Client, Engine, Out};
+use sentry_base::plain::Shared;
+use sentry_base::protocol::{ClientKey, Label, Refusal};
+use sentry_state::callbacks::EventCallback;
+use sentry_state::clientoptions::{Callbacks, ClientOptions};
+use std::alloc::AllocError;
+
+impl<P: EventCallback + Drop, C: Callbacks> Engine<P, C> {
+    // Holds a client under a number.
+    #[tactic(auto, using(crate::proofs::Keeping::stored_in_world))]
+    fn insert_client(&mut self, number: u64, client: Client<C>) -> Result<(), AllocError>
+        ensures in_world { OnOk result ((world : World P C) (state : ClientState C) → Stands self.old world → client ≡ kept state →
+            Stands self.new (record world { clients = stored world.clients number state })) }
+        ensures rest { OnOk result ((self.new.tag ≡ self.old.tag) × (self.new.next ≡ self.old.next)) }
+        ensures err { OnErr result (self.new ≡ self.old) }
+    {
+        self.clients.insert(number, client)
+    }
+
+    /// Adds a client with these options, after the `setup` of its integrations, and answers its key. Its losses go to
+    /// the table that the label names; `transport` says whether there is one to send its envelopes; `_now` is the
+    /// moment in nanoseconds since the epoch, from which its queues are to wait.
+    ///
+    /// `ForeignLosses`: the label has another tag than the engine. `Full`: the numbers are used up. `OutOfMemory`.
+    pub fn add_client(
+        &mut self,
+        options: ClientOptions<C>,
+        transport: bool,
+        label: Label,
+        _now: u64,
+    ) -> Result<Out<ClientKey>, Refusal>
+        ensures { Does self.old self.new result (call.add_client C.meanings options transport label) }
+    {
+        if label.tag != self.tag {
+            return Err(Refusal::ForeignLosses);
+        }
+        if self.next.client == u64::MAX {
+            return Err(Refusal::Full);
+        }
+        let number = self.next.client;
+        let mut options = options;
+        options.callbacks.set_up(&mut options.plain)?;
+        let client = Client {
+            options: Shared::new(self.alloc, options)?,
+            label,
+            occupied: transport,
+        };
+        self.insert_client(number, client)?;
+        self.next.client = number + 1;
+        Ok(self.out(ClientKey {
+            tag: self.tag,
+            number,
+        }))
+    }
+}

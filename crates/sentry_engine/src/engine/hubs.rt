@@ -1,0 +1,218 @@
+//! The calls on hubs.
+ghost use Rattle.std.specs.Prelude.{◌≡◌, ◌≢◌, IfOk, Some};
+ghost use Rattle.sentry_base.specs.Tables.{found, changed};
+ghost use Rattle.sentry_engine.specs.declared.engine.Hub.{Hub};
+ghost use Rattle.sentry_engine.specs.Worlds.{World, Stands};
+ghost use Rattle.sentry_engine.specs.Outcomes.{Does, with_scope};
+ghost use Rattle.sentry_engine.specs.Hubs.{captured, captured_id, captured_envelopes, message_event};
+ghost use Rattle.sentry_engine.specs.Hubs as call;
+
+use crate::engine::{Client, Engine, Hub, Out};
+use sentry_base::plain::{Items, Text};
+use sentry_base::protocol::{
+    ClientKey, Envelope, EnvelopeItem, Event, Fresh, HubKey, Level, Refusal, Uuid,
+};
+use sentry_parts::pipeline::{Prepared, prepare_event};
+use sentry_state::callbacks::EventCallback;
+use sentry_state::clientoptions::Callbacks;
+use sentry_state::scope::{Scope, ScopeEdit, Stack};
+use std::alloc::{AllocError, Global};
+
+// The event that a client sends, if any.
+#[tactic(auto, unfolding(crate::specs::Hubs::captured))]
+fn captured<P: EventCallback + Drop, C: Callbacks>(
+    alloc: Global,
+    client: &Client<C>,
+    scope: &Scope<P>,
+    fresh: Uuid,
+    event: Event,
+) -> Result<Option<Event>, AllocError>
+    ensures { IfOk result (λ made. made ≡ captured P.gives C.meanings client.now scope.now fresh event) }
+{
+    if !client.occupied {
+        return Ok(None);
+    }
+    match prepare_event(alloc, client.options.get(), scope, fresh, event)? {
+        Prepared::Kept(made) => Ok(Some(made)),
+        Prepared::Dropped(_) => Ok(None),
+    }
+}
+
+// The id that a capture answers.
+fn captured_id(made: &Option<Event>) -> Uuid
+    ensures { result ≡ captured_id made.now }
+{
+    match made {
+        None => Uuid::nil(),
+        Some(event) => event.event_id,
+    }
+}
+
+// The envelopes of a capture.
+fn captured_envelopes(
+    alloc: Global,
+    key: ClientKey,
+    made: Option<Event>,
+) -> Result<Items<(ClientKey, Envelope)>, AllocError>
+    ensures { IfOk result (λ sent. sent ≡ captured_envelopes key made) }
+{
+    let mut sent = Items::new(alloc);
+    let Some(event) = made else {
+        return Ok(sent);
+    };
+    let mut envelope = Envelope::new(alloc);
+    envelope.add_item(EnvelopeItem::Event(event))?;
+    sent.push((key, envelope))?;
+    Ok(sent)
+}
+
+// The event of a message.
+fn message_event(
+    alloc: Global,
+    message: &str,
+    level: Level,
+    id: Uuid,
+    now: u64,
+) -> Result<Event, AllocError>
+    ensures { IfOk result (λ event. event ≡ message_event message.now level id now) }
+{
+    let mut event = Event::new(alloc, id, now)?;
+    event.message = Some(Text::new(alloc, message)?);
+    event.level = level;
+    Ok(event)
+}
+
+impl<P: EventCallback + Drop, C: Callbacks> Engine<P, C> {
+    // Writes the top scope of a hub that is held.
+    fn set_scope(&mut self, number: u64, scope: Scope<P>)
+        ensures in_world { (world : World P C) (hub : Hub P) → Stands self.old world → found self.old.hubs number ≡ Some hub →
+            Stands self.new (record world { hubs = changed world.hubs number (with_scope hub scope) }) }
+    {
+        let Some(hub) = self.hubs.get_mut(number) else {
+            return;
+        };
+        hub.stack.top.scope = scope;
+    }
+
+    // Notes the last event of a hub that is held.
+    fn set_last_event_id(&mut self, number: u64, id: Uuid)
+        ensures in_world { (world : World P C) (hub : Hub P) → Stands self.old world → found self.old.hubs number ≡ Some hub →
+            Stands self.new (record world { hubs = changed world.hubs number (record hub { last_event_id = Some id }) }) }
+    {
+        let Some(hub) = self.hubs.get_mut(number) else {
+            return;
+        };
+        hub.last_event_id = Some(id);
+    }
+
+    /// Adds a hub with one layer, of a client or none and a scope, and answers its key.
+    ///
+    /// `Stale`: the client isn't held. `Full`: the numbers are used up. `OutOfMemory`.
+    pub fn new_hub(
+        &mut self,
+        client: Option<ClientKey>,
+        scope: Scope<P>,
+    ) -> Result<Out<HubKey>, Refusal>
+        ensures { Does self.old self.new result (call.new_hub client scope) }
+    {
+        if !self.holds(client) {
+            return Err(Refusal::Stale);
+        }
+        if self.next.hub == u64::MAX {
+            return Err(Refusal::Full);
+        }
+        let number = self.next.hub;
+        let hub = Hub {
+            stack: Stack::from_client_and_scope(self.alloc, client, scope),
+            last_event_id: None,
+        };
+        self.hubs.insert(number, hub)?;
+        self.next.hub = number + 1;
+        Ok(self.out(HubKey {
+            tag: self.tag,
+            number,
+        }))
+    }
+
+    /// Does the edits, in order, to the top scope of a hub. `_now` is the moment in nanoseconds since the epoch, at
+    /// which what they end ends.
+    ///
+    /// `Stale`: the hub isn't held. `OutOfMemory`: none of the edits is done.
+    pub fn configure(
+        &mut self,
+        hub: HubKey,
+        edits: Vec<ScopeEdit<P>>,
+        _now: u64,
+    ) -> Result<Out<()>, Refusal>
+        ensures { Does self.old self.new result (call.configure hub edits.items) }
+    {
+        let Some(held) = self.hub_at(hub) else {
+            return Err(Refusal::Stale);
+        };
+        let mut scope = held.stack.top.scope.clone()?;
+        scope.edit_all(edits)?;
+        self.set_scope(hub.number, scope);
+        Ok(self.out(()))
+    }
+
+    /// The id that the last capture on a hub answered, if its top layer had a client at one.
+    ///
+    /// `Stale`: the hub isn't held.
+    pub fn last_event_id(&self, hub: HubKey) -> Result<Out<Option<Uuid>>, Refusal>
+        ensures does { Does self.now self.now result (call.last_event_id hub) }
+        ensures takes_no_memory { result ≢ Err Refusal.OutOfMemory }
+    {
+        let Some(held) = self.hub_at(hub) else {
+            return Err(Refusal::Stale);
+        };
+        Ok(self.out(held.last_event_id))
+    }
+
+    /// Captures an event on a hub: it goes through the pipeline of the top layer's client, under that layer's scope,
+    /// and out in an envelope. Its id is answered; the nil id where it was dropped, or there is no client, or no
+    /// transport.
+    ///
+    /// `Stale`: the hub isn't held. `OutOfMemory`.
+    pub fn capture_event(
+        &mut self,
+        hub: HubKey,
+        event: Event,
+        fresh: Fresh,
+    ) -> Result<Out<Uuid>, Refusal>
+        ensures { Does self.old self.new result (call.capture_event P.gives C.meanings hub event fresh) }
+    {
+        let Some(held) = self.hub_at(hub) else {
+            return Err(Refusal::Stale);
+        };
+        let Some(key) = held.stack.top.client else {
+            return Ok(self.out(Uuid::nil()));
+        };
+        let Some(client) = self.client_at(key) else {
+            return Ok(self.out(Uuid::nil()));
+        };
+        let made = captured(self.alloc, client, &held.stack.top.scope, fresh.uuid, event)?;
+        let reply = captured_id(&made);
+        let sent = captured_envelopes(self.alloc, key, made)?;
+        self.set_last_event_id(hub.number, reply);
+        Ok(Out { reply, sent })
+    }
+
+    /// Captures an event of a message and a level on a hub, as `capture_event` does.
+    ///
+    /// `Stale`: the hub isn't held. `OutOfMemory`.
+    pub fn capture_message(
+        &mut self,
+        hub: HubKey,
+        message: &str,
+        level: Level,
+        fresh: Fresh,
+    ) -> Result<Out<Uuid>, Refusal>
+        ensures { Does self.old self.new result (call.capture_message P.gives C.meanings hub message.now level fresh) }
+    {
+        if self.hub_at(hub).is_none() {
+            return Err(Refusal::Stale);
+        }
+        let event = message_event(self.alloc, message, level, fresh.uuid, fresh.now)?;
+        self.capture_event(hub, event, fresh)
+    }
+}

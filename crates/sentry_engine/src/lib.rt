@@ -1,0 +1,5 @@
+//! The engine: it holds clients and hubs, and decides what every call answers and hands out.
+#![tactic(auto)]
+
+pub mod call;
+pub mod engine;

@@ -1,0 +1,56 @@
+-- What becomes of an event between its capture and its envelope.
+use Rattle.std.specs.Prelude.{ℕ, Option, Some, None, List, [], ◌∷◌, if◌then◌else◌, codes, map}
+use Rattle.std.specs.Option.{option_or}
+use Rattle.std.specs.Str.{bytes_eq}
+use Rattle.sentry_base.specs.Events.{is_nil}
+use Rattle.sentry_base.specs.declared.protocol.event.Event.{Event}
+use Rattle.sentry_base.specs.declared.protocol.sdk.ClientSdkInfo.{ClientSdkInfo}
+use Rattle.sentry_state.specs.declared.scope.Scope.{Scope}
+use Rattle.sentry_state.specs.declared.clientoptions.PlainOptions.{PlainOptions}
+use Rattle.sentry_state.specs.declared.clientoptions.ClientOptions.{ClientOptions}
+use Rattle.sentry_state.specs.Callbacks.{Partial, Meanings, integrated_by, called}
+use Rattle.sentry_state.specs.Scopes.{applied}
+use Rattle.sentry_parts.specs.declared.pipeline.Place.{Place}
+use Rattle.sentry_parts.specs.declared.pipeline.Place.TheVariants.{EventProcessor, Integration, BeforeSend}
+use Rattle.sentry_parts.specs.declared.pipeline.Prepared.{Prepared}
+use Rattle.sentry_parts.specs.declared.pipeline.Prepared.TheVariants.{Kept, Dropped}
+
+-- a nil id is replaced by the fresh one
+abbrev pub with_id : List ℕ → Event → Event
+with_id fresh event = if is_nil event.event_id then record event { event_id = fresh } else event
+
+-- what every event of a client says of the SDK
+abbrev pub sdk_info : Meanings → ClientSdkInfo
+sdk_info client = record {
+  name = codes "sentry.rust";
+  version = codes "0.49.3";
+  packages = record { name = codes "cargo:sentry"; version = codes "0.49.3" } ∷ [];
+  integrations = map (λ integration. integration.name) client.integrations;
+}
+
+-- the SDK if absent
+abbrev pub with_sdk : ClientSdkInfo → Event → Event
+with_sdk info event = record event { sdk = option_or event.sdk (Some info) }
+
+-- release, environment and server name if absent, and the platform
+abbrev pub with_defaults : PlainOptions → Event → Event
+with_defaults options event = record event {
+  release = option_or event.release options.release;
+  environment = option_or event.environment options.environment;
+  server_name = option_or event.server_name options.server_name;
+  platform = if bytes_eq event.platform (codes "other") then codes "native" else event.platform;
+}
+
+-- goes on with the event that is there, or was dropped at this place
+abbrev pub or_dropped : Place → Option Event → (Event → Prepared) → Prepared
+or_dropped place None go = Dropped place
+or_dropped place (Some event) go = go event
+
+-- the event as it is to be sent, or the place that dropped it
+unfoldable pub prepared : {P C : Type 0} → (P → Partial) → (C → Meanings) → ClientOptions C → Scope P → List ℕ → Event → Prepared
+prepared gives meanings options scope fresh event =
+    let client = meanings options.callbacks in
+    or_dropped EventProcessor (applied gives scope (with_sdk (sdk_info client) (with_id fresh event))) (λ processed.
+    or_dropped Integration (integrated_by client.integrations options.plain processed) (λ integrated.
+    or_dropped BeforeSend (called client.before_send (with_defaults options.plain integrated)) (λ made.
+    Kept made)))

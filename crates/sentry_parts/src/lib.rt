@@ -1,0 +1,4 @@
+//! The parts that an engine is made of, each of which can be used by itself.
+#![tactic(auto)]
+
+pub mod pipeline;

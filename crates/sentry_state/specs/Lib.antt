@@ -1,0 +1,3 @@
+pub mod Callbacks
+pub mod Scopes
+pub mod Stacks

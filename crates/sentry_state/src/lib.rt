@@ -1,0 +1,6 @@
+//! What a hub and a client are configured by: scopes and stacks of them, options, and callbacks.
+#![tactic(auto)]
+
+pub mod callbacks;
+pub mod clientoptions;
+pub mod scope;

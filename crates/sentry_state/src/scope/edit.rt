@@ -1,0 +1,91 @@
+//! The setters of a scope, and their calls as values.
+ghost use Rattle.std.specs.Prelude.{◌≡◌, OnOk, OnErr};
+ghost use Rattle.sentry_state.specs.declared.scope.edit.ScopeEdit.TheVariants.{SetLevel, SetTag, RemoveTag, AddEventProcessor};
+ghost use Rattle.sentry_state.specs.Scopes.{edited, edited_by};
+
+use crate::scope::Scope;
+use sentry_base::plain::{Shared, Text};
+use sentry_base::protocol::Level;
+use std::alloc::{AllocError, Global};
+
+/// The call of one setter of a scope.
+#[derive(Drop)]
+pub enum ScopeEdit<P> {
+    /// `set_level`
+    SetLevel(Option<Level>),
+    /// `set_tag`, of a key and a value
+    SetTag(Text, Text),
+    /// `remove_tag`, of a key
+    RemoveTag(Text),
+    /// `add_event_processor`
+    AddEventProcessor(P),
+}
+
+impl<P: Drop> Scope<P> {
+    /// Overrides the level of events, or no longer does.
+    pub fn set_level(&mut self, level: Option<Level>)
+        ensures { self.new ≡ edited (SetLevel level) self.old }
+    {
+        self.level = level;
+    }
+
+    /// Sets a tag, in place of one with the same key.
+    pub fn set_tag(&mut self, key: &str, value: &str) -> Result<(), AllocError>
+        ensures ok { OnOk result (self.new ≡ edited (SetTag key.now value.now) self.old) }
+        ensures err { OnErr result (self.new ≡ self.old) }
+    {
+        let alloc = self.allocator();
+        let key = Text::new(alloc, key)?;
+        let value = Text::new(alloc, value)?;
+        self.tags.insert(key, value)
+    }
+
+    /// Removes a tag, if it is there.
+    pub fn remove_tag(&mut self, key: &str)
+        ensures { self.new ≡ edited (RemoveTag key.now) self.old }
+    {
+        self.tags.remove(key);
+    }
+
+    /// Puts a processor last.
+    pub fn add_event_processor(&mut self, processor: P) -> Result<(), AllocError>
+        ensures ok { OnOk result (self.new ≡ edited (AddEventProcessor processor) self.old) }
+        ensures err { OnErr result (self.new ≡ self.old) }
+    {
+        let share = Shared::new(self.allocator(), processor)?;
+        self.processors.push(share)
+    }
+
+    /// Does the call that the edit stands for.
+    pub fn edit(&mut self, edit: ScopeEdit<P>) -> Result<(), AllocError>
+        ensures ok { OnOk result (self.new ≡ edited edit self.old) }
+        ensures err { OnErr result (self.new ≡ self.old) }
+    {
+        match edit {
+            ScopeEdit::SetLevel(level) => {
+                self.set_level(level);
+                Ok(())
+            }
+            ScopeEdit::SetTag(key, value) => self.tags.insert(key, value),
+            ScopeEdit::RemoveTag(key) => {
+                self.remove_tag(key.as_str());
+                Ok(())
+            }
+            ScopeEdit::AddEventProcessor(processor) => self.add_event_processor(processor),
+        }
+    }
+
+    /// Does the calls in turn. Where memory was wanting, some of them are done.
+    pub fn edit_all(&mut self, edits: Vec<ScopeEdit<P>>) -> Result<(), AllocError>
+        ensures { OnOk result (self.new ≡ edited_by edits.items self.old) }
+    {
+        for edit in edits {
+            self.edit(edit)?;
+        }
+        Ok(())
+    }
+
+    fn allocator(&self) -> Global {
+        self.processors.allocator()
+    }
+}

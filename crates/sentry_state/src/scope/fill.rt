@@ -1,0 +1,65 @@
+//! What a scope makes of an event.
+ghost use Rattle.std.specs.Prelude.{◌≡◌, IfOk, codes};
+ghost use Rattle.sentry_base.specs.Defaults.{with_default};
+ghost use Rattle.sentry_state.specs.Scopes.{filled, applied, trace_of};
+
+use crate::callbacks::{EventCallback, process};
+use crate::scope::Scope;
+use sentry_base::plain::{Text, TextMap, ValueMap};
+use sentry_base::protocol::{Context, Event, TraceContext};
+use std::alloc::{AllocError, Global};
+
+impl<P: Drop> Scope<P> {
+    // The context of an event that no span is active for.
+    fn trace_context(&self, alloc: Global) -> Context
+        ensures { result ≡ trace_of self.now }
+    {
+        Context::Trace(TraceContext {
+            trace_id: self.trace_id,
+            span_id: self.span_id,
+            parent_span_id: None,
+            op: None,
+            description: None,
+            status: None,
+            origin: None,
+            data_: ValueMap::new(alloc),
+        })
+    }
+
+    // The contexts with the scope's trace, if none is there.
+    fn fill_trace(&self, contexts: TextMap<Context>) -> Result<TextMap<Context>, AllocError>
+        ensures { IfOk result (λ made. made ≡ with_default (codes "trace") (trace_of self.now) contexts) }
+    {
+        let mut contexts = contexts;
+        if contexts.get("trace").is_some() {
+            return Ok(contexts);
+        }
+        let alloc = self.processors.allocator();
+        contexts.insert(Text::new(alloc, "trace")?, self.trace_context(alloc))?;
+        Ok(contexts)
+    }
+
+    // The event under the scope, before the processors.
+    fn fill(&self, event: Event) -> Result<Event, AllocError>
+        ensures { IfOk result (λ made. made ≡ filled self.now event) }
+    {
+        let event = event;
+        Ok(Event {
+            level: self.level.unwrap_or(event.level),
+            tags: event.tags.merged(&self.tags)?,
+            contexts: self.fill_trace(event.contexts)?,
+            ..event
+        })
+    }
+}
+
+impl<P: EventCallback + Drop> Scope<P> {
+    /// The event under this scope: a level that is set overrides the event's, the scope's tags win, the trace is
+    /// filled in if absent, and the processors run in order. None is answered where one of them drops the event.
+    pub fn apply_to_event(&self, event: Event) -> Result<Option<Event>, AllocError>
+        ensures { IfOk result (λ made. made ≡ applied P.gives self.now event) }
+    {
+        let filled = self.fill(event)?;
+        process(self.processors.as_slice(), filled)
+    }
+}
