@@ -2,6 +2,8 @@
 ghost use Rattle.std.specs.Prelude.{◌≡◌, IfOk, IfSome, IfNone};
 ghost use Rattle.replay.specs.Reading.{client_of, hub_of, tag_of, message_of, form_of, command_of};
 ghost use Rattle.replay.specs.Commands.{Spells};
+ghost use Rattle.replay.specs.declared.command.Command.{Command};
+ghost use Rattle.sentry_base.specs.Texts.{Bytes};
 
 use crate::word::{cut, is_word, level, number};
 use sentry_base::plain::Text;
@@ -96,6 +98,12 @@ fn read(alloc: Global, line: &str) -> Result<Option<Command>, AllocError>
         "message" => message(alloc, rest),
         _ => Ok(None),
     }
+}
+
+/// A line spells one command at most.
+pub fn one_command()
+    ensures { (line : Bytes) (a b : Command) → Spells line a → Spells line b → a ≡ b }
+{
 }
 
 /// The command that a line spells, if it spells one.
