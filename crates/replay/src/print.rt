@@ -1,14 +1,15 @@
 //! What is printed of envelopes and of answers.
 ghost use Rattle.std.specs.Prelude.{◌≡◌, ◌++◌, codes, OnOk, string_bytes, flat_map};
-ghost use Rattle.sentry_base.specs.Entries.{entries_left};
+ghost use Rattle.sentry_base.specs.Texts.{by_bytes};
 ghost use Rattle.std.specs.List.{join_by};
 ghost use Rattle.replay.specs.Commands.{level_word};
 ghost use Rattle.replay.specs.Printing.{tag_text, tags_text, event_text, attachment_text, item_text, envelope_line, answer_text};
 
-use sentry_base::plain::{Entries, Text, TextMap};
+use sentry_base::plain::{Text, TextMap};
 use sentry_base::protocol::{Attachment, ClientKey, Envelope, EnvelopeItem, Event, Level};
 use sentry_engine::call::Answer;
 use std::alloc::AllocError;
+use std::collections::btree_map::Iter;
 
 fn level_word(level: Level) -> &'static str
     ensures { result.now ≡ level_word level }
@@ -30,12 +31,12 @@ fn push_tag(text: &mut String, key: &str, value: &str) -> Result<(), AllocError>
     text.push_str(value)
 }
 
-fn push_more_tags(text: &mut String, tags: Entries<'_, Text>) -> Result<(), AllocError>
-    ensures { OnOk result (string_bytes text.new ≡ string_bytes text.old ++ flat_map (λ tag. codes "," ++ tag_text tag) (entries_left tags.entry)) }
+fn push_more_tags(text: &mut String, tags: Iter<'_, String, Text>) -> Result<(), AllocError>
+    ensures { OnOk result (string_bytes text.new ≡ string_bytes text.old ++ flat_map (λ tag. codes "," ++ tag_text tag) (by_bytes (λ value. value) tags.entry)) }
 {
     for (key, value) in tags {
         text.push_str(",")?;
-        push_tag(text, key, value.as_str())?;
+        push_tag(text, key.as_str(), value.as_str())?;
     }
     Ok(())
 }
@@ -43,11 +44,11 @@ fn push_more_tags(text: &mut String, tags: Entries<'_, Text>) -> Result<(), Allo
 fn push_tags(text: &mut String, tags: &TextMap<Text>) -> Result<(), AllocError>
     ensures { OnOk result (string_bytes text.new ≡ string_bytes text.old ++ tags_text tags.now) }
 {
-    let mut entries = tags.entries();
+    let mut entries = tags.iter();
     let Some((key, value)) = entries.next() else {
         return text.push_str("-");
     };
-    push_tag(text, key, value.as_str())?;
+    push_tag(text, key.as_str(), value.as_str())?;
     push_more_tags(text, entries)
 }
 

@@ -1,5 +1,5 @@
 -- A value that a record carries, as plain data.
-use Rattle.std.specs.Prelude.{◌≡◌, ℕ, ◌+◌, ℤ, Bool, List, [], ◌∷◌, refl}
+use Rattle.std.specs.Prelude.{◌≡◌, ◌==◌, ◌&&◌, ℕ, ◌+◌, ℤ, Bool, true, false, List, [], ◌∷◌, refl}
 use Rattle.std.proofs.Common.{ap}
 use Rattle.std.specs.Coded.{Coded, coded_ℕ, coded_ℤ, coded_bool, coded_list}
 use base.Stored.{Gv, gnil, gnum, gcons}
@@ -106,3 +106,14 @@ data_sizes (d ∷ ds) = data_size d + data_sizes ds
 abbrev pub member_sizes : List (List ℕ × Data) → ℕ
 member_sizes [] = 0
 member_sizes (e ∷ es) = data_size e.1 + member_sizes es
+
+-- whether two codes are the same
+abbrev pub same_code : Gv → Gv → Bool
+same_code gnil gnil = true
+same_code (gnum m) (gnum n) = m == n
+same_code (gcons a b) (gcons c d) = same_code a c && same_code b d
+same_code _ _ = false
+
+-- whether two values are the same, all the way down
+abbrev pub same_data : Data → Data → Bool
+same_data x y = same_code (code_data x) (code_data y)

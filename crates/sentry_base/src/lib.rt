@@ -2,5 +2,6 @@
 #![tactic(auto)]
 
 pub mod dsn;
+pub mod headers;
 pub mod plain;
 pub mod protocol;

@@ -2,6 +2,7 @@
 //! list, a map as its entries in order, and a share as what it shares.
 
 mod items;
+mod plain_eq;
 mod shared;
 mod table;
 mod text;
@@ -9,8 +10,12 @@ mod text_map;
 mod value;
 
 pub use items::Items;
+pub use plain_eq::{PlainEq, is_same};
 pub use shared::Shared;
 pub use table::Table;
 pub use text::Text;
-pub use text_map::{Entries, TextMap};
+pub use text_map::TextMap;
 pub use value::{Value, ValueMap, Values};
+
+#[cfg(test)]
+mod tests;

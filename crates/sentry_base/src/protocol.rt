@@ -2,6 +2,7 @@
 
 mod attachment;
 mod breadcrumb;
+mod client_report;
 mod context;
 mod envelope;
 mod event;
@@ -10,7 +11,9 @@ mod fresh;
 mod ids;
 mod keys;
 mod level;
+mod losses;
 mod rates;
+mod record_losses;
 mod refusal;
 mod request;
 mod sdk;
@@ -19,6 +22,7 @@ mod user;
 pub use crate::plain::{Value, ValueMap, Values};
 pub use attachment::Attachment;
 pub use breadcrumb::Breadcrumb;
+pub use client_report::{ClientReport, ClientReportItem};
 pub use context::{Context, SpanStatus, TraceContext};
 pub use envelope::{DynamicSamplingContext, Envelope, EnvelopeHeaders, EnvelopeItem};
 pub use event::Event;
@@ -27,6 +31,9 @@ pub use fresh::Fresh;
 pub use ids::{OrganizationId, SpanId, TraceId};
 pub use keys::{ClientKey, HubKey, Label};
 pub use level::Level;
+pub use losses::{
+    CATEGORIES, Category, LOSS_QUANTITIES, LossSource, Losses, REASONS, Reason, loss_index,
+};
 pub use rates::{Draw, SampleRate};
 pub use refusal::Refusal;
 pub use request::Request;

@@ -75,3 +75,14 @@ module _ {P C : Type 0} where
   -- an engine whose client is changed stands for the world whose client is changed
   pub changed_in_world : (engine : Engine P C) (world : World P C) → Stands engine world → (n : ℕ) (client : ClientState C) → changed engine.clients n (kept client) ≡ kept_all (changed world.clients n client)
   changed_in_world engine world s n client = ap (λ cs. changed cs n (kept client)) s.clients ∙ sym (changed-kept world.clients n client)
+
+module _ {X : Type 0} where
+  changed_same-at : (b : Bool) (e : ℕ × X) (es rest : List (ℕ × X)) (o : Option X) (x : X) → cond b (Some e.1) o ≡ Some x → (o ≡ Some x → rest ≡ es) → cond b ((e.0, x) ∷ es) (e ∷ rest) ≡ e ∷ es
+  changed_same-at true e es rest o x h same = let v : x ≡ e.1 = cc in ap (λ y. (e.0, y) ∷ es) v
+  changed_same-at false e es rest o x h same = ap (λ l. e ∷ l) (same h)
+
+module _ {X : Type 0} where
+  -- a table is as it was where what stands under a number is written there again
+  pub changed_same : (m : List (ℕ × X)) (n : ℕ) (x : X) → found m n ≡ Some x → changed m n x ≡ m
+  changed_same [] n x h = refl
+  changed_same (e ∷ es) n x h = changed_same-at (is_at (nat_cmp n) e.0) e es (changed es n x) (found es n) x h (changed_same es n x)

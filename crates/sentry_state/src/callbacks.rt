@@ -1,10 +1,11 @@
 //! What the caller hands in to be called: callbacks on events, and integrations.
 ghost use Rattle.std.specs.Prelude.{◌≡◌, IfOk, OnOk};
-ghost use Rattle.std.specs.Prelude.{List};
 ghost use Rattle.sentry_state.specs.Callbacks.{Partial, IntegrationMeaning, processed_by};
-ghost use Rattle.sentry_base.specs.Texts.{Bytes};
+
+mod boxed;
 
 use crate::clientoptions::PlainOptions;
+pub use boxed::{BoxedEventCallback, BoxedIntegration};
 use sentry_base::plain::Shared;
 use sentry_base::protocol::Event;
 use std::alloc::AllocError;

@@ -1,12 +1,13 @@
 //! A value that its clones share.
-ghost use Rattle.std.specs.Prelude.{◌≡◌, IfOk};
+ghost use Rattle.std.specs.Prelude.{◌≡◌, ◌↔◌, IsTrue, IfOk};
+ghost use Rattle.sentry_base.specs.Equality.{IsExact};
 
 use std::alloc::{AllocError, Global};
 use std::marker::Model;
 use std::sync::Arc;
 
 /// A value that its clones share, by an `Arc`. Contracts see the value, so a clone is equal to its original.
-#[derive(Drop)]
+#[derive(Debug, Drop)]
 pub struct Shared<T> {
     share: Arc<T>,
 }
@@ -47,4 +48,22 @@ impl<T: Drop> Clone for Shared<T> {
             share: self.share.clone()?,
         })
     }
+}
+
+impl<T: PartialEq> PartialEq for Shared<T> {
+    ghost eq = { T.eq };
+
+    ghost laws = { T.laws };
+
+    // Where `==` of the values is equality, so is `==` of the shares.
+    fn eq(&self, other: &Shared<T>) -> bool
+        ensures test { result ≡ T.eq self.now other.now }
+        ensures equality { IsExact T.eq → (IsTrue result ↔ (self.now ≡ other.now)) }
+    {
+        *self.share == *other.share
+    }
+}
+
+impl<T: Eq> Eq for Shared<T> {
+    ghost laws = { T.Eq.laws };
 }

@@ -1,16 +1,20 @@
 //! Tables by number.
-ghost use Rattle.std.specs.Prelude.{◌≡◌, [], OnOk, OnErr, IsSome, option_copied};
+ghost use Rattle.std.specs.Prelude.{◌≡◌, ◌==◌, ◌↔◌, IsTrue, ℕ, [], OnOk, OnErr, IsSome, length, option_copied};
+ghost use Rattle.std.specs.Map.Iter.{ShowsInOrder, deref_pair};
 ghost use Rattle.std.specs.Borrow.{sem};
 ghost use Rattle.std.specs.Option.{option_copied_mut};
 ghost use Rattle.sentry_base.specs.Tables.{found, stored, changed, removed};
 ghost use Rattle.sentry_base.specs.Lending.{lends_value};
+ghost use Rattle.std.specs.Cmp.Lexicographic.{pointwise, lists_per, lists_equiv};
+ghost use Rattle.sentry_base.specs.Equality.{IsExact, same_row, per_row, equiv_row};
 
 use std::alloc::{AllocError, Global};
 use std::collections::BTreeMap;
+use std::collections::btree_map::Iter;
 use std::marker::Model;
 
 /// A map from numbers, over a `BTreeMap`. Contracts see the list of its entries in the order of the numbers.
-#[derive(Drop)]
+#[derive(Debug, Drop)]
 pub struct Table<T> {
     entries: BTreeMap<u64, T>,
 }
@@ -38,6 +42,28 @@ impl<T> Table<T> {
         ensures { option_copied result ≡ found self.now number }
     {
         self.entries.get(&number)
+    }
+
+    /// How many numbers the table has.
+    pub fn len(&self) -> usize
+        ensures { result ≡ length self.now }
+    {
+        self.entries.len()
+    }
+
+    /// Whether the table has no number.
+    pub fn is_empty(&self) -> bool
+        ensures { result ≡ (length self.now == 0) }
+    {
+        self.entries.is_empty()
+    }
+
+    /// The entries in the order of the numbers.
+    pub fn iter(&self) -> Iter<'_, u64, T>
+        ensures rest { result ≡ self.now }
+        ensures runs { ShowsInOrder (deref_pair {K = ℕ} {X = T}) }
+    {
+        self.entries.iter()
     }
 
     /// The value under a number, to be written: the table then has what was last written there.
@@ -77,4 +103,33 @@ impl<T: Drop> Table<T> {
     {
         self.entries.remove(&number)
     }
+}
+
+impl<T: Clone> Clone for Table<T> {
+    // Where a clone of a value is that value, so is a clone of the table.
+    ghost is_clone = { λ old new. ((x y : T) → T.is_clone x y → y ≡ x) → new ≡ old };
+
+    fn clone(&self) -> Result<Table<T>, AllocError> {
+        Ok(Table {
+            entries: self.entries.clone()?,
+        })
+    }
+}
+
+impl<T: PartialEq> PartialEq for Table<T> {
+    ghost eq = { pointwise (same_row T.eq) };
+
+    ghost laws = { lists_per (per_row T.laws) };
+
+    // Where `==` of the values is equality, so is `==` of the tables.
+    fn eq(&self, other: &Table<T>) -> bool
+        ensures test { result ≡ pointwise (same_row T.eq) self.now other.now }
+        ensures equality { IsExact T.eq → (IsTrue result ↔ (self.now ≡ other.now)) }
+    {
+        self.entries == other.entries
+    }
+}
+
+impl<T: Eq> Eq for Table<T> {
+    ghost laws = { lists_equiv (equiv_row T.Eq.laws) };
 }

@@ -1,5 +1,8 @@
 //! Texts.
-ghost use Rattle.std.specs.Prelude.{◌≡◌, IfOk, string_bytes};
+ghost use Rattle.std.specs.Prelude.{◌≡◌, ◌==◌, ◌↔◌, IsTrue, IfOk, string_bytes};
+ghost use Rattle.std.proofs.Common.{rules};
+ghost use Rattle.std.specs.Cmp.Rules.{comparing};
+ghost use Rattle.std.specs.Cmp.Lexicographic.{pointwise};
 
 use std::alloc::{AllocError, Global};
 use std::marker::Model;
@@ -63,24 +66,18 @@ impl Clone for Text {
 }
 
 impl PartialEq for Text {
-    ghost use Rattle.std.specs.Prelude.{◌==◌};
-    ghost use Rattle.std.proofs.Common.{rules};
-    ghost use Rattle.std.specs.Cmp.Rules.{comparing};
-    ghost use Rattle.std.specs.Cmp.Lexicographic.{pointwise};
-
     ghost eq = { pointwise ◌==◌ };
 
     ghost laws = { Prim.search (comparing, rules) };
 
-    fn eq(&self, other: &Text) -> bool {
+    fn eq(&self, other: &Text) -> bool
+        ensures test { result ≡ pointwise ◌==◌ self.now other.now }
+        ensures equality { IsTrue result ↔ (self.now ≡ other.now) }
+    {
         self.string == other.string
     }
 }
 
 impl Eq for Text {
-    ghost use Rattle.std.specs.Prelude.{◌==◌};
-    ghost use Rattle.std.proofs.Common.{rules};
-    ghost use Rattle.std.specs.Cmp.Rules.{comparing};
-
     ghost laws = { Prim.search (comparing, rules) };
 }

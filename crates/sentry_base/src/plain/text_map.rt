@@ -1,16 +1,20 @@
 //! Maps by text.
-ghost use Rattle.std.specs.Prelude.{◌≡◌, ℕ, List, [], IfOk, OnOk, OnErr, option_copied};
+ghost use Rattle.std.specs.Prelude.{◌≡◌, ◌≢◌, ◌==◌, Some, ◌↔◌, IsTrue, ℕ, List, [], IfOk, OnOk, OnErr, length, option_copied, String};
+ghost use Rattle.std.specs.Global.{Global};
+ghost use Rattle.std.specs.Map.Iter.{ShowsInOrder, deref_pair};
+ghost use Rattle.std.specs.Option.{option_or};
 ghost use Rattle.sentry_base.specs.Texts.{Bytes, put, without, value_at, by_bytes, merged};
-ghost use Rattle.std.specs.Iterator.{YieldsFirstBy, item_count};
-ghost use Rattle.sentry_base.specs.Entries.{entries_left};
+ghost use Rattle.std.specs.Cmp.Lexicographic.{pointwise, lists_per, lists_equiv};
+ghost use Rattle.sentry_base.specs.Equality.{IsExact, same_entry, per_entry, equiv_entry};
 
 use crate::plain::text::Text;
 use std::alloc::{AllocError, Global};
-use std::collections::{BTreeMap, btree_map};
+use std::collections::BTreeMap;
+use std::collections::btree_map::Iter;
 use std::marker::Model;
 
 /// A map from texts, over a `BTreeMap`. Contracts see the list of its entries in the order of the keys' bytes.
-#[derive(Drop)]
+#[derive(Debug, Drop)]
 pub struct TextMap<V> {
     entries: BTreeMap<String, V>,
 }
@@ -40,23 +44,48 @@ impl<V> TextMap<V> {
     {
         self.entries.get(key)
     }
+
+    /// How many keys the map has.
+    pub fn len(&self) -> usize
+        ensures { result ≡ length self.now }
+    {
+        self.entries.len()
+    }
+
+    /// Whether the map has no key.
+    pub fn is_empty(&self) -> bool
+        ensures { result ≡ (length self.now == 0) }
+    {
+        self.entries.is_empty()
+    }
+
+    /// The entries in the order of the keys' bytes.
+    pub fn iter(&self) -> Iter<'_, String, V>
+        ensures rest { by_bytes (λ v. v) result ≡ self.now }
+        ensures runs { ShowsInOrder (deref_pair {K = String Global} {X = V}) }
+    {
+        self.entries.iter()
+    }
+
+    /// Takes the value at a key out.
+    pub fn remove(&mut self, key: &str) -> Option<V>
+        ensures value { result ≡ value_at self.old key.now }
+        ensures rest { self.new ≡ without self.old key.now }
+    {
+        self.entries.remove(key)
+    }
 }
 
 impl<V: Drop> TextMap<V> {
     /// Puts a value at a key, in place of one that is there.
     pub fn insert(&mut self, key: Text, value: V) -> Result<(), AllocError>
         ensures ok { OnOk result (self.new ≡ put self.old key value) }
+        ensures here { OnOk result (value_at self.new key ≡ Some value) }
+        ensures elsewhere { OnOk result ((other : Bytes) → other ≢ key → value_at self.new other ≡ value_at self.old other) }
         ensures err { OnErr result (self.new ≡ self.old) }
     {
         self.entries.insert(key.into_string(), value)?;
         Ok(())
-    }
-
-    /// Takes out what stands at a key.
-    pub fn remove(&mut self, key: &str)
-        ensures { self.new ≡ without self.old key.now }
-    {
-        let _ = self.entries.remove(key);
     }
 }
 
@@ -74,7 +103,9 @@ impl<V: Clone> Clone for TextMap<V> {
 impl<V: Clone + Drop> TextMap<V> {
     /// This map with the entries of `wins` put in, which have their way at each of their keys.
     pub fn merged(self, wins: &TextMap<V>) -> Result<TextMap<V>, AllocError>
-        ensures { IfOk result (λ made. ((x y : V) → V.is_clone x y → y ≡ x) → made ≡ merged wins.now self) }
+        ensures made { IfOk result (λ made. ((x y : V) → V.is_clone x y → y ≡ x) → made ≡ merged wins.now self) }
+        ensures at_each_key { IfOk result (λ made. ((x y : V) → V.is_clone x y → y ≡ x)
+            → (key : Bytes) → value_at made key ≡ option_or (value_at wins.now key) (value_at self key)) }
     {
         let mut made = self;
         for (key, value) in wins.entries.iter() {
@@ -84,32 +115,20 @@ impl<V: Clone + Drop> TextMap<V> {
     }
 }
 
-/// The entries of a map, in the order of the keys' bytes.
-#[derive(Drop)]
-pub struct Entries<'a, V> {
-    left: btree_map::Iter<'a, String, V>,
-}
+impl<V: PartialEq> PartialEq for TextMap<V> {
+    ghost eq = { pointwise (same_entry V.eq) };
 
-impl<V> TextMap<V> {
-    /// Goes over the entries, in the order of the keys' bytes.
-    pub fn entries(&self) -> Entries<'_, V>
-        ensures { entries_left result ≡ self.now }
+    ghost laws = { lists_per (per_entry V.laws) };
+
+    // Where `==` of the values is equality, so is `==` of the maps.
+    fn eq(&self, other: &TextMap<V>) -> bool
+        ensures test { result ≡ pointwise (same_entry V.eq) self.now other.now }
+        ensures equality { IsExact V.eq → (IsTrue result ↔ (self.now ≡ other.now)) }
     {
-        Entries {
-            left: self.entries.iter(),
-        }
+        self.entries == other.entries
     }
 }
 
-impl<'a, V> Iterator for Entries<'a, V> {
-    type Item = (&'a str, &'a V);
-
-    ghost next_gives = { YieldsFirstBy (λ x. (x.0.now, x.1.now)) entries_left };
-
-    ghost remaining = { item_count entries_left };
-
-    fn next(&mut self) -> Option<(&'a str, &'a V)> {
-        let (key, value) = self.left.next()?;
-        Some((key.as_str(), value))
-    }
+impl<V: Eq> Eq for TextMap<V> {
+    ghost laws = { lists_equiv (equiv_entry V.Eq.laws) };
 }

@@ -5,7 +5,7 @@ use std::marker::Model;
 
 /// Any value. Contracts see what its texts, lists and maps hold: two values that hold the same are equal.
 #[cycle(value)]
-#[derive(Drop)]
+#[derive(Debug, Drop)]
 pub enum Value {
     Null,
     Bool(bool),
@@ -17,14 +17,14 @@ pub enum Value {
 
 /// A list of values, over a `Vec`. Contracts see the list of what its values are.
 #[cycle(value)]
-#[derive(Drop)]
+#[derive(Debug, Drop)]
 pub struct Values {
     items: Vec<Value>,
 }
 
 /// A map of values, over a `BTreeMap`. Contracts see the list of its entries in the order of the keys' bytes.
 #[cycle(value)]
-#[derive(Drop)]
+#[derive(Debug, Drop)]
 pub struct ValueMap {
     entries: BTreeMap<String, Value>,
 }
@@ -75,3 +75,4 @@ impl Model for ValueMap {
 
 mod copies;
 mod edits;
+mod equality;

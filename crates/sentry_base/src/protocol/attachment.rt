@@ -5,7 +5,7 @@ use crate::plain::{Items, Text};
 use std::alloc::AllocError;
 
 /// A file that goes along with an event.
-#[derive(Drop)]
+#[derive(Drop, PartialEq)]
 pub struct Attachment {
     pub filename: Text,
     /// The file's bytes.

@@ -7,7 +7,7 @@ use crate::protocol::level::Level;
 use std::alloc::{AllocError, Global};
 
 /// One step on the way to an event.
-#[derive(Drop)]
+#[derive(Drop, PartialEq)]
 pub struct Breadcrumb {
     /// Nanoseconds since the epoch.
     pub timestamp: u64,

@@ -6,7 +6,7 @@ use crate::protocol::ids::{SpanId, TraceId};
 use std::alloc::AllocError;
 
 /// What is known of one matter around an event.
-#[derive(Drop)]
+#[derive(Drop, PartialEq)]
 pub enum Context {
     /// The trace that the event is a part of.
     Trace(TraceContext),
@@ -20,7 +20,7 @@ pub enum Context {
 }
 
 /// Where in a trace something happened.
-#[derive(Drop)]
+#[derive(Drop, PartialEq)]
 pub struct TraceContext {
     pub trace_id: TraceId,
     pub span_id: SpanId,

@@ -4,6 +4,7 @@ ghost use Rattle.sentry_base.specs.Envelopes.{item_event_id, with_item, empty_en
 
 use crate::plain::{Items, Text};
 use crate::protocol::attachment::Attachment;
+use crate::protocol::client_report::ClientReport;
 use crate::protocol::event::Event;
 use crate::protocol::ids::TraceId;
 use crate::protocol::rates::SampleRate;
@@ -11,14 +12,14 @@ use std::alloc::{AllocError, Global};
 use uuid::Uuid;
 
 /// What a transport sends at once: items, and what is said of them all.
-#[derive(Drop)]
+#[derive(Drop, PartialEq)]
 pub struct Envelope {
     pub header: EnvelopeHeaders,
     pub items: Items<EnvelopeItem>,
 }
 
 /// What is said of a whole envelope.
-#[derive(Drop)]
+#[derive(Drop, PartialEq)]
 pub struct EnvelopeHeaders {
     /// The id of the first event in it.
     pub event_id: Option<Uuid>,
@@ -26,7 +27,7 @@ pub struct EnvelopeHeaders {
 }
 
 /// What a server needs to sample whole traces.
-#[derive(Drop)]
+#[derive(Drop, PartialEq)]
 pub struct DynamicSamplingContext {
     pub trace_id: Option<TraceId>,
     pub sample_rate: Option<SampleRate>,
@@ -35,10 +36,11 @@ pub struct DynamicSamplingContext {
 }
 
 /// One thing in an envelope.
-#[derive(Drop)]
+#[derive(Drop, PartialEq)]
 pub enum EnvelopeItem {
     Event(Event),
     Attachment(Attachment),
+    ClientReport(ClientReport),
 }
 
 impl EnvelopeItem {
@@ -48,7 +50,7 @@ impl EnvelopeItem {
     {
         match self {
             EnvelopeItem::Event(event) => Some(event.event_id),
-            EnvelopeItem::Attachment(_) => None,
+            EnvelopeItem::Attachment(_) | EnvelopeItem::ClientReport(_) => None,
         }
     }
 }
@@ -123,6 +125,7 @@ impl Clone for EnvelopeItem {
             EnvelopeItem::Attachment(attachment) => {
                 Ok(EnvelopeItem::Attachment(attachment.clone()?))
             }
+            EnvelopeItem::ClientReport(report) => Ok(EnvelopeItem::ClientReport(report.clone()?)),
         }
     }
 }

@@ -14,7 +14,7 @@ use std::alloc::{AllocError, Global};
 use uuid::Uuid;
 
 /// What happened: a message or an error, with what is known around it.
-#[derive(Drop)]
+#[derive(Drop, PartialEq)]
 pub struct Event {
     /// Names the event; the nil id is replaced when the event is captured.
     pub event_id: Uuid,

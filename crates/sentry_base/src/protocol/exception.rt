@@ -5,7 +5,7 @@ use crate::plain::Text;
 use std::alloc::AllocError;
 
 /// One error of a chain.
-#[derive(Drop)]
+#[derive(Drop, PartialEq)]
 pub struct Exception {
     /// The name of the error's type.
     pub ty: Text,
@@ -15,7 +15,7 @@ pub struct Exception {
 }
 
 /// How an error came to be reported.
-#[derive(Drop)]
+#[derive(Drop, PartialEq)]
 pub struct Mechanism {
     pub ty: Text,
     /// Whether the program dealt with the error: false is a crash.

@@ -5,7 +5,7 @@ use crate::plain::{Text, TextMap};
 use std::alloc::AllocError;
 
 /// The HTTP request that was being served.
-#[derive(Drop)]
+#[derive(Drop, PartialEq)]
 pub struct Request {
     pub method: Option<Text>,
     pub url: Option<Text>,

@@ -5,7 +5,7 @@ use crate::plain::{Items, Text};
 use std::alloc::AllocError;
 
 /// The SDK that made an event.
-#[derive(Drop)]
+#[derive(Drop, PartialEq)]
 pub struct ClientSdkInfo {
     pub name: Text,
     pub version: Text,
@@ -15,7 +15,7 @@ pub struct ClientSdkInfo {
 }
 
 /// A package that the SDK came in.
-#[derive(Drop)]
+#[derive(Drop, PartialEq)]
 pub struct ClientSdkPackage {
     pub name: Text,
     pub version: Text,

@@ -5,7 +5,7 @@ use crate::plain::{Text, ValueMap};
 use std::alloc::AllocError;
 
 /// Who used the program.
-#[derive(Drop)]
+#[derive(Drop, PartialEq)]
 pub struct User {
     pub id: Option<Text>,
     pub email: Option<Text>,

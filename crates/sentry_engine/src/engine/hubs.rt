@@ -1,6 +1,7 @@
 //! The calls on hubs.
-ghost use Rattle.std.specs.Prelude.{◌≡◌, ◌≢◌, IfOk, Some};
+ghost use Rattle.std.specs.Prelude.{◌≡◌, ◌≢◌, IfOk, IfErr, OnOk, OnErr, Some, [], ◌∷◌};
 ghost use Rattle.sentry_base.specs.Tables.{found, changed};
+ghost use Rattle.sentry_state.specs.Scopes.{edited};
 ghost use Rattle.sentry_engine.specs.declared.engine.Hub.{Hub};
 ghost use Rattle.sentry_engine.specs.Worlds.{World, Stands};
 ghost use Rattle.sentry_engine.specs.Outcomes.{Does, with_scope};
@@ -82,7 +83,32 @@ fn message_event(
     Ok(event)
 }
 
+// The only item, or all of them back.
+fn only<T: Drop>(items: Vec<T>) -> Result<T, Vec<T>>
+    ensures one { IfOk result (λ item. items.items ≡ item ∷ []) }
+    ensures back { IfErr result (λ all. all ≡ items) }
+{
+    let mut items = items;
+    if items.len() != 1 {
+        return Err(items);
+    }
+    items.pop().ok_or(items)
+}
+
 impl<P: EventCallback + Drop, C: Callbacks> Engine<P, C> {
+    // Does one edit in place. Where memory is wanting for it, nothing has changed.
+    #[tactic(auto, using(crate::proofs::Keeping::changed_same))]
+    fn edit_scope(&mut self, number: u64, edit: ScopeEdit<P>) -> Result<(), AllocError>
+        ensures in_world { OnOk result ((world : World P C) (hub : Hub P) → Stands self.old world → found self.old.hubs number ≡ Some hub →
+            Stands self.new (record world { hubs = changed world.hubs number (with_scope hub (edited edit hub.stack.top.scope)) })) }
+        ensures err { OnErr result (self.new ≡ self.old) }
+    {
+        let Some(hub) = self.hubs.get_mut(number) else {
+            return Ok(());
+        };
+        hub.stack.top.scope.edit(edit)
+    }
+
     // Writes the top scope of a hub that is held.
     fn set_scope(&mut self, number: u64, scope: Scope<P>)
         ensures in_world { (world : World P C) (hub : Hub P) → Stands self.old world → found self.old.hubs number ≡ Some hub →
@@ -134,6 +160,30 @@ impl<P: EventCallback + Drop, C: Callbacks> Engine<P, C> {
         }))
     }
 
+    // One edit, which costs what it changes.
+    fn configure_one(&mut self, hub: HubKey, edit: ScopeEdit<P>) -> Result<Out<()>, Refusal>
+        ensures { Does self.old self.new result (call.configure hub (edit ∷ [])) }
+    {
+        if self.hub_at(hub).is_none() {
+            return Err(Refusal::Stale);
+        }
+        self.edit_scope(hub.number, edit)?;
+        Ok(self.out(()))
+    }
+
+    // Several edits, which are done to a copy of the scope, so that all of them are done or none.
+    fn configure_all(&mut self, hub: HubKey, edits: Vec<ScopeEdit<P>>) -> Result<Out<()>, Refusal>
+        ensures { Does self.old self.new result (call.configure hub edits.items) }
+    {
+        let Some(held) = self.hub_at(hub) else {
+            return Err(Refusal::Stale);
+        };
+        let mut scope = held.stack.top.scope.clone()?;
+        scope.edit_all(edits)?;
+        self.set_scope(hub.number, scope);
+        Ok(self.out(()))
+    }
+
     /// Does the edits, in order, to the top scope of a hub. `_now` is the moment in nanoseconds since the epoch, at
     /// which what they end ends.
     ///
@@ -146,13 +196,10 @@ impl<P: EventCallback + Drop, C: Callbacks> Engine<P, C> {
     ) -> Result<Out<()>, Refusal>
         ensures { Does self.old self.new result (call.configure hub edits.items) }
     {
-        let Some(held) = self.hub_at(hub) else {
-            return Err(Refusal::Stale);
-        };
-        let mut scope = held.stack.top.scope.clone()?;
-        scope.edit_all(edits)?;
-        self.set_scope(hub.number, scope);
-        Ok(self.out(()))
+        match only(edits) {
+            Ok(edit) => self.configure_one(hub, edit),
+            Err(edits) => self.configure_all(hub, edits),
+        }
     }
 
     /// The id that the last capture on a hub answered, if its top layer had a client at one.

@@ -1,12 +1,17 @@
 //! Making and reading lists and maps of values.
-ghost use Rattle.std.specs.Prelude.{◌≡◌, ◌∷◌, [], ◌++◌, OnOk, OnErr, map, option_map};
-ghost use Rattle.sentry_base.specs.Texts.{put, value_at, without};
+ghost use Rattle.std.specs.Prelude.{◌≡◌, ◌≢◌, ◌==◌, Some, ◌∷◌, [], ◌++◌, IfOk, OnOk, OnErr, length, map, option_map, String};
+ghost use Rattle.std.specs.Global.{Global};
+ghost use Rattle.std.specs.Map.Iter.{ShowsInOrder, deref_pair};
+ghost use Rattle.std.specs.Option.{option_or};
+ghost use Rattle.sentry_base.specs.Texts.{Bytes, put, value_at, without, merged, by_bytes};
+ghost use Rattle.sentry_base.specs.declared.plain.value.Value.{Value as Shown};
 ghost use Rattle.sentry_base.specs.ValueView.{data_of};
 
 use super::{Value, ValueMap, Values};
 use crate::plain::text::Text;
 use std::alloc::{AllocError, Global};
 use std::collections::BTreeMap;
+use std::collections::btree_map::Iter;
 
 impl Values {
     /// The empty list, which takes no memory.
@@ -40,6 +45,20 @@ impl Values {
         self.items.as_slice()
     }
 
+    /// How many values the list has.
+    pub fn len(&self) -> usize
+        ensures { result ≡ length self.now }
+    {
+        self.items.len()
+    }
+
+    /// Whether the list has no value.
+    pub fn is_empty(&self) -> bool
+        ensures { result ≡ (length self.now == 0) }
+    {
+        self.items.is_empty()
+    }
+
     /// Puts a value at the end.
     pub fn push(&mut self, value: Value) -> Result<(), AllocError>
         ensures ok { OnOk result (self.new ≡ self.old ++ data_of value ∷ []) }
@@ -63,6 +82,8 @@ impl ValueMap {
     /// Puts a value at a key, in place of one that is there.
     pub fn insert(&mut self, key: Text, value: Value) -> Result<(), AllocError>
         ensures ok { OnOk result (self.new ≡ put self.old key (data_of value)) }
+        ensures here { OnOk result (value_at self.new key ≡ Some (data_of value)) }
+        ensures elsewhere { OnOk result ((other : Bytes) → other ≢ key → value_at self.new other ≡ value_at self.old other) }
         ensures err { OnErr result (self.new ≡ self.old) }
     {
         drop(self.entries.insert(key.into_string(), value)?);
@@ -76,11 +97,45 @@ impl ValueMap {
         self.entries.get(key)
     }
 
+    /// How many keys the map has.
+    pub fn len(&self) -> usize
+        ensures { result ≡ length self.now }
+    {
+        self.entries.len()
+    }
+
+    /// Whether the map has no key.
+    pub fn is_empty(&self) -> bool
+        ensures { result ≡ (length self.now == 0) }
+    {
+        self.entries.is_empty()
+    }
+
+    /// The entries in the order of the keys' bytes.
+    pub fn iter(&self) -> Iter<'_, String, Value>
+        ensures rest { by_bytes data_of result ≡ self.now }
+        ensures runs { ShowsInOrder (deref_pair {K = String Global} {X = Shown}) }
+    {
+        self.entries.iter()
+    }
+
     /// Takes the value at a key out.
     pub fn remove(&mut self, key: &str) -> Option<Value>
         ensures value { option_map data_of result ≡ value_at self.old key.now }
         ensures rest { self.new ≡ without self.old key.now }
     {
         self.entries.remove(key)
+    }
+
+    /// This map with the entries of `wins` put in, which have their way at each of their keys.
+    pub fn merged(self, wins: &ValueMap) -> Result<ValueMap, AllocError>
+        ensures made { IfOk result (λ made. made ≡ merged wins.now self) }
+        ensures at_each_key { IfOk result (λ made. (key : Bytes) → value_at made key ≡ option_or (value_at wins.now key) (value_at self key)) }
+    {
+        let mut made = self;
+        for (key, value) in wins.entries.iter() {
+            made.insert(Text::from_string(key.clone()?), value.clone()?)?;
+        }
+        Ok(made)
     }
 }

@@ -1,7 +1,8 @@
 use Rattle.std.proofs.Common.{◌∙◌, ap}
 use Rattle.std.specs.String.{string_bytes}
-use Rattle.sentry_base.specs.Texts.{put, by_bytes}
+use Rattle.sentry_base.specs.Texts.{put, value_at, by_bytes}
 use Rattle.sentry_base.proofs.TextLemmas.{by_bytes-insert}
+use Rattle.sentry_base.proofs.MergeLemmas.{value_at-put-here, value_at-put-elsewhere}
 use Rattle.sentry_base.proofs.plain.text_map.TextMap.insert.Goals as goal
 
 pub returns-clause-ok : goal.returns-clause-ok
@@ -10,3 +11,9 @@ returns-clause-ok g c =
     ∙ by_bytes-insert (λ v. v) c.self.inside.entries.entries c.into_string.result c.args.value
     ∙ ap (λ m. put m (string_bytes c.into_string.result) c.args.value) c.self.view_is
     ∙ ap (λ k. put c.args.self.now k c.args.value) c.into_string.ensures
+
+pub returns-clause-here : goal.returns-clause-here
+returns-clause-here g c = ap (λ m. value_at m c.args.key) (returns-clause-ok g c) ∙ value_at-put-here c.args.self.now c.args.key c.args.value
+
+pub returns-clause-elsewhere : goal.returns-clause-elsewhere
+returns-clause-elsewhere g c = λ other not_there. ap (λ m. value_at m other) (returns-clause-ok g c) ∙ value_at-put-elsewhere c.args.self.now c.args.key c.args.value other not_there

@@ -1,0 +1,73 @@
+//! What is lost where a record is dropped.
+ghost use Rattle.std.specs.Prelude.{◌≡◌};
+ghost use Rattle.sentry_base.specs.declared.protocol.losses.Category.TheVariants.{Error, Attachment as OfAttachment};
+ghost use Rattle.sentry_base.specs.Losses.{lost};
+ghost use Rattle.sentry_base.specs.RecordLosses.{item_losses, report_losses, envelope_losses};
+
+use crate::protocol::attachment::Attachment;
+use crate::protocol::client_report::{ClientReport, ClientReportItem};
+use crate::protocol::envelope::{Envelope, EnvelopeItem};
+use crate::protocol::event::Event;
+use crate::protocol::losses::{Category, LossSource, Losses, Reason};
+
+impl LossSource for Event {
+    ghost losses_under = { λ _ reason. lost Error reason 1 };
+
+    fn losses(&self, reason: Reason) -> Losses {
+        Losses::of(Category::Error, reason, 1)
+    }
+}
+
+impl LossSource for Attachment {
+    ghost losses_under = { λ _ reason. lost OfAttachment reason 1 };
+
+    fn losses(&self, reason: Reason) -> Losses {
+        Losses::of(Category::Attachment, reason, 1)
+    }
+}
+
+impl ClientReportItem {
+    // What is lost with the item, which keeps its own reason.
+    fn losses(&self) -> Losses
+        ensures { result.quantities ≡ lost self.now.category self.now.reason self.now.quantity }
+    {
+        Losses::of(self.category, self.reason, self.quantity)
+    }
+}
+
+// Whatever the reason is for which a report is dropped, its items keep their own.
+impl LossSource for ClientReport {
+    ghost losses_under = { λ report _. report_losses report.items };
+
+    fn losses(&self, _reason: Reason) -> Losses {
+        let mut losses = Losses::none();
+        for item in self.items.as_slice() {
+            losses.add(&item.losses());
+        }
+        losses
+    }
+}
+
+impl LossSource for EnvelopeItem {
+    ghost losses_under = { λ item reason. item_losses reason item };
+
+    fn losses(&self, reason: Reason) -> Losses {
+        match self {
+            EnvelopeItem::Event(event) => event.losses(reason),
+            EnvelopeItem::Attachment(attachment) => attachment.losses(reason),
+            EnvelopeItem::ClientReport(report) => report.losses(reason),
+        }
+    }
+}
+
+impl LossSource for Envelope {
+    ghost losses_under = { λ envelope reason. envelope_losses reason envelope.items };
+
+    fn losses(&self, reason: Reason) -> Losses {
+        let mut losses = Losses::none();
+        for item in self.items.as_slice() {
+            losses.add(&item.losses(reason));
+        }
+        losses
+    }
+}

@@ -1,0 +1,17 @@
+//! The types that users configure, over boxed callbacks.
+use sentry_state::callbacks::{BoxedEventCallback, BoxedIntegration};
+
+/// The callbacks of a client.
+pub type ClientCallbacks = sentry_state::clientoptions::ClientCallbacks<
+    BoxedEventCallback,
+    BoxedIntegration,
+>;
+
+/// The options of a client.
+pub type ClientOptions = sentry_state::clientoptions::ClientOptions<ClientCallbacks>;
+
+/// A scope.
+pub type Scope = sentry_state::scope::Scope<BoxedEventCallback>;
+
+/// The call of one setter of a scope.
+pub type ScopeEdit = sentry_state::scope::ScopeEdit<BoxedEventCallback>;

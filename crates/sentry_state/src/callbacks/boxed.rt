@@ -1,0 +1,40 @@
+//! Callbacks in boxes, so that a client or a scope can have several of different types. The instances stand here,
+//! beside their traits; nothing else below the top crate speaks of boxes.
+use crate::callbacks::{EventCallback, Integration};
+use crate::clientoptions::PlainOptions;
+use sentry_base::protocol::Event;
+use std::alloc::AllocError;
+
+/// A boxed event processor or `before_send`.
+pub type BoxedEventCallback = Box<dyn EventCallback + Send + Sync + Drop>;
+
+/// A boxed integration.
+pub type BoxedIntegration = Box<dyn Integration + Send + Sync + Drop>;
+
+impl EventCallback for BoxedEventCallback {
+    ghost gives = { λ callback. (EventCallback-box callback).gives callback.value };
+
+    fn call(&self, event: Event) -> Result<Option<Event>, AllocError> {
+        EventCallback::call(&**self, event)
+    }
+}
+
+impl Integration for BoxedIntegration {
+    ghost meaning = { λ integration. (Integration-box integration).meaning integration.value };
+
+    fn name(&self) -> &str {
+        Integration::name(&**self)
+    }
+
+    fn setup(&self, options: &mut PlainOptions) -> Result<(), AllocError> {
+        Integration::setup(&**self, options)
+    }
+
+    fn process_event(
+        &self,
+        event: Event,
+        options: &PlainOptions,
+    ) -> Result<Option<Event>, AllocError> {
+        Integration::process_event(&**self, event, options)
+    }
+}
