@@ -7,6 +7,9 @@ use Rattle.sentry_base.specs.Texts.{Bytes}
 use Rattle.sentry_base.specs.Refusals.{refusal_number}
 use Rattle.sentry_base.specs.declared.protocol.event.Event.{Event}
 use Rattle.sentry_base.specs.declared.protocol.attachment.Attachment.{Attachment}
+use Rattle.sentry_base.specs.Losses.{category_name, reason_name}
+use Rattle.sentry_base.specs.declared.protocol.client_report.ClientReport.{ClientReport}
+use Rattle.sentry_base.specs.declared.protocol.client_report.ClientReportItem.{ClientReportItem}
 use Rattle.sentry_base.specs.declared.protocol.envelope.Envelope.{Envelope}
 use Rattle.sentry_base.specs.declared.protocol.envelope.EnvelopeItem.{EnvelopeItem}
 use Rattle.sentry_base.specs.declared.protocol.envelope.EnvelopeItem.TheVariants as item
@@ -32,9 +35,17 @@ event_text event = codes "event " ++ simple_text lower event.event_id ++ codes "
 abbrev pub attachment_text : Attachment → Bytes
 attachment_text attachment = codes "attachment " ++ attachment.filename
 
+-- so much of a category was lost for a reason
+abbrev pub loss_text : ClientReportItem → Bytes
+loss_text loss = category_name loss.category ++ codes "/" ++ reason_name loss.reason ++ codes "=" ++ decimal loss.quantity
+
+abbrev pub report_text : ClientReport → Bytes
+report_text report = codes "report " ++ join_by loss_text (codes ",") report.items
+
 abbrev pub item_text : EnvelopeItem → Bytes
 item_text (item.Event event) = event_text event
 item_text (item.Attachment attachment) = attachment_text attachment
+item_text (item.ClientReport report) = report_text report
 
 -- the line of an envelope
 abbrev pub envelope_line : ClientKey → Envelope → Bytes

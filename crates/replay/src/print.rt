@@ -3,10 +3,10 @@ ghost use Rattle.std.specs.Prelude.{◌≡◌, ◌++◌, codes, OnOk, string_byt
 ghost use Rattle.sentry_base.specs.Texts.{by_bytes};
 ghost use Rattle.std.specs.List.{join_by};
 ghost use Rattle.replay.specs.Commands.{level_word};
-ghost use Rattle.replay.specs.Printing.{tag_text, tags_text, event_text, attachment_text, item_text, envelope_line, answer_text};
+ghost use Rattle.replay.specs.Printing.{tag_text, tags_text, event_text, attachment_text, loss_text, report_text, item_text, envelope_line, answer_text};
 
 use sentry_base::plain::{Text, TextMap};
-use sentry_base::protocol::{Attachment, ClientKey, Envelope, EnvelopeItem, Event, Level};
+use sentry_base::protocol::{Attachment, ClientKey, ClientReport, ClientReportItem, Envelope, EnvelopeItem, Event, Level};
 use sentry_engine::call::Answer;
 use std::alloc::AllocError;
 use std::collections::btree_map::Iter;
@@ -73,12 +73,49 @@ fn push_attachment(text: &mut String, attachment: &Attachment) -> Result<(), All
     write!(text, "attachment {name}")
 }
 
+fn push_loss(text: &mut String, loss: &ClientReportItem) -> Result<(), AllocError>
+    ensures { OnOk result (string_bytes text.new ≡ string_bytes text.old ++ loss_text loss.now) }
+{
+    let category = loss.category.as_str();
+    let reason = loss.reason.as_str();
+    let quantity = loss.quantity;
+    write!(text, "{category}/{reason}={quantity}")
+}
+
+fn push_more_losses(text: &mut String, losses: &[ClientReportItem]) -> Result<(), AllocError>
+    ensures { OnOk result (string_bytes text.new ≡ string_bytes text.old ++ flat_map (λ loss. codes "," ++ loss_text loss) losses.now) }
+{
+    for loss in losses {
+        text.push_str(",")?;
+        push_loss(text, loss)?;
+    }
+    Ok(())
+}
+
+fn push_losses(text: &mut String, losses: &[ClientReportItem]) -> Result<(), AllocError>
+    ensures { OnOk result (string_bytes text.new ≡ string_bytes text.old ++ join_by loss_text (codes ",") losses.now) }
+{
+    let Some((first, more)) = losses.split_first() else {
+        return Ok(());
+    };
+    push_loss(text, first)?;
+    push_more_losses(text, more)
+}
+
+fn push_report(text: &mut String, report: &ClientReport) -> Result<(), AllocError>
+    ensures { OnOk result (string_bytes text.new ≡ string_bytes text.old ++ report_text report.now) }
+{
+    write!(text, "report ")?;
+    push_losses(text, report.items.as_slice())
+}
+
 fn push_item(text: &mut String, item: &EnvelopeItem) -> Result<(), AllocError>
     ensures { OnOk result (string_bytes text.new ≡ string_bytes text.old ++ item_text item.now) }
 {
     match item {
         EnvelopeItem::Event(event) => push_event(text, event),
         EnvelopeItem::Attachment(attachment) => push_attachment(text, attachment),
+        EnvelopeItem::ClientReport(report) => push_report(text, report),
     }
 }
 
