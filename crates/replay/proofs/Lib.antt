@@ -1,0 +1,4 @@
+pub mod CommandLemmas
+pub mod LineLemmas
+pub mod ReadingLemmas
+pub mod ReplayLemmas
