@@ -1,8 +1,9 @@
 //! The steps that record losses.
-ghost use Rattle.std.specs.Prelude.{◌≡◌, ◌<◌, ◌++◌, length};
-ghost use Rattle.sentry_parts.specs.LossWords.{Quiet, the_counters, recording_one, recording};
+ghost use Rattle.std.specs.Prelude.{◌≡◌, ℕ, ◌+◌, ◌<◌, ◌≤◌, true, ◌++◌, length, drop, slice_index};
+ghost use Rattle.sentry_parts.specs.LossWords.{Quiet, the_counters, recording_one, recording_from, recording};
 
 use crate::client_reports::part::{COUNTERS, PER_FLAG, Part};
+use sentry_base::protocol::{CATEGORIES, REASONS};
 
 // One add and one raise, if there is anything to add.
 fn record_one(part: &mut Part, counter: usize, quantity: u64)
@@ -18,13 +19,45 @@ fn record_one(part: &mut Part, counter: usize, quantity: u64)
     }
 }
 
+// Whether nothing is lost under any of nine indexes, without a branch for each.
+fn is_lossless(quantities: &[u64; COUNTERS], first: usize) -> bool
+    requires { first + 9 ≤ the_counters }
+    ensures { result ≡ true → (k : ℕ) → k < 9 → slice_index quantities.now (first + k) ≡ 0 }
+{
+    (quantities[first] == 0)
+        & (quantities[first + 1] == 0)
+        & (quantities[first + 2] == 0)
+        & (quantities[first + 3] == 0)
+        & (quantities[first + 4] == 0)
+        & (quantities[first + 5] == 0)
+        & (quantities[first + 6] == 0)
+        & (quantities[first + 7] == 0)
+        & (quantities[first + 8] == 0)
+}
+
+// The quantities of one category, which stand side by side.
+fn record_category(part: &mut Part, quantities: &[u64; COUNTERS], first: usize)
+    requires inside { first + 9 ≤ the_counters }
+    requires quiet { Quiet part.old.seat.me.0 }
+    ensures words { part.new.seat.table_id ≡ part.old.seat.table_id }
+    ensures steps { part.new.seat.me.0 ++ recording_from (first + 9) (drop (first + 9) quantities.now) ≡ part.old.seat.me.0 ++ recording_from first (drop first quantities.now) }
+    ensures quiet { Quiet part.new.seat.me.0 }
+{
+    if is_lossless(quantities, first) {
+        return;
+    }
+    for k in 0..REASONS {
+        record_one(part, first + k, quantities[first + k]);
+    }
+}
+
 pub(crate) fn record_all(part: &mut Part, quantities: &[u64; COUNTERS])
     requires { Quiet part.old.seat.me.0 }
     ensures words { part.new.seat.table_id ≡ part.old.seat.table_id }
     ensures steps { part.new.seat.me.0 ≡ part.old.seat.me.0 ++ recording quantities.now }
     ensures quiet { Quiet part.new.seat.me.0 }
 {
-    for i in 0..COUNTERS {
-        record_one(part, i, quantities[i]);
+    for category in 0..CATEGORIES {
+        record_category(part, quantities, category * REASONS);
     }
 }
