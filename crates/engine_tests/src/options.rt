@@ -1,5 +1,5 @@
 //! Options, and what an engine makes of them.
-use crate::support::{DSN, LABEL, fresh, options, scope};
+use crate::support::{DSN, LABEL, fresh, options, scope, unset};
 use sentry_base::plain::Text;
 use sentry_core::engine::{Call, Engine, Reply};
 use sentry_core::protocol::{ClientKey, Draw, Event, OrganizationId, Refusal, SampleRate};
@@ -83,106 +83,165 @@ fn is(text: &Option<Text>, expected: &str) -> bool {
     }
 }
 
+// The options that are set or not.
+fn names_nothing(options: &PlainOptions) -> bool {
+    options.dsn.is_none()
+        && options.org_id.is_none()
+        && options.release.is_none()
+        && options.environment.is_none()
+        && options.server_name.is_none()
+        && options.http_proxy.is_none()
+        && options.https_proxy.is_none()
+        && options.transport_channel_capacity.is_none()
+        && options.in_app_include.is_empty()
+        && options.in_app_exclude.is_empty()
+}
+
+// The options that are on or off.
+fn switches(options: &PlainOptions) -> [bool; 9] {
+    [
+        options.debug,
+        options.strict_trace_continuation,
+        options.attach_stacktrace,
+        options.send_default_pii,
+        options.default_integrations,
+        options.enable_logs,
+        options.enable_metrics,
+        options.accept_invalid_certs,
+        options.auto_session_tracking,
+    ]
+}
+
+// The rate at which events are kept, in millionths.
+fn event_rate(options: &PlainOptions) -> u32 {
+    let EventSamplingStrategy::FixedRate(rate) = options.event_sampling_strategy;
+    rate.millionths()
+}
+
 #[test]
 fn options_of_which_nothing_was_set(rt: HostRuntime) -> Result<(), Fail> {
-    let options = ClientOptions::new(rt.alloc());
-    assert!(rt; options.dsn.is_none());
-    assert!(rt; !options.debug);
-    assert!(rt; options.release.is_none() && options.environment.is_none());
-    assert!(rt; options.server_name.is_none() && options.org_id.is_none());
-    let EventSamplingStrategy::FixedRate(rate) = options.event_sampling_strategy;
-    assert_eq!(rt; rate.millionths(), 1000000);
-    assert!(rt;
-        matches!(
-            options.traces_sampling_strategy,
-            TracesSamplingStrategy::Disabled
-        )
-    );
-    assert!(rt; !options.strict_trace_continuation);
+    let options = PlainOptions::new(rt.alloc());
+    assert!(rt; names_nothing(&options));
+    let expected = [false, false, false, false, true, true, true, false, false];
+    assert_eq!(rt; switches(&options), expected);
+    assert_eq!(rt; event_rate(&options), 1000000);
     assert_eq!(rt; options.max_breadcrumbs, 100);
-    assert!(rt; !options.attach_stacktrace && !options.send_default_pii);
-    assert!(rt; options.in_app_include.is_empty() && options.in_app_exclude.is_empty());
-    assert!(rt; options.callbacks.integrations.is_empty() && options.default_integrations);
-    assert!(rt; options.callbacks.before_send.is_none());
-    assert!(rt; options.http_proxy.is_none() && options.https_proxy.is_none());
     assert_eq!(rt; options.shutdown_timeout, 2000000000);
     assert_eq!(rt; options.max_request_body_size, MaxRequestBodySize::Medium);
-    assert_eq!(rt; options.transport_channel_capacity, None);
-    assert!(rt; options.enable_logs && options.enable_metrics);
-    assert!(rt; !options.accept_invalid_certs && !options.auto_session_tracking);
     assert_eq!(rt; options.session_mode, SessionMode::Application);
     assert_eq!(rt; options.user_agent.as_str(), "sentry.rust/0.49.3");
     Ok(())
 }
 
 #[test]
-fn each_builder_sets_its_option(rt: HostRuntime) -> Result<(), Fail> {
-    let alloc = rt.alloc();
-    let options = ClientOptions::new(alloc)
+fn a_client_has_no_callbacks_at_first(rt: HostRuntime) -> Result<(), Fail> {
+    let options = unset(rt.alloc());
+    assert!(rt; names_nothing(&options));
+    assert!(rt;
+        matches!(
+            options.traces_sampling_strategy,
+            TracesSamplingStrategy::Disabled
+        )
+    );
+    assert!(rt; options.callbacks.integrations.is_empty());
+    assert!(rt; options.callbacks.before_send.is_none());
+    Ok(())
+}
+
+#[test]
+fn names_are_set(rt: HostRuntime) -> Result<(), Fail> {
+    let options = unset(rt.alloc())
         .dsn(DSN)?
-        .debug(true)
         .release("my-app@1.0")?
         .environment("production")?
-        .sample_rate(250000)?
-        .traces_sample_rate(0)?
-        .org_id(OrganizationId(42))
-        .strict_trace_continuation(true)
-        .max_breadcrumbs(2)
-        .attach_stacktrace(true)
-        .send_default_pii(true)
-        .server_name("host")?
-        .in_app_include(&["my_app", "my_lib"])?
-        .in_app_exclude(&["vendored"])?
-        .default_integrations(false)
+        .server_name("host")?;
+    assert!(rt; options.dsn.as_ref().is_some_and(|dsn| dsn.text() == DSN));
+    assert!(rt; is(&options.release, "my-app@1.0"));
+    assert!(rt; is(&options.environment, "production"));
+    assert!(rt; is(&options.server_name, "host"));
+    Ok(())
+}
+
+#[test]
+fn ways_to_the_server_are_set(rt: HostRuntime) -> Result<(), Fail> {
+    let options = unset(rt.alloc())
         .http_proxy("http://proxy")?
         .https_proxy("https://proxy")?
-        .shutdown_timeout(5)
-        .max_request_body_size(MaxRequestBodySize::Always)
-        .transport_channel_capacity(42)
-        .enable_logs(false)
-        .enable_metrics(false)
-        .accept_invalid_certs(true)
-        .auto_session_tracking(true)
-        .session_mode(SessionMode::Request)
         .user_agent("my-agent/1")?;
     let options = options.clone()?;
-    let dsn = options.dsn.as_ref().ok_or("no DSN")?;
-    assert_eq!(rt; dsn.text(), DSN);
-    assert!(rt; options.debug);
-    assert!(rt; is(&options.release, "my-app@1.0") && is(&options.environment, "production"));
-    let EventSamplingStrategy::FixedRate(rate) = options.event_sampling_strategy;
-    assert_eq!(rt; rate.millionths(), 250000);
-    let TracesSamplingStrategy::FixedRate(rate) = &options.traces_sampling_strategy else {
-        return Err("no rate".into());
-    };
-    assert_eq!(rt; rate.millionths(), 0);
-    assert_eq!(rt; options.org_id, Some(OrganizationId(42)));
-    assert!(rt; options.strict_trace_continuation);
-    assert_eq!(rt; options.max_breadcrumbs, 2);
-    assert!(rt; options.attach_stacktrace && options.send_default_pii);
-    assert!(rt; is(&options.server_name, "host"));
-    let [first, second] = options.in_app_include.as_slice() else {
-        return Err("other prefixes".into());
-    };
-    assert_eq!(rt; first.as_str(), "my_app");
-    assert_eq!(rt; second.as_str(), "my_lib");
-    assert_eq!(rt; options.in_app_exclude.len(), 1);
-    assert!(rt; !options.default_integrations);
     assert!(rt; is(&options.http_proxy, "http://proxy"));
     assert!(rt; is(&options.https_proxy, "https://proxy"));
-    assert_eq!(rt; options.shutdown_timeout, 5);
-    assert_eq!(rt; options.max_request_body_size, MaxRequestBodySize::Always);
-    assert_eq!(rt; options.transport_channel_capacity, NonZeroUsize::new(42));
-    assert!(rt; !options.enable_logs && !options.enable_metrics);
-    assert!(rt; options.accept_invalid_certs && options.auto_session_tracking);
-    assert_eq!(rt; options.session_mode, SessionMode::Request);
     assert_eq!(rt; options.user_agent.as_str(), "my-agent/1");
     Ok(())
 }
 
 #[test]
+fn prefixes_of_modules_are_set(rt: HostRuntime) -> Result<(), Fail> {
+    let options = unset(rt.alloc())
+        .in_app_include(&["old"])?
+        .in_app_include(&["my_app", "my_lib"])?
+        .in_app_exclude(&["vendored"])?;
+    let [first, second] = options.in_app_include.as_slice() else {
+        return Err("other prefixes".into());
+    };
+    assert_eq!(rt; first.as_str(), "my_app");
+    assert_eq!(rt; second.as_str(), "my_lib");
+    let [excluded] = options.in_app_exclude.as_slice() else {
+        return Err("other prefixes".into());
+    };
+    assert_eq!(rt; excluded.as_str(), "vendored");
+    Ok(())
+}
+
+#[test]
+fn switches_are_turned(rt: HostRuntime) -> Result<(), Fail> {
+    let options = unset(rt.alloc())
+        .debug(true)
+        .strict_trace_continuation(true)
+        .attach_stacktrace(true)
+        .send_default_pii(true)
+        .default_integrations(false)
+        .enable_logs(false)
+        .enable_metrics(false)
+        .accept_invalid_certs(true)
+        .auto_session_tracking(true);
+    let expected = [true, true, true, true, false, false, false, true, true];
+    assert_eq!(rt; switches(&options), expected);
+    Ok(())
+}
+
+#[test]
+fn numbers_and_choices_are_set(rt: HostRuntime) -> Result<(), Fail> {
+    let options = unset(rt.alloc())
+        .org_id(OrganizationId(42))
+        .max_breadcrumbs(2)
+        .shutdown_timeout(5)
+        .max_request_body_size(MaxRequestBodySize::Always)
+        .session_mode(SessionMode::Request);
+    assert_eq!(rt; options.org_id, Some(OrganizationId(42)));
+    assert_eq!(rt; options.max_breadcrumbs, 2);
+    assert_eq!(rt; options.shutdown_timeout, 5);
+    assert_eq!(rt; options.max_request_body_size, MaxRequestBodySize::Always);
+    assert_eq!(rt; options.session_mode, SessionMode::Request);
+    Ok(())
+}
+
+#[test]
+fn rates_are_set(rt: HostRuntime) -> Result<(), Fail> {
+    let options = unset(rt.alloc())
+        .sample_rate(250000)?
+        .traces_sample_rate(0)?;
+    assert_eq!(rt; event_rate(&options), 250000);
+    let TracesSamplingStrategy::FixedRate(rate) = &options.traces_sampling_strategy else {
+        return Err("no rate".into());
+    };
+    assert_eq!(rt; rate.millionths(), 0);
+    Ok(())
+}
+
+#[test]
 fn a_release_that_is_not_there_changes_nothing(rt: HostRuntime) -> Result<(), Fail> {
-    let options = ClientOptions::new(rt.alloc()).maybe_release(Some("app@1"))?;
+    let options = unset(rt.alloc()).maybe_release(Some("app@1"))?;
     assert!(rt; is(&options.release, "app@1"));
     let options = options.maybe_release(None)?;
     assert!(rt; is(&options.release, "app@1"));
@@ -192,12 +251,12 @@ fn a_release_that_is_not_there_changes_nothing(rt: HostRuntime) -> Result<(), Fa
 #[test]
 fn the_least_capacity_of_the_channel_is_one(rt: HostRuntime) -> Result<(), Fail> {
     let alloc = rt.alloc();
-    let capacity = |n: usize| ClientOptions::new(alloc)
-        .transport_channel_capacity(n)
-        .transport_channel_capacity;
-    assert_eq!(rt; capacity(42), NonZeroUsize::new(42));
-    assert_eq!(rt; capacity(1), Some(NonZeroUsize::MIN));
-    assert_eq!(rt; capacity(0), Some(NonZeroUsize::MIN));
+    let some = unset(alloc).transport_channel_capacity(42);
+    assert_eq!(rt; some.transport_channel_capacity, NonZeroUsize::new(42));
+    let one = unset(alloc).transport_channel_capacity(1);
+    assert_eq!(rt; one.transport_channel_capacity, Some(NonZeroUsize::MIN));
+    let zero = unset(alloc).transport_channel_capacity(0);
+    assert_eq!(rt; zero.transport_channel_capacity, Some(NonZeroUsize::MIN));
     Ok(())
 }
 
@@ -221,15 +280,11 @@ fn bodies_of_requests_are_limited(rt: HostRuntime) -> Result<(), Fail> {
 #[test]
 fn rates_above_a_million_are_refused(rt: HostRuntime) -> Result<(), Fail> {
     let alloc = rt.alloc();
-    assert!(rt; ClientOptions::new(alloc).sample_rate(1000000).is_ok());
-    assert!(rt;
-        ClientOptions::new(alloc)
-            .traces_sample_rate(1000000)
-            .is_ok()
-    );
-    let events = ClientOptions::new(alloc).sample_rate(1000001).err();
+    assert!(rt; unset(alloc).sample_rate(1000000).is_ok());
+    assert!(rt; unset(alloc).traces_sample_rate(1000000).is_ok());
+    let events = unset(alloc).sample_rate(1000001).err();
     assert_eq!(rt; events, Some(Refusal::InvalidRate));
-    let traces = ClientOptions::new(alloc).traces_sample_rate(1000001).err();
+    let traces = unset(alloc).traces_sample_rate(1000001).err();
     assert_eq!(rt; traces, Some(Refusal::InvalidRate));
     Ok(())
 }
@@ -265,7 +320,7 @@ fn texts_that_are_no_dsn_are_refused(rt: HostRuntime) -> Result<(), Fail> {
         ),
     ];
     for (text, cause) in examples {
-        let refusal = ClientOptions::new(alloc).dsn(text).err();
+        let refusal = unset(alloc).dsn(text).err();
         assert_eq!(rt; refusal, Some(Refusal::InvalidDsn(cause)));
     }
     let refusal = ClientOptions::from_dsn(alloc, "https://sentry.invalid/1").err();
@@ -295,22 +350,34 @@ fn boxed_silences(alloc: Global) -> Result<BoxedIntegration, AllocError> {
 }
 
 #[test]
-fn a_client_without_a_dsn_or_a_transport_is_disabled(rt: HostRuntime) -> Result<(), Fail> {
+fn a_client_with_a_dsn_and_a_transport_is_enabled(rt: HostRuntime) -> Result<(), Fail> {
     let alloc = rt.alloc();
     let mut engine = Engine::new(alloc, 0);
-    let enabled = engine.add_client(options(alloc)?, true, LABEL, 0)?.reply;
-    assert!(rt; engine.is_enabled(enabled)?.reply);
-    let without_transport = engine.add_client(options(alloc)?, false, LABEL, 0)?.reply;
-    assert!(rt; !engine.is_enabled(without_transport)?.reply);
-    let without_dsn = engine
-        .add_client(ClientOptions::new(alloc), true, LABEL, 0)?
-        .reply;
-    assert!(rt; !engine.is_enabled(without_dsn)?.reply);
-    let hub = engine.new_hub(Some(without_dsn), scope(alloc))?.reply;
-    let out = engine.capture_message(hub, "m", Level::Error, fresh(1)?)?;
-    assert!(rt; out.reply.is_nil() && out.sent.is_empty());
+    let client = engine.add_client(options(alloc)?, true, LABEL, 0)?.reply;
+    assert!(rt; engine.is_enabled(client)?.reply);
     let unknown = ClientKey { tag: 0, number: 9 };
     assert_eq!(rt; engine.is_enabled(unknown).err(), Some(Refusal::Stale));
+    Ok(())
+}
+
+#[test]
+fn a_client_without_a_transport_is_disabled(rt: HostRuntime) -> Result<(), Fail> {
+    let alloc = rt.alloc();
+    let mut engine = Engine::new(alloc, 0);
+    let client = engine.add_client(options(alloc)?, false, LABEL, 0)?.reply;
+    assert!(rt; !engine.is_enabled(client)?.reply);
+    Ok(())
+}
+
+#[test]
+fn a_client_without_a_dsn_is_disabled(rt: HostRuntime) -> Result<(), Fail> {
+    let alloc = rt.alloc();
+    let mut engine = Engine::new(alloc, 0);
+    let client = engine.add_client(unset(alloc), true, LABEL, 0)?.reply;
+    assert!(rt; !engine.is_enabled(client)?.reply);
+    let hub = engine.new_hub(Some(client), scope(alloc))?.reply;
+    let out = engine.capture_message(hub, "m", Level::Error, fresh(1)?)?;
+    assert!(rt; out.reply.is_nil() && out.sent.is_empty());
     Ok(())
 }
 
@@ -319,7 +386,7 @@ fn a_dsn_of_set_up_opens_no_slot(rt: HostRuntime) -> Result<(), Fail> {
     let alloc = rt.alloc();
     let dsn = Dsn::parse(alloc, DSN)?;
     let directs: BoxedIntegration = Box::new(alloc, Directs { dsn })?;
-    let options = ClientOptions::new(alloc).add_integration(directs)?;
+    let options = unset(alloc).add_integration(directs)?;
     let mut engine = Engine::new(alloc, 0);
     let client = engine.add_client(options, true, LABEL, 0)?.reply;
     assert!(rt; engine.dsn(client)?.reply.is_some());
@@ -363,24 +430,40 @@ fn a_clients_options_are_read_as_its_own(rt: HostRuntime) -> Result<(), Fail> {
 }
 
 #[test]
-fn calls_that_read_a_client(rt: HostRuntime) -> Result<(), Fail> {
+fn calls_that_share_what_a_client_has(rt: HostRuntime) -> Result<(), Fail> {
     let alloc = rt.alloc();
     let mut engine = Engine::new(alloc, 0);
     let client = engine.add_client(options(alloc)?, true, LABEL, 0)?.reply;
-    let Reply::Options(held) = engine.apply(Call::Options(client))?.reply else {
+    let out = engine.apply(Call::Options(client))?;
+    let Reply::Options(held) = &out.reply else {
         return Err("no options".into());
     };
     assert_eq!(rt; held.max_breadcrumbs, 100);
-    let Reply::Dsn(Some(dsn)) = engine.apply(Call::Dsn(client))?.reply else {
+    let out = engine.apply(Call::Dsn(client))?;
+    let Reply::Dsn(Some(dsn)) = &out.reply else {
         return Err("no DSN".into());
     };
     assert_eq!(rt; dsn.text(), DSN);
+    Ok(())
+}
+
+#[test]
+fn calls_that_decide(rt: HostRuntime) -> Result<(), Fail> {
+    let alloc = rt.alloc();
+    let mut engine = Engine::new(alloc, 0);
+    let client = engine.add_client(options(alloc)?, true, LABEL, 0)?.reply;
     let enabled = engine.apply(Call::IsEnabled(client))?.reply;
     assert!(rt; matches!(enabled, Reply::Decision(true)));
     let rate = SampleRate::new(300000)?;
     let draw = Draw::new(300000).ok_or("no draw")?;
     let sampled = engine.apply(Call::SampleShouldSend(rate, draw))?.reply;
     assert!(rt; matches!(sampled, Reply::Decision(false)));
+    Ok(())
+}
+
+#[test]
+fn calls_on_a_client_that_is_not_held_are_refused(rt: HostRuntime) -> Result<(), Fail> {
+    let mut engine = Engine::new(rt.alloc(), 0);
     let unknown = ClientKey { tag: 1, number: 0 };
     assert_eq!(rt;
         engine.apply(Call::Options(unknown)).err(),
@@ -388,6 +471,10 @@ fn calls_that_read_a_client(rt: HostRuntime) -> Result<(), Fail> {
     );
     assert_eq!(rt;
         engine.apply(Call::Dsn(unknown)).err(),
+        Some(Refusal::Stale)
+    );
+    assert_eq!(rt;
+        engine.apply(Call::IsEnabled(unknown)).err(),
         Some(Refusal::Stale)
     );
     Ok(())

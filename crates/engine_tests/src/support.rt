@@ -149,6 +149,11 @@ impl Integration for Starves {
 /// Where the clients of the examples send to.
 pub const DSN: &str = "https://public@sentry.invalid/1";
 
+/// Options of which nothing is set.
+pub fn unset(alloc: Global) -> ClientOptions {
+    ClientOptions::new(alloc)
+}
+
 /// Options with a DSN, and nothing else set.
 pub fn options(alloc: Global) -> Result<ClientOptions, Refusal> {
     ClientOptions::from_dsn(alloc, DSN)
