@@ -1,7 +1,7 @@
 //! What becomes of captured events.
 use crate::support::{
     Adds, Drops, Hides, LABEL, Multiplies, Starves, WantsMemory, add_client_and_hub, fresh, id,
-    only_event, options, scope, with_before_send, with_integration,
+    only_event, options, scope,
 };
 use sentry_base::plain::Text;
 use sentry_core::engine::Engine;
@@ -13,7 +13,7 @@ use std::test::Fail;
 fn a_message_goes_out_with_the_tags_of_its_hub(rt: HostRuntime) -> Result<(), Fail> {
     let alloc = rt.alloc();
     let mut engine = Engine::new(alloc, 0);
-    let (_, hub) = add_client_and_hub(&mut engine, alloc, options(alloc))?;
+    let (_, hub) = add_client_and_hub(&mut engine, alloc, options(alloc)?)?;
     let edit = ScopeEdit::SetTag(Text::new(alloc, "os")?, Text::new(alloc, "linux")?);
     engine.configure(hub, vec![in alloc; edit]?, 2)?;
     let out = engine.capture_message(hub, "hello world", Level::Info, fresh(4)?)?;
@@ -34,9 +34,9 @@ fn callbacks_run_in_order(rt: HostRuntime) -> Result<(), Fail> {
     let callback: BoxedEventCallback = Box::new(alloc, Adds(100))?;
     let first: BoxedIntegration = Box::new(alloc, Multiplies(3))?;
     let second: BoxedIntegration = Box::new(alloc, Multiplies(5))?;
-    let options = with_before_send(alloc, options(alloc), callback)?;
-    let options = with_integration(alloc, options, first)?;
-    let options = with_integration(alloc, options, second)?;
+    let options = options(alloc)?.before_send(callback)?;
+    let options = options.add_integration(first)?;
+    let options = options.add_integration(second)?;
     let mut engine = Engine::new(alloc, 0);
     let (_, hub) = add_client_and_hub(&mut engine, alloc, options)?;
     let processor: BoxedEventCallback = Box::new(alloc, Adds(7))?;
@@ -58,8 +58,8 @@ fn what_drops_an_event_stops_what_follows(rt: HostRuntime) -> Result<(), Fail> {
     let alloc = rt.alloc();
     let starves: BoxedIntegration = Box::new(alloc, Starves)?;
     let before_send: BoxedEventCallback = Box::new(alloc, WantsMemory)?;
-    let options = with_before_send(alloc, options(alloc), before_send)?;
-    let options = with_integration(alloc, options, starves)?;
+    let options = options(alloc)?.before_send(before_send)?;
+    let options = options.add_integration(starves)?;
     let mut engine = Engine::new(alloc, 0);
     let (_, hub) = add_client_and_hub(&mut engine, alloc, options)?;
     let drops: BoxedEventCallback = Box::new(alloc, Drops)?;
@@ -82,9 +82,9 @@ fn an_integration_drops_before_the_next_one_and_before_send(rt: HostRuntime) -> 
     let hides: BoxedIntegration = Box::new(alloc, Hides)?;
     let starves: BoxedIntegration = Box::new(alloc, Starves)?;
     let before_send: BoxedEventCallback = Box::new(alloc, WantsMemory)?;
-    let options = with_before_send(alloc, options(alloc), before_send)?;
-    let options = with_integration(alloc, options, hides)?;
-    let options = with_integration(alloc, options, starves)?;
+    let options = options(alloc)?.before_send(before_send)?;
+    let options = options.add_integration(hides)?;
+    let options = options.add_integration(starves)?;
     let mut engine = Engine::new(alloc, 0);
     let (_, hub) = add_client_and_hub(&mut engine, alloc, options)?;
     let out = engine.capture_message(hub, "m", Level::Error, fresh(1)?)?;
@@ -97,7 +97,7 @@ fn an_integration_drops_before_the_next_one_and_before_send(rt: HostRuntime) -> 
 fn before_send_drops(rt: HostRuntime) -> Result<(), Fail> {
     let alloc = rt.alloc();
     let before_send: BoxedEventCallback = Box::new(alloc, Drops)?;
-    let options = with_before_send(alloc, options(alloc), before_send)?;
+    let options = options(alloc)?.before_send(before_send)?;
     let mut engine = Engine::new(alloc, 0);
     let (_, hub) = add_client_and_hub(&mut engine, alloc, options)?;
     let out = engine.capture_message(hub, "m", Level::Error, fresh(1)?)?;
@@ -123,7 +123,7 @@ fn a_hub_without_a_client_captures_nothing(rt: HostRuntime) -> Result<(), Fail> 
 fn without_a_transport_nothing_runs(rt: HostRuntime) -> Result<(), Fail> {
     let alloc = rt.alloc();
     let before_send: BoxedEventCallback = Box::new(alloc, WantsMemory)?;
-    let options = with_before_send(alloc, options(alloc), before_send)?;
+    let options = options(alloc)?.before_send(before_send)?;
     let mut engine = Engine::new(alloc, 0);
     let client = engine.add_client(options, false, LABEL, 0)?.reply;
     let hub = engine.new_hub(Some(client), scope(alloc))?.reply;
@@ -137,12 +137,12 @@ fn without_a_transport_nothing_runs(rt: HostRuntime) -> Result<(), Fail> {
 #[test]
 fn an_event_is_filled_where_it_lacks_something(rt: HostRuntime) -> Result<(), Fail> {
     let alloc = rt.alloc();
-    let mut options = options(alloc);
-    options.plain.release = Some(Text::new(alloc, "app@1")?);
-    options.plain.environment = Some(Text::new(alloc, "production")?);
-    options.plain.server_name = Some(Text::new(alloc, "host")?);
+    let options = options(alloc)?
+        .release("app@1")?
+        .environment("production")?
+        .server_name("host")?;
     let multiplies: BoxedIntegration = Box::new(alloc, Multiplies(1))?;
-    let options = with_integration(alloc, options, multiplies)?;
+    let options = options.add_integration(multiplies)?;
     let mut engine = Engine::new(alloc, 0);
     let (_, hub) = add_client_and_hub(&mut engine, alloc, options)?;
     let mut event = Event::new(alloc, Uuid::nil(), 1)?;
@@ -173,7 +173,7 @@ fn an_event_is_filled_where_it_lacks_something(rt: HostRuntime) -> Result<(), Fa
 fn the_scope_wins(rt: HostRuntime) -> Result<(), Fail> {
     let alloc = rt.alloc();
     let mut engine = Engine::new(alloc, 0);
-    let (_, hub) = add_client_and_hub(&mut engine, alloc, options(alloc))?;
+    let (_, hub) = add_client_and_hub(&mut engine, alloc, options(alloc)?)?;
     let edits = vec![in alloc;
         ScopeEdit::SetLevel(Some(Level::Fatal)),
         ScopeEdit::SetTag(Text::new(alloc, "a")?, Text::new(alloc, "scope")?),
@@ -199,13 +199,12 @@ fn the_scope_wins(rt: HostRuntime) -> Result<(), Fail> {
 #[test]
 fn set_up_changes_the_options(rt: HostRuntime) -> Result<(), Fail> {
     let alloc = rt.alloc();
-    let mut options = options(alloc);
-    options.plain.release = Some(Text::new(alloc, "app@1")?);
+    let options = options(alloc)?.release("app@1")?;
     let hides: BoxedIntegration = Box::new(alloc, Hides)?;
-    let options = with_integration(alloc, options, hides)?;
+    let options = options.add_integration(hides)?;
     let mut engine = Engine::new(alloc, 0);
     let (client, _) = add_client_and_hub(&mut engine, alloc, options)?;
     let held = engine.clients.get(client.number).ok_or("no client")?;
-    assert!(rt; held.options.get().plain.release.is_none());
+    assert!(rt; held.options.release.is_none());
     Ok(())
 }

@@ -1,7 +1,5 @@
 //! When calls are refused, and that a refused call changed nothing.
-use crate::support::{
-    LABEL, WantsMemory, add_client_and_hub, fresh, id, options, scope, with_before_send,
-};
+use crate::support::{LABEL, WantsMemory, add_client_and_hub, fresh, id, options, scope};
 use sentry_core::engine::Engine;
 use sentry_core::protocol::{ClientKey, Event, HubKey, Label, Refusal};
 use sentry_core::{BoxedEventCallback, Level, ScopeEdit};
@@ -52,7 +50,7 @@ fn add_client_and_hub_of(
     alloc: std::alloc::Global,
 ) -> Result<(ClientKey, HubKey), Fail> {
     let label = Label { tag, number: 0 };
-    let client = engine.add_client(options(alloc), true, label, 0)?.reply;
+    let client = engine.add_client(options(alloc)?, true, label, 0)?.reply;
     let hub = engine.new_hub(Some(client), scope(alloc))?.reply;
     Ok((client, hub))
 }
@@ -66,10 +64,10 @@ fn numbers_are_used_up(rt: HostRuntime) -> Result<(), Fail> {
         engine.new_hub(none, scope(alloc)).err(),
         Some(Refusal::Stale)
     );
-    let client = engine.add_client(options(alloc), true, LABEL, 0)?.reply;
+    let client = engine.add_client(options(alloc)?, true, LABEL, 0)?.reply;
     assert_eq!(rt; client.number, u64::MAX - 1);
     assert_eq!(rt;
-        engine.add_client(options(alloc), true, LABEL, 0).err(),
+        engine.add_client(options(alloc)?, true, LABEL, 0).err(),
         Some(Refusal::Full)
     );
     let hub = engine.new_hub(Some(client), scope(alloc))?.reply;
@@ -80,7 +78,7 @@ fn numbers_are_used_up(rt: HostRuntime) -> Result<(), Fail> {
     );
     let foreign = Label { tag: 1, number: 0 };
     assert_eq!(rt;
-        engine.add_client(options(alloc), true, foreign, 0).err(),
+        engine.add_client(options(alloc)?, true, foreign, 0).err(),
         Some(Refusal::ForeignLosses)
     );
     Ok(())
@@ -92,10 +90,10 @@ fn a_label_of_another_engine_is_refused(rt: HostRuntime) -> Result<(), Fail> {
     let mut engine = Engine::new(alloc, 0);
     let foreign = Label { tag: 1, number: 0 };
     assert_eq!(rt;
-        engine.add_client(options(alloc), true, foreign, 0).err(),
+        engine.add_client(options(alloc)?, true, foreign, 0).err(),
         Some(Refusal::ForeignLosses)
     );
-    let client = engine.add_client(options(alloc), true, LABEL, 0)?.reply;
+    let client = engine.add_client(options(alloc)?, true, LABEL, 0)?.reply;
     assert_eq!(rt; client.number, 0);
     Ok(())
 }
@@ -104,7 +102,7 @@ fn a_label_of_another_engine_is_refused(rt: HostRuntime) -> Result<(), Fail> {
 fn want_of_memory_changes_nothing(rt: HostRuntime) -> Result<(), Fail> {
     let alloc = rt.alloc();
     let wants: BoxedEventCallback = Box::new(alloc, WantsMemory)?;
-    let options = with_before_send(alloc, options(alloc), wants)?;
+    let options = options(alloc)?.before_send(wants)?;
     let mut engine = Engine::new(alloc, 0);
     let (_, hub) = add_client_and_hub(&mut engine, alloc, options)?;
     assert_eq!(rt;

@@ -1,13 +1,10 @@
 //! What the worked examples share: callbacks, options, and an engine with one client and one hub.
-use sentry_base::plain::{Items, Shared};
+use sentry_base::plain::Items;
 use sentry_core::engine::Engine;
 use sentry_core::protocol::{
-    ClientKey, Draw, EnvelopeItem, Event, Fresh, HubKey, Label, SpanId, TraceId, Uuid,
+    ClientKey, Draw, EnvelopeItem, Event, Fresh, HubKey, Label, Refusal, SpanId, TraceId, Uuid,
 };
-use sentry_core::{
-    BoxedEventCallback, BoxedIntegration, ClientCallbacks, ClientOptions, Envelope, EventCallback,
-    Integration, Scope,
-};
+use sentry_core::{ClientOptions, Envelope, EventCallback, Integration, Scope};
 use sentry_state::clientoptions::PlainOptions;
 use std::alloc::{AllocError, Global};
 use std::test::Fail;
@@ -149,42 +146,12 @@ impl Integration for Starves {
     }
 }
 
-/// Options with nothing set.
-pub fn options(alloc: Global) -> ClientOptions {
-    ClientOptions {
-        plain: PlainOptions {
-            release: None,
-            environment: None,
-            server_name: None,
-        },
-        callbacks: ClientCallbacks {
-            integrations: Items::new(alloc),
-            before_send: None,
-        },
-    }
-}
+/// Where the clients of the examples send to.
+pub const DSN: &str = "https://public@sentry.invalid/1";
 
-/// The options with this `before_send`.
-pub fn with_before_send(
-    alloc: Global,
-    options: ClientOptions,
-    callback: BoxedEventCallback,
-) -> Result<ClientOptions, AllocError> {
-    let mut options = options;
-    options.callbacks.before_send = Some(Shared::new(alloc, callback)?);
-    Ok(options)
-}
-
-/// The options with one more integration.
-pub fn with_integration(
-    alloc: Global,
-    options: ClientOptions,
-    integration: BoxedIntegration,
-) -> Result<ClientOptions, AllocError> {
-    let mut options = options;
-    let share = Shared::new(alloc, integration)?;
-    options.callbacks.integrations.push(share)?;
-    Ok(options)
+/// Options with a DSN, and nothing else set.
+pub fn options(alloc: Global) -> Result<ClientOptions, Refusal> {
+    ClientOptions::from_dsn(alloc, DSN)
 }
 
 /// The label that clients of the examples have.

@@ -1,5 +1,5 @@
 -- Trace texts: where the dash stands that ends an id.
-use Rattle.std.proofs.Common.{◌≡◌, ◌≢◌, ◌⊎◌, refl, sym, ap, subst, ◌∙◌, inl, inr, ℕ, suc, zero, ◌+◌, ◌<◌, true, false, true≢false, List, [], ◌∷◌, ◌++◌, length, get_or, length-append, arith, rules}
+use Rattle.std.proofs.Common.{◌≡◌, ◌≢◌, ◌⊎◌, refl, sym, ap, subst, ◌∙◌, inl, inr, ℕ, suc, ◌<◌, true, true≢false, List, [], ◌∷◌, ◌++◌, length, get_or, length-append, arith}
 use Rattle.std.specs.Prelude.{Option, Some, None, IsOk, Result, Ok, Err, option_map}
 use Rattle.std.specs.Result.{result_ok}
 use Rattle.std.proofs.lemmas.List.Elements.{All-get_or}
@@ -8,13 +8,13 @@ use Rattle.std.proofs.Math.Seq.{get_or-append_seam}
 use Rattle.hex.specs.Hex.{decode_sized, is_hex_digit}
 use Rattle.hex.specs.declared.error.FromHexError.{FromHexError}
 use Rattle.hex.proofs.HexLemmas.{IsOk-decode_sized}
-use Rattle.sentry_base.specs.declared.headers.SentryTrace.{SentryTrace}
+use Rattle.sentry_base.specs.declared.headers.trace_text.SentryTrace.{SentryTrace}
 use Rattle.sentry_base.specs.declared.protocol.ids.SpanId.{SpanId}
 use Rattle.sentry_base.specs.declared.protocol.ids.TraceId.{TraceId}
 use Rattle.sentry_base.specs.Ids.{trace_id_of, span_id_of}
 use Rattle.sentry_base.specs.Readings.{IsReading}
 use Rattle.sentry_base.specs.Texts.{Bytes}
-use Rattle.sentry_base.specs.TraceTexts.{dash, sampling_of, with_span, HasTwoParts, HasThreeParts, HasParts}
+use Rattle.sentry_base.specs.TraceTexts.{dash, sampling_of, with_span, HasParts}
 
 abbrev pub NoDash : Bytes → Type 0
 NoDash text = (i : ℕ) → i < length text → get_or text i 0 ≢ 45

@@ -14,5 +14,9 @@ pub mod Ids
 pub mod DsnTexts
 pub mod TraceTexts
 pub mod Readings
+pub mod HeaderLists
+pub mod TraceHeaders
+pub mod UtilityTexts
 pub mod Losses
 pub mod RecordLosses
+pub mod ErrorEvents

@@ -1,8 +1,8 @@
 -- What a trace text says, and how one is printed: a trace id, the id of a span in it, and perhaps whether the trace is sampled.
-use Rattle.std.specs.Prelude.{◌≡◌, ◌⊎◌, ℕ, Bool, true, false, List, [], ◌∷◌, ◌++◌, codes, bytes_eq, Option, Some, None, option_map, if◌then◌else◌}
+use Rattle.std.specs.Prelude.{◌≡◌, ◌⊎◌, ℕ, Bool, true, false, [], ◌∷◌, ◌++◌, codes, bytes_eq, Option, Some, None, option_map, if◌then◌else◌}
 use Rattle.std.specs.Str.{trim}
 use Rattle.hex.specs.Hex.{encode_lower}
-use Rattle.sentry_base.specs.declared.headers.SentryTrace.{SentryTrace}
+use Rattle.sentry_base.specs.declared.headers.trace_text.SentryTrace.{SentryTrace}
 use Rattle.sentry_base.specs.declared.protocol.ids.SpanId.{SpanId}
 use Rattle.sentry_base.specs.declared.protocol.ids.TraceId.{TraceId}
 use Rattle.sentry_base.specs.Ids.{trace_id_of, span_id_of}

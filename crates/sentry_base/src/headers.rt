@@ -1,51 +1,211 @@
 //! Headers that carry a trace from one service to the next.
-ghost use Rattle.std.specs.Prelude.{◌≡◌};
-ghost use Rattle.sentry_base.specs.Ids.{span_id_of};
-ghost use Rattle.sentry_base.specs.Readings.{IsReading};
-ghost use Rattle.sentry_base.specs.TraceTexts.{IsTraceText, sampling_of, with_span};
+ghost use Rattle.std.specs.Prelude.{◌≡◌, ◌∷◌, ◌++◌, [], List, map, Some, None, Result, Ok, IfOk, string_bytes};
+ghost use Rattle.std.specs.Iterator.{IsFiniteIterable, Drains};
+ghost use Rattle.sentry_base.specs.HeaderLists.{Header, HeadersSay, SayTrace, GiveContext, GiveTrace, header_of, trace_of};
+ghost use Rattle.sentry_base.specs.Texts.{Bytes};
+ghost use Rattle.sentry_base.specs.TraceHeaders.{trace_header};
+ghost use Rattle.sentry_base.specs.TraceTexts.{trace_text};
 
+mod baggage;
+#[cfg(test)]
+mod tests;
+mod trace_headers;
+mod trace_text;
+
+use crate::headers::baggage::read_organization;
 use crate::protocol::{OrganizationId, SpanId, TraceId};
+use std::alloc::{AllocError, Global};
+use std::fmt;
+pub use trace_headers::{TraceHeader, TraceHeadersIter};
+pub use trace_text::SentryTrace;
 
-/// What a `sentry-trace` header says.
+const SENTRY_TRACE: &str = "sentry-trace";
+
+const BAGGAGE: &str = "baggage";
+
+/// What continues a trace that came in with a request.
 #[derive(Clone, Copy, Debug, PartialEq)]
-pub struct SentryTrace {
-    trace_id: TraceId,
-    span_id: SpanId,
-    sampled: Option<bool>,
+pub struct TracePropagationContext {
+    /// The trace.
+    pub trace_id: TraceId,
+    /// The span that the request came from.
+    pub span_id: SpanId,
+    /// Whether the trace is sampled, where that is decided.
+    pub sampled: Option<bool>,
+    /// The organization that sent the request, where it is known.
+    pub org_id: Option<OrganizationId>,
 }
 
-impl SentryTrace {
-    /// Reads the value of a `sentry-trace` header, or none where it is no trace text.
-    fn parse(value: &str) -> Option<SentryTrace>
-        ensures { IsReading IsTraceText value.now result }
+/// Why headers continue no trace.
+#[derive(Clone, Copy, Debug, PartialEq, Eq)]
+pub enum HeaderParseError {
+    /// There is no `sentry-trace` header.
+    Missing,
+    /// There are `sentry-trace` headers, and none of them is valid.
+    Invalid,
+}
+
+impl fmt::Display for HeaderParseError {
+    ghost use Rattle.std.specs.Prelude.{Some};
+    ghost use Rattle.sentry_base.specs.HeaderLists.{error_text};
+
+    ghost output = { λ error. Some (error_text error) };
+
+    fn fmt<W: fmt::Write>(&self, f: &mut fmt::Formatter<W>) -> fmt::Result {
+        f.write_str(match self {
+            HeaderParseError::Missing => "missing sentry-trace header",
+            HeaderParseError::Invalid => "invalid sentry-trace header",
+        })
+    }
+}
+
+impl std::error::Error for HeaderParseError {}
+
+/// What the headers so far say.
+#[derive(Clone, Copy)]
+struct Reading {
+    trace: Result<SentryTrace, HeaderParseError>,
+    org_id: Option<OrganizationId>,
+}
+
+impl Reading {
+    fn new() -> Reading
+        ensures { HeadersSay [] result.trace result.org_id }
     {
-        let (first, rest) = value.trim().split_once('-')?;
-        let trace_id = TraceId::parse(first)?;
-        match rest.split_once('-') {
-            Some((second, third)) => with_span(trace_id, second, sampling_of(third)),
-            None => with_span(trace_id, rest, None),
+        Reading {
+            trace: Err(HeaderParseError::Missing),
+            org_id: None,
+        }
+    }
+
+    /// What they say with one more header.
+    fn after(self, name: &str, value: &str) -> Reading
+        ensures { (headers : List Header) → HeadersSay headers self.trace self.org_id → HeadersSay (headers ++ (name.now, value.now) ∷ []) result.trace result.org_id }
+    {
+        if name.eq_ignore_ascii_case(SENTRY_TRACE) {
+            return Reading {
+                trace: read_trace(self.trace, value),
+                org_id: self.org_id,
+            };
+        }
+        if name.eq_ignore_ascii_case(BAGGAGE) {
+            return Reading {
+                trace: self.trace,
+                org_id: read_organization(self.org_id, value),
+            };
+        }
+        self
+    }
+
+    fn context(self) -> Result<TracePropagationContext, HeaderParseError>
+        ensures { (headers : List Header) → HeadersSay headers self.trace self.org_id → GiveContext headers result }
+    {
+        match self.trace {
+            Ok(trace) => Ok(TracePropagationContext {
+                trace_id: trace.trace_id,
+                span_id: trace.span_id,
+                sampled: trace.sampled,
+                org_id: self.org_id,
+            }),
+            Err(cause) => Err(cause),
         }
     }
 }
 
-fn with_span(trace_id: TraceId, digits: &str, sampled: Option<bool>) -> Option<SentryTrace>
-    ensures { result ≡ with_span trace_id sampled (span_id_of digits.now) }
+/// The trace of the last valid value: this one's, or else the one that was read before.
+fn read_trace(
+    before: Result<SentryTrace, HeaderParseError>,
+    value: &str,
+) -> Result<SentryTrace, HeaderParseError>
+    ensures { (values : List Bytes) → SayTrace values before → SayTrace (values ++ value.now ∷ []) result }
 {
-    let span_id = SpanId::parse(digits)?;
-    Some(SentryTrace {
-        trace_id,
-        span_id,
-        sampled,
-    })
+    match SentryTrace::parse(value) {
+        Some(trace) => Ok(trace),
+        None => match before {
+            Ok(trace) => Ok(trace),
+            Err(_) => Err(HeaderParseError::Invalid),
+        },
+    }
 }
 
-/// What a third part of a trace text says of sampling.
-fn sampling_of(part: &str) -> Option<bool>
-    ensures { result ≡ sampling_of part.now }
+impl TracePropagationContext {
+    /// These ids, with no sampling decision and no organization.
+    pub fn new(trace_id: TraceId, span_id: SpanId) -> TracePropagationContext
+        ensures { result ≡ record { trace_id = trace_id; span_id = span_id; sampled = None; org_id = None } }
+    {
+        TracePropagationContext {
+            trace_id,
+            span_id,
+            sampled: None,
+            org_id: None,
+        }
+    }
+
+    /// The same with this sampling decision.
+    pub fn with_sampled(self, sampled: bool) -> TracePropagationContext
+        ensures { result ≡ record self { sampled = Some sampled } }
+    {
+        TracePropagationContext {
+            sampled: Some(sampled),
+            ..self
+        }
+    }
+
+    /// The value of the `sentry-trace` header that hands the trace on.
+    pub fn sentry_trace_header(&self, alloc: Global) -> Result<String, AllocError>
+        ensures text { IfOk result (λ text. string_bytes text ≡ trace_text (trace_of self.now)) }
+        ensures read_back { IfOk result (λ text. (answer : Result TracePropagationContext HeaderParseError) → GiveContext (trace_header (string_bytes text) ∷ []) answer → answer ≡ Ok (record self.now { org_id = None })) }
+    {
+        self.trace().to_string(alloc)
+    }
+
+    fn trace(&self) -> SentryTrace
+        ensures { result ≡ trace_of self.now }
+    {
+        SentryTrace::new(self.trace_id, self.span_id, self.sampled)
+    }
+
+    /// Reads headers. `Missing` is answered where none is named `sentry-trace`, and `Invalid` where some are and none of
+    /// them is valid. A baggage header that is not valid is passed over.
+    pub fn try_from_headers<'a, I: IntoIterator<Item = (&'a str, &'a str)>>(
+        headers: I,
+    ) -> Result<TracePropagationContext, HeaderParseError>
+        requires { IsFiniteIterable I.into_iter_gives I.IntoIter.can_next I.IntoIter.remaining headers }
+        ensures { (it : I.IntoIter) × (items : List _) × I.into_iter_gives headers it × Drains I.IntoIter.next_gives it items × GiveContext (map header_of items) result }
+    {
+        let mut reading = Reading::new();
+        for (name, value) in headers {
+            reading = reading.after(name, value);
+        }
+        reading.context()
+    }
+}
+
+impl From<SentryTrace> for TracePropagationContext {
+    ghost use Rattle.std.specs.Prelude.{◌≡◌, None};
+    ghost use Rattle.sentry_base.specs.HeaderLists.{context_of};
+
+    ghost from_gives = { λ trace context. context ≡ context_of trace None };
+
+    fn from(trace: SentryTrace) -> TracePropagationContext {
+        TracePropagationContext {
+            trace_id: trace.trace_id,
+            span_id: trace.span_id,
+            sampled: trace.sampled,
+            org_id: None,
+        }
+    }
+}
+
+/// Reads headers as `TracePropagationContext::try_from_headers` does, and none where that gives no context.
+pub fn parse_headers<'a, I: IntoIterator<Item = (&'a str, &'a str)>>(
+    headers: I,
+) -> Option<SentryTrace>
+    requires { IsFiniteIterable I.into_iter_gives I.IntoIter.can_next I.IntoIter.remaining headers }
+    ensures { (it : I.IntoIter) × (items : List _) × I.into_iter_gives headers it × Drains I.IntoIter.next_gives it items × GiveTrace (map header_of items) result }
 {
-    match part {
-        "1" => Some(true),
-        "0" => Some(false),
-        _ => None,
+    match TracePropagationContext::try_from_headers(headers) {
+        Ok(context) => Some(context.trace()),
+        Err(_) => None,
     }
 }

@@ -5,3 +5,4 @@ pub mod dsn;
 pub mod headers;
 pub mod plain;
 pub mod protocol;
+pub mod utils;

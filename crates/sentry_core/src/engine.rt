@@ -1,6 +1,6 @@
 //! The engine over boxed callbacks.
 use crate::boxed::ClientCallbacks;
-pub use sentry_engine::call::{Answer, Reply, run};
+pub use sentry_engine::call::run;
 pub use sentry_engine::engine::{Client, NextNumbers, Out};
 use sentry_state::callbacks::BoxedEventCallback;
 
@@ -9,3 +9,9 @@ pub type Engine = sentry_engine::engine::Engine<BoxedEventCallback, ClientCallba
 
 /// A call of an engine, with its arguments.
 pub type Call = sentry_engine::call::Call<BoxedEventCallback, ClientCallbacks>;
+
+/// What a call replies.
+pub type Reply = sentry_engine::call::Reply<ClientCallbacks>;
+
+/// What a call answers.
+pub type Answer = sentry_engine::call::Answer<ClientCallbacks>;

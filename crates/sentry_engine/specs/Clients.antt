@@ -1,16 +1,18 @@
 -- What the calls on clients answer, hand out and leave.
-use Rattle.std.specs.Prelude.{nat_lt, ◌-◌, Bool, [], ◌+◌, ◌^◌, ◌==◌}
+use Rattle.std.specs.Prelude.{ℕ, nat_lt, ◌-◌, Bool, ◌&&◌, Option, is_some, [], ◌+◌, ◌^◌, ◌==◌}
 use Rattle.sentry_base.specs.Tables.{stored}
+use Rattle.sentry_base.specs.declared.dsn.Dsn.{Dsn}
 use Rattle.sentry_base.specs.declared.protocol.keys.ClientKey.{ClientKey}
 use Rattle.sentry_base.specs.declared.protocol.keys.Label.{Label}
-use Rattle.sentry_base.specs.declared.protocol.refusal.Refusal.TheVariants.{ForeignLosses, Full}
+use Rattle.sentry_base.specs.declared.protocol.refusal.Refusal.TheVariants.{Stale, ForeignLosses, Full}
 use Rattle.sentry_state.specs.declared.clientoptions.ClientOptions.{ClientOptions}
 use Rattle.sentry_state.specs.Callbacks.{Meanings, set_up_by}
 use Rattle.sentry_engine.specs.Worlds.{World}
-use Rattle.sentry_engine.specs.Outcomes.{Outcome, unless, replied}
+use Rattle.sentry_engine.specs.Outcomes.{Outcome, needs, unless, replied, plain_client_at}
 
 module _ {P C : Type 0} where
-  -- a client, under the next number, after the `setup` of its integrations
+  -- a client, under the next number, after the `setup` of its integrations; its slot is occupied where it had a DSN before
+  -- that, and has a transport
   abbrev pub add_client : (C → Meanings) → ClientOptions C → Bool → Label → World P C → Outcome P C ClientKey
   add_client meanings options transport label world =
       unless ForeignLosses world (label.tag == world.tag)
@@ -20,6 +22,24 @@ module _ {P C : Type 0} where
         clients = stored world.clients world.next.client (record {
           options = record options { plain = set_up_by (meanings options.callbacks).integrations options.plain };
           label = label;
-          occupied = transport;
+          occupied = is_some options.plain.dsn && transport;
         });
       })))
+
+  -- the options of a client
+  abbrev pub options : ClientKey → World P C → Outcome P C (ClientOptions C)
+  options key world = needs Stale world (plain_client_at world key) (λ client. replied client.options [] world)
+
+  -- where a client sends to
+  abbrev pub dsn : ClientKey → World P C → Outcome P C (Option Dsn)
+  dsn key world = needs Stale world (plain_client_at world key) (λ client. replied client.options.plain.dsn [] world)
+
+  -- a client is enabled where its options have a DSN and its slot is occupied
+  abbrev pub is_enabled : ClientKey → World P C → Outcome P C Bool
+  is_enabled key world =
+      needs Stale world (plain_client_at world key) (λ client.
+      replied (is_some client.options.plain.dsn && client.occupied) [] world)
+
+  -- what has this draw is sent where the draw lies below the rate
+  abbrev pub sample_should_send : ℕ → ℕ → World P C → Outcome P C Bool
+  sample_should_send rate draw world = replied (nat_lt draw rate) [] world

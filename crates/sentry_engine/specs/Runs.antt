@@ -5,7 +5,7 @@ use Rattle.sentry_base.specs.declared.protocol.refusal.Refusal.TheVariants.{OutO
 use Rattle.sentry_state.specs.Callbacks.{Partial, Meanings}
 use Rattle.sentry_engine.specs.declared.engine.Out.{Out}
 use Rattle.sentry_engine.specs.declared.call.Call.{Call}
-use Rattle.sentry_engine.specs.declared.call.Call.TheVariants.{AddClient, NewHub, Configure, CaptureEvent, CaptureMessage, LastEventId}
+use Rattle.sentry_engine.specs.declared.call.Call.TheVariants.{AddClient, Options, Dsn, IsEnabled, SampleShouldSend, NewHub, Configure, CaptureEvent, CaptureMessage, LastEventId}
 use Rattle.sentry_engine.specs.declared.call.Reply.{Reply}
 use Rattle.sentry_engine.specs.declared.call.Reply.TheVariants as reply
 use Rattle.sentry_engine.specs.Worlds.{World}
@@ -13,19 +13,23 @@ use Rattle.sentry_engine.specs.Outcomes.{Outcome}
 use Rattle.sentry_engine.specs.Clients as clients
 use Rattle.sentry_engine.specs.Hubs as hubs
 
-module _ {T : Type 0} where
+module _ {C T : Type 0} where
   -- an answer with its reply put into the one type of replies
-  abbrev pub as_reply : (T → Reply) → Result (Out T) Refusal → Result (Out Reply) Refusal
+  abbrev pub as_reply : (T → Reply C) → Result (Out T) Refusal → Result (Out (Reply C)) Refusal
   as_reply f (Ok out) = Ok (record { reply = f out.reply; sent = out.sent })
   as_reply f (Err refusal) = Err refusal
 
-  abbrev pub replying : {P C : Type 0} → (T → Reply) → Outcome P C T → Outcome P C Reply
+  abbrev pub replying : {P : Type 0} → (T → Reply C) → Outcome P C T → Outcome P C (Reply C)
   replying f outcome = record { answer = as_reply f outcome.answer; after = outcome.after }
 
 module _ {P C : Type 0} (gives : P → Partial) (meanings : C → Meanings) where
   -- what a call answers, hands out and leaves
-  abbrev pub step : Call P C → World P C → Outcome P C Reply
+  abbrev pub step : Call P C → World P C → Outcome P C (Reply C)
   step (AddClient options transport label now) world = replying reply.Client (clients.add_client meanings options transport label world)
+  step (Options client) world = replying reply.Options (clients.options client world)
+  step (Dsn client) world = replying reply.Dsn (clients.dsn client world)
+  step (IsEnabled client) world = replying reply.Decision (clients.is_enabled client world)
+  step (SampleShouldSend rate draw) world = replying reply.Decision (clients.sample_should_send rate draw world)
   step (NewHub client scope) world = replying reply.Hub (hubs.new_hub client scope world)
   step (Configure hub edits now) world = replying (λ _. reply.Done) (hubs.configure hub edits world)
   step (CaptureEvent hub event fresh) world = replying reply.Event (hubs.capture_event gives meanings hub event fresh world)
@@ -33,13 +37,13 @@ module _ {P C : Type 0} (gives : P → Partial) (meanings : C → Meanings) wher
   step (LastEventId hub) world = replying reply.LastEvent (hubs.last_event_id hub world)
 
   -- the call may be answered so, and lead on to next: as the definition says, or by want of memory where that gives no refusal
-  abbrev pub May : World P C → Call P C → Result (Out Reply) Refusal → World P C → Type 0
+  abbrev pub May : World P C → Call P C → Result (Out (Reply C)) Refusal → World P C → Type 0
   May world call (Ok out) next = ((step call world).answer ≡ Ok out) × (next ≡ (step call world).after)
   May world call (Err OutOfMemory) next = (is_ok (step call world).answer ≡ true) × (next ≡ world)
   May world call (Err refusal) next = ((step call world).answer ≡ Err refusal) × (next ≡ world)
 
   -- the answers are those of the definition, one call after another, up to the last world
-  abbrev pub Run : World P C → List (Call P C) → List (Result (Out Reply) Refusal) → World P C → Type 0
+  abbrev pub Run : World P C → List (Call P C) → List (Result (Out (Reply C)) Refusal) → World P C → Type 0
   Run world [] [] last = last ≡ world
   Run world (call ∷ calls) (answer ∷ answers) last = (next : World P C) × May world call answer next × Run next calls answers last
   Run world [] (answer ∷ answers) last = ⊥

@@ -6,8 +6,11 @@ ghost use Rattle.sentry_engine.specs.Hubs as call;
 ghost use Rattle.sentry_engine.specs.Runs.{step, as_reply, Run};
 
 use crate::engine::{Engine, Out};
-use sentry_base::plain::{Items, Text};
-use sentry_base::protocol::{ClientKey, Event, Fresh, HubKey, Label, Level, Refusal, Uuid};
+use sentry_base::dsn::Dsn;
+use sentry_base::plain::{Items, Shared, Text};
+use sentry_base::protocol::{
+    ClientKey, Draw, Event, Fresh, HubKey, Label, Level, Refusal, SampleRate, Uuid,
+};
 use sentry_state::callbacks::EventCallback;
 use sentry_state::clientoptions::{Callbacks, ClientOptions};
 use sentry_state::scope::{Scope, ScopeEdit};
@@ -18,6 +21,14 @@ use std::alloc::{AllocError, Global};
 pub enum Call<P, C> {
     /// `add_client`, of the options, whether there is a transport, the label and the moment
     AddClient(ClientOptions<C>, bool, Label, u64),
+    /// `options`
+    Options(ClientKey),
+    /// `dsn`
+    Dsn(ClientKey),
+    /// `is_enabled`
+    IsEnabled(ClientKey),
+    /// `sample_should_send`
+    SampleShouldSend(SampleRate, Draw),
     /// `new_hub`
     NewHub(Option<ClientKey>, Scope<P>),
     /// `configure`
@@ -31,9 +42,13 @@ pub enum Call<P, C> {
 }
 
 /// What a call replies.
-#[derive(Clone, Copy, Debug, PartialEq)]
-pub enum Reply {
+#[derive(Drop)]
+pub enum Reply<C> {
     Client(ClientKey),
+    Options(Shared<ClientOptions<C>>),
+    Dsn(Option<Dsn>),
+    /// What `is_enabled` or `sample_should_send` answers.
+    Decision(bool),
     Hub(HubKey),
     Done,
     Event(Uuid),
@@ -41,9 +56,9 @@ pub enum Reply {
 }
 
 /// What a call answers.
-pub type Answer = Result<Out<Reply>, Refusal>;
+pub type Answer<C> = Result<Out<Reply<C>>, Refusal>;
 
-fn client(answer: Result<Out<ClientKey>, Refusal>) -> Answer
+fn client<C>(answer: Result<Out<ClientKey>, Refusal>) -> Answer<C>
     ensures { result ≡ as_reply Reply.Client answer }
 {
     let Out { reply, sent } = answer?;
@@ -53,7 +68,37 @@ fn client(answer: Result<Out<ClientKey>, Refusal>) -> Answer
     })
 }
 
-fn hub(answer: Result<Out<HubKey>, Refusal>) -> Answer
+fn options<C>(answer: Result<Out<Shared<ClientOptions<C>>>, Refusal>) -> Answer<C>
+    ensures { result ≡ as_reply Reply.Options answer }
+{
+    let Out { reply, sent } = answer?;
+    Ok(Out {
+        reply: Reply::Options(reply),
+        sent,
+    })
+}
+
+fn dsn<C>(answer: Result<Out<Option<Dsn>>, Refusal>) -> Answer<C>
+    ensures { result ≡ as_reply Reply.Dsn answer }
+{
+    let Out { reply, sent } = answer?;
+    Ok(Out {
+        reply: Reply::Dsn(reply),
+        sent,
+    })
+}
+
+fn decision<C>(answer: Result<Out<bool>, Refusal>) -> Answer<C>
+    ensures { result ≡ as_reply Reply.Decision answer }
+{
+    let Out { reply, sent } = answer?;
+    Ok(Out {
+        reply: Reply::Decision(reply),
+        sent,
+    })
+}
+
+fn hub<C>(answer: Result<Out<HubKey>, Refusal>) -> Answer<C>
     ensures { result ≡ as_reply Reply.Hub answer }
 {
     let Out { reply, sent } = answer?;
@@ -63,7 +108,7 @@ fn hub(answer: Result<Out<HubKey>, Refusal>) -> Answer
     })
 }
 
-fn done(answer: Result<Out<()>, Refusal>) -> Answer
+fn done<C>(answer: Result<Out<()>, Refusal>) -> Answer<C>
     ensures { result ≡ as_reply (λ _. Reply.Done) answer }
 {
     let sent = answer?.sent;
@@ -73,7 +118,7 @@ fn done(answer: Result<Out<()>, Refusal>) -> Answer
     })
 }
 
-fn event(answer: Result<Out<Uuid>, Refusal>) -> Answer
+fn event<C>(answer: Result<Out<Uuid>, Refusal>) -> Answer<C>
     ensures { result ≡ as_reply Reply.Event answer }
 {
     let Out { reply, sent } = answer?;
@@ -83,7 +128,7 @@ fn event(answer: Result<Out<Uuid>, Refusal>) -> Answer
     })
 }
 
-fn last_event(answer: Result<Out<Option<Uuid>>, Refusal>) -> Answer
+fn last_event<C>(answer: Result<Out<Option<Uuid>>, Refusal>) -> Answer<C>
     ensures { result ≡ as_reply Reply.LastEvent answer }
 {
     let Out { reply, sent } = answer?;
@@ -118,13 +163,17 @@ impl<P: EventCallback + Drop, C: Callbacks> Engine<P, C> {
     }
 
     /// Does one call, by the method of its name.
-    pub fn apply(&mut self, call: Call<P, C>) -> Answer
+    pub fn apply(&mut self, call: Call<P, C>) -> Answer<C>
         ensures { Does self.old self.new result (step P.gives C.meanings call) }
     {
         match call {
             Call::AddClient(options, transport, label, now) => {
                 client(self.add_client(options, transport, label, now))
             }
+            Call::Options(client) => options(self.options(client)),
+            Call::Dsn(client) => dsn(self.dsn(client)),
+            Call::IsEnabled(client) => decision(self.is_enabled(client)),
+            Call::SampleShouldSend(rate, draw) => decision(self.sample_should_send(rate, draw)),
             Call::NewHub(client, scope) => hub(self.new_hub(client, scope)),
             Call::Configure(hub, edits, now) => done(self.configure_items(hub, edits, now)),
             Call::CaptureEvent(hub, held, fresh) => event(self.capture_event(hub, held, fresh)),
@@ -142,7 +191,7 @@ pub fn run<P: EventCallback + Drop, C: Callbacks>(
     alloc: Global,
     tag: u64,
     calls: Vec<Call<P, C>>,
-) -> Result<(Engine<P, C>, Vec<Answer>), AllocError>
+) -> Result<(Engine<P, C>, Vec<Answer<C>>), AllocError>
     ensures { IfOk result (λ end. (last : World P C) × Stands end.0 last × Run P.gives C.meanings (first_world tag) calls.items end.1.items last) }
 {
     let mut engine = Engine::new(alloc, tag);

@@ -27,7 +27,7 @@ pub struct Client<C> {
     pub options: Shared<ClientOptions<C>>,
     /// Names the table of losses that it records into.
     pub label: Label,
-    /// Whether it has a transport, by which envelopes leave.
+    /// Whether envelopes leave it: it had a DSN when it was added, and has a transport.
     pub occupied: bool,
 }
 

@@ -1,1 +1,7 @@
 pub mod Pipeline
+pub mod Reasons
+pub mod LossViews
+pub mod LossWords
+pub mod LossMachine
+pub mod WrongSteps
+pub mod LossBooks

@@ -6,8 +6,9 @@ use Rattle.sentry_base.specs.Events.{is_nil}
 use Rattle.sentry_base.specs.declared.protocol.event.Event.{Event}
 use Rattle.sentry_base.specs.declared.protocol.sdk.ClientSdkInfo.{ClientSdkInfo}
 use Rattle.sentry_state.specs.declared.scope.Scope.{Scope}
-use Rattle.sentry_state.specs.declared.clientoptions.PlainOptions.{PlainOptions}
+use Rattle.sentry_state.specs.declared.clientoptions.plain.PlainOptions.{PlainOptions}
 use Rattle.sentry_state.specs.declared.clientoptions.ClientOptions.{ClientOptions}
+use Rattle.sentry_state.specs.Constants.{sdk_name, sdk_version, sdk_package_name}
 use Rattle.sentry_state.specs.Callbacks.{Partial, Meanings, integrated_by, called}
 use Rattle.sentry_state.specs.Scopes.{applied}
 use Rattle.sentry_parts.specs.declared.pipeline.Place.{Place}
@@ -22,9 +23,9 @@ with_id fresh event = if is_nil event.event_id then record event { event_id = fr
 -- what every event of a client says of the SDK
 abbrev pub sdk_info : Meanings → ClientSdkInfo
 sdk_info client = record {
-  name = codes "sentry.rust";
-  version = codes "0.49.3";
-  packages = record { name = codes "cargo:sentry"; version = codes "0.49.3" } ∷ [];
+  name = sdk_name;
+  version = sdk_version;
+  packages = record { name = sdk_package_name; version = sdk_version } ∷ [];
   integrations = map (λ integration. integration.name) client.integrations;
 }
 

@@ -1,4 +1,5 @@
 //! The parts that an engine is made of, each of which can be used by itself.
 #![tactic(auto)]
 
+pub mod client_reports;
 pub mod pipeline;

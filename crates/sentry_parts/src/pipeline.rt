@@ -7,6 +7,7 @@ use sentry_base::plain::{Items, Text};
 use sentry_base::protocol::{ClientSdkInfo, ClientSdkPackage, Event, Uuid};
 use sentry_state::callbacks::EventCallback;
 use sentry_state::clientoptions::{Callbacks, ClientOptions, PlainOptions};
+use sentry_state::constants::{PACKAGE_NAME, SDK_NAME, VERSION};
 use sentry_state::scope::Scope;
 use std::alloc::{AllocError, Global};
 
@@ -45,12 +46,12 @@ fn sdk_info<C: Callbacks>(alloc: Global, callbacks: &C) -> Result<ClientSdkInfo,
 {
     let mut packages = Items::new(alloc);
     packages.push(ClientSdkPackage {
-        name: Text::new(alloc, "cargo:sentry")?,
-        version: Text::new(alloc, "0.49.3")?,
+        name: Text::new(alloc, PACKAGE_NAME)?,
+        version: Text::new(alloc, VERSION)?,
     })?;
     Ok(ClientSdkInfo {
-        name: Text::new(alloc, "sentry.rust")?,
-        version: Text::new(alloc, "0.49.3")?,
+        name: Text::new(alloc, SDK_NAME)?,
+        version: Text::new(alloc, VERSION)?,
         packages,
         integrations: callbacks.integration_names(alloc)?,
     })

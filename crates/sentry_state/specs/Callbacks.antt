@@ -1,9 +1,9 @@
 -- What callbacks mean: partial functions on events, one after another.
-use Rattle.std.specs.Prelude.{Option, Some, None, List, [], ◌∷◌, ℕ}
+use Rattle.std.specs.Prelude.{Option, Some, None, List, [], ◌∷◌}
 use Rattle.std.specs.Option.{option_and_then}
 use Rattle.sentry_base.specs.declared.protocol.event.Event.{Event}
 use Rattle.sentry_base.specs.Texts.{Bytes}
-use Rattle.sentry_state.specs.declared.clientoptions.PlainOptions.{PlainOptions}
+use Rattle.sentry_state.specs.declared.clientoptions.plain.PlainOptions.{PlainOptions}
 
 -- a function from an event to an event, or to none where it is dropped
 abbrev pub Partial : Type 0

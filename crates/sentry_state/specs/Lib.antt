@@ -1,3 +1,5 @@
 pub mod Callbacks
 pub mod Scopes
 pub mod Stacks
+pub mod Options
+pub mod Constants

@@ -3,4 +3,5 @@
 
 pub mod callbacks;
 pub mod clientoptions;
+pub mod constants;
 pub mod scope;

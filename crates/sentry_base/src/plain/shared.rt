@@ -4,6 +4,7 @@ ghost use Rattle.sentry_base.specs.Equality.{IsExact};
 
 use std::alloc::{AllocError, Global};
 use std::marker::Model;
+use std::ops::Deref;
 use std::sync::Arc;
 
 /// A value that its clones share, by an `Arc`. Contracts see the value, so a clone is equal to its original.
@@ -37,6 +38,16 @@ impl<T> Shared<T> {
         ensures { result.now ≡ self.now }
     {
         &self.share
+    }
+}
+
+impl<T> Deref for Shared<T> {
+    type Target = T;
+
+    ghost deref_gives = { λ share value. value ≡ share };
+
+    fn deref(&self) -> &T {
+        self.get()
     }
 }
 

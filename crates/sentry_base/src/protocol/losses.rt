@@ -1,6 +1,6 @@
 //! What is lost where data is dropped: a quantity for each category of data under each reason.
-ghost use Rattle.std.specs.Prelude.{◌≡◌, ◌<◌, slice_index};
-ghost use Rattle.sentry_base.specs.Losses.{category_index, category_at, category_name, reason_index, reason_at, reason_name, loss_index, no_losses, lost, plus};
+ghost use Rattle.std.specs.Prelude.{◌≡◌, ◌<◌, ℕ, List, ◌∷◌, slice_index};
+ghost use Rattle.sentry_base.specs.Losses.{category_index, category_at, category_name, reason_index, reason_at, reason_name, loss_index, no_losses, lost, plus, sum_losses};
 
 /// What kind of data is lost.
 #[derive(Clone, Copy, Debug, PartialEq, Eq)]
@@ -187,7 +187,8 @@ impl Losses {
 
     /// Adds other losses, each quantity modulo 2^64.
     pub fn add(&mut self, other: &Losses)
-        ensures { self.new.quantities ≡ plus self.old.quantities other.now.quantities }
+        ensures each { self.new.quantities ≡ plus self.old.quantities other.now.quantities }
+        ensures sum { (all : List (List ℕ)) → self.old.quantities ≡ sum_losses (λ losses. losses) all → self.new.quantities ≡ sum_losses (λ losses. losses) (other.now.quantities ∷ all) }
     {
         for i in 0..LOSS_QUANTITIES {
             self.quantities[i] = self.quantities[i].wrapping_add(other.quantities[i]);

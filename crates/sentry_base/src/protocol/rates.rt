@@ -1,5 +1,5 @@
 //! Rates and draws, in millionths.
-ghost use Rattle.std.specs.Prelude.{◌≡◌, ◌<◌, ◌≤◌, IfOk, IfErr, IfSome, IsOk, IsSome, ◌↔◌};
+ghost use Rattle.std.specs.Prelude.{◌≡◌, ◌<◌, ◌≤◌, IfOk, IfErr, IfSome, IsOk, IsSome, ◌↔◌, nat_lt};
 
 use crate::protocol::refusal::Refusal;
 use std::marker::Model;
@@ -38,12 +38,28 @@ impl SampleRate {
         Ok(SampleRate { millionths })
     }
 
+    /// The rate at which all are kept.
+    pub fn all() -> SampleRate
+        ensures { result ≡ 1000000 }
+    {
+        SampleRate {
+            millionths: SampleRate::ALL,
+        }
+    }
+
     /// The rate in millionths.
     pub fn millionths(&self) -> u32
         ensures value { result ≡ self.now }
         ensures bound { result ≤ 1000000 }
     {
         self.millionths
+    }
+
+    /// Whether what has this draw is kept. It takes no memory.
+    pub fn keeps(&self, draw: Draw) -> bool
+        ensures { result ≡ nat_lt draw self.now }
+    {
+        draw.millionths < self.millionths
     }
 }
 

@@ -1,13 +1,14 @@
 //! The calls on clients.
-ghost use Rattle.std.specs.Prelude.{◌≡◌, OnOk, OnErr};
+ghost use Rattle.std.specs.Prelude.{◌≡◌, ◌≢◌, OnOk, OnErr, Ok, [], nat_lt};
 ghost use Rattle.sentry_base.specs.Tables.{stored};
 ghost use Rattle.sentry_engine.specs.Worlds.{World, ClientState, Stands, kept};
 ghost use Rattle.sentry_engine.specs.Outcomes.{Does};
 ghost use Rattle.sentry_engine.specs.Clients as call;
 
 use crate::engine::{Client, Engine, Out};
+use sentry_base::dsn::Dsn;
 use sentry_base::plain::Shared;
-use sentry_base::protocol::{ClientKey, Label, Refusal};
+use sentry_base::protocol::{ClientKey, Draw, Label, Refusal, SampleRate};
 use sentry_state::callbacks::EventCallback;
 use sentry_state::clientoptions::{Callbacks, ClientOptions};
 use std::alloc::AllocError;
@@ -25,8 +26,9 @@ impl<P: EventCallback + Drop, C: Callbacks> Engine<P, C> {
     }
 
     /// Adds a client with these options, after the `setup` of its integrations, and answers its key. Its losses go to
-    /// the table that the label names; `transport` says whether there is one to send its envelopes; `_now` is the
-    /// moment in nanoseconds since the epoch, from which its queues are to wait.
+    /// the table that the label names; `transport` says whether there is one to send its envelopes, which it does if the
+    /// options have a DSN before any `setup`; `_now` is the moment in nanoseconds since the epoch, from which its queues
+    /// are to wait.
     ///
     /// `ForeignLosses`: the label has another tag than the engine. `Full`: the numbers are used up. `OutOfMemory`.
     pub fn add_client(
@@ -45,12 +47,13 @@ impl<P: EventCallback + Drop, C: Callbacks> Engine<P, C> {
             return Err(Refusal::Full);
         }
         let number = self.next.client;
+        let occupied = options.plain.dsn.is_some() && transport;
         let mut options = options;
         options.callbacks.set_up(&mut options.plain)?;
         let client = Client {
             options: Shared::new(self.alloc, options)?,
             label,
-            occupied: transport,
+            occupied,
         };
         self.insert_client(number, client)?;
         self.next.client = number + 1;
@@ -58,5 +61,53 @@ impl<P: EventCallback + Drop, C: Callbacks> Engine<P, C> {
             tag: self.tag,
             number,
         }))
+    }
+
+    /// The options of a client, as a share: after the `setup` of its integrations, which are among them.
+    ///
+    /// `Stale`: the client isn't held. `OutOfMemory`.
+    pub fn options(&self, client: ClientKey) -> Result<Out<Shared<ClientOptions<C>>>, Refusal>
+        ensures { Does self.now self.now result (call.options client) }
+    {
+        let Some(held) = self.client_at(client) else {
+            return Err(Refusal::Stale);
+        };
+        let options = held.options.clone()?;
+        Ok(self.out(options))
+    }
+
+    /// Where a client sends to, if anywhere.
+    ///
+    /// `Stale`: the client isn't held. `OutOfMemory`.
+    pub fn dsn(&self, client: ClientKey) -> Result<Out<Option<Dsn>>, Refusal>
+        ensures { Does self.now self.now result (call.dsn client) }
+    {
+        let Some(held) = self.client_at(client) else {
+            return Err(Refusal::Stale);
+        };
+        let dsn = held.options.get().plain.dsn.clone()?;
+        Ok(self.out(dsn))
+    }
+
+    /// Whether a client has a DSN, now and when it was added, and a transport.
+    ///
+    /// `Stale`: the client isn't held.
+    pub fn is_enabled(&self, client: ClientKey) -> Result<Out<bool>, Refusal>
+        ensures does { Does self.now self.now result (call.is_enabled client) }
+        ensures takes_no_memory { result ≢ Err Refusal.OutOfMemory }
+    {
+        let Some(held) = self.client_at(client) else {
+            return Err(Refusal::Stale);
+        };
+        let is_enabled = held.options.get().plain.dsn.is_some() && held.occupied;
+        Ok(self.out(is_enabled))
+    }
+
+    /// Whether what has this draw is sent at this rate. It takes no memory, and is never refused.
+    pub fn sample_should_send(&self, rate: SampleRate, draw: Draw) -> Result<Out<bool>, Refusal>
+        ensures does { Does self.now self.now result (call.sample_should_send rate draw) }
+        ensures answers { result ≡ Ok (record { reply = nat_lt draw rate; sent = [] }) }
+    {
+        Ok(self.out(rate.keeps(draw)))
     }
 }

@@ -1,0 +1,44 @@
+//! Baggage headers: entries of a key and a value.
+ghost use Rattle.std.specs.Prelude.{◌≡◌, ◌++◌, List};
+ghost use Rattle.std.specs.List.{slice_split};
+ghost use Rattle.sentry_base.specs.HeaderLists.{is_comma, organization_values, organization_of_entry, SayOrganization, value_part};
+ghost use Rattle.sentry_base.specs.Texts.{Bytes};
+
+use crate::protocol::OrganizationId;
+
+const ORGANIZATION_KEY: &str = "sentry-org_id";
+
+/// The organization that the last valid entry names: one of this header's, or else the one that was named before.
+pub(crate) fn read_organization(
+    before: Option<OrganizationId>,
+    header: &str,
+) -> Option<OrganizationId>
+    ensures { (values : List Bytes) → SayOrganization values before → SayOrganization (values ++ organization_values (slice_split is_comma header.now)) result }
+{
+    let mut last = before;
+    for entry in header.split(',') {
+        last = organization_of_entry(entry).or(last);
+    }
+    last
+}
+
+/// The organization that an entry names.
+fn organization_of_entry(entry: &str) -> Option<OrganizationId>
+    ensures { result ≡ organization_of_entry entry.now }
+{
+    let (key, rest) = entry.split_once('=')?;
+    if key.trim() != ORGANIZATION_KEY {
+        return None;
+    }
+    OrganizationId::parse(value_part(rest).trim())
+}
+
+/// What stands before the properties that follow a value.
+fn value_part(rest: &str) -> &str
+    ensures { result.now ≡ value_part rest.now }
+{
+    match rest.split_once(';') {
+        Some((value, _)) => value,
+        None => rest,
+    }
+}

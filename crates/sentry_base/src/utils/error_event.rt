@@ -1,0 +1,44 @@
+//! Events of errors.
+ghost use Rattle.std.specs.Prelude.{◌≡◌, IfOk};
+ghost use Rattle.sentry_base.specs.ErrorEvents.{exception_of, error_event};
+
+use crate::plain::{Items, Text};
+use crate::protocol::{ErrorLink, Event, Exception, Level, Uuid};
+use crate::utils::parse_type_from_debug;
+use std::alloc::{AllocError, Global};
+
+/// The event of an error, whose chain is given outermost first: level `Error`, and one exception for each error, the
+/// innermost first.
+pub fn event_from_error(
+    alloc: Global,
+    links: &[ErrorLink],
+    id: Uuid,
+    now: u64,
+) -> Result<Event, AllocError>
+    ensures { IfOk result (λ event. event ≡ error_event links.now id now) }
+{
+    let mut exceptions = Vec::new(alloc);
+    for link in links {
+        exceptions.push(exception_of(alloc, link)?)?;
+    }
+    exceptions.reverse();
+    let mut event = Event::new(alloc, id, now)?;
+    event.level = Level::Error;
+    event.exception = Items::from_vec(exceptions);
+    Ok(event)
+}
+
+fn exception_of(alloc: Global, link: &ErrorLink) -> Result<Exception, AllocError>
+    ensures { IfOk result (λ exception. exception ≡ exception_of link.now) }
+{
+    let ty = if link.debug == link.quoted {
+        "Error"
+    } else {
+        parse_type_from_debug(link.debug.as_str())
+    };
+    Ok(Exception {
+        ty: Text::new(alloc, ty)?,
+        value: Some(link.shown.clone()?),
+        mechanism: None,
+    })
+}

@@ -1,0 +1,7 @@
+pub mod LossSteps
+pub mod LossAllowed
+pub mod LossRuns
+pub mod LossQuiet
+pub mod LossDrains
+pub mod LossParts
+pub mod WrongSteps

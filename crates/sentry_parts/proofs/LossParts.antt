@@ -1,0 +1,103 @@
+-- Views cut in two and put together.
+use Rattle.std.proofs.Common.{◌≡◌, ℕ, zero, suc, ◌+◌, ◌<◌, true, false, true≢false, List, [], ◌∷◌, ◌++◌, length, get_or, set, replicate, refl, sym, ap, ◌∙◌, subst, arith}
+use mathlib.Core.Logic.{dite}
+use mathlib.Core.Option.{some, some-injective, some-ne-none}
+use native.Mathlib.Decide.{ℕ_discrete}
+use lib.ListN.{get_elem?}
+use Rattle.atomic_table.specs.Table.{Splits, Joins}
+use Rattle.atomic_table.proofs.Lists.{set_else, set_again, at_longer}
+use Rattle.sentry_parts.specs.declared.client_reports.step.LossStep.{LossStep}
+use Rattle.sentry_parts.specs.declared.client_reports.step.LossStep.TheVariants.{Add, Raise, Lower, Take}
+use Rattle.sentry_parts.specs.LossViews.{total, added, took, owes}
+use Rattle.sentry_parts.specs.LossWords.{IsClosed, Kept, Quiet, the_flag, the_counters, the_flags, the_words}
+use Rattle.sentry_parts.proofs.LossSteps.{total_append, total_set, at_place, elsewhere}
+use Rattle.sentry_parts.proofs.LossRuns.{rest_keeps, zero_at}
+use Rattle.sentry_parts.proofs.LossAllowed.{Rule}
+
+pub opens : Kept (replicate the_words 0) ([] ∷ [])
+opens = record { wide = refl; laws = rest_keeps the_flag the_counters the_flags 1 }
+
+pub splits : (id : ℕ) (v : List LossStep) → Splits Rule id v v []
+splits id v s rule at =
+    let same : set s.views id v ≡ s.views = set_again s.views id v at in
+    let sums : (f : LossStep → ℕ) → total (total f) (s.views ++ [] ∷ []) ≡ total (total f) s.views = (λ f. let a = total_append (total f) s.views ([] ∷ []) in omega arith) in
+    subst (λ vs. Kept s.words (vs ++ [] ∷ [])) (sym same) (record {
+      wide = rule.wide;
+      laws = record {
+        balance = λ i less. let a = sums (added i) in let b = sums (took i) in let o = rule.laws.balance i less in omega arith;
+        flag_law = λ i less stands low. let o = rule.laws.flag_law i less stands low in (o.0, o.1, at_longer s.views ([] ∷ []) o.0 o.1 o.2, o.3);
+      };
+    })
+
+pub joins : (id : ℕ) (v : List LossStep) (other : ℕ) (w : List LossStep) → Quiet v → Quiet w → Joins Rule id v other w (v ++ w) []
+joins id v other w quiet_v quiet_w s rule at apart there =
+    let both : List LossStep = v ++ w in
+    let mid : List (List LossStep) = set s.views id both in
+    let there' : get_elem? s.views other ≡ some w = sym (set_else s.views id other both apart) ∙ there in
+    let sums : (f : LossStep → ℕ) → total (total f) (set mid other []) ≡ total (total f) s.views =
+    (λ f. let a = total_set (total f) s.views id v both at in let b = total_set (total f) mid other w [] there in let c = total_append f v w in omega arith) in
+    record {
+      wide = rule.wide;
+      laws = record {
+        balance = λ i less. let a = sums (added i) in let b = sums (took i) in let o = rule.laws.balance i less in omega arith;
+        flag_law = λ i less stands low. let o = rule.laws.flag_law i less stands low in dite (ℕ_discrete o.0 id)
+            (λ same. absurd (debtless i o.1 v (some-injective o.1 v (sym o.2 ∙ (ap (λ k. get_elem? s.views k) same ∙ at))) (quiet_v i less) o.3))
+            (λ else_id. dite (ℕ_discrete o.0 other)
+            (λ same. absurd (debtless i o.1 w (some-injective o.1 w (sym o.2 ∙ (ap (λ k. get_elem? s.views k) same ∙ there'))) (quiet_w i less) o.3))
+            (λ else_other. (o.0, o.1, set_else mid other o.0 [] else_other ∙ (set_else s.views id o.0 both else_id ∙ o.2), o.3)));
+      };
+    }
+  where
+    debtless : (i : ℕ) (u x : List LossStep) → u ≡ x → owes the_flag i x ≡ false → owes the_flag i u ≡ true → ⊥
+    debtless i u x is no_debt debt = true≢false (sym debt ∙ (ap (λ y. owes the_flag i y) is ∙ no_debt))
+
+pub get_or_there : (ws : List ℕ) (i x : ℕ) → get_elem? ws i ≡ some x → x ≡ get_or ws i 0
+get_or_there [] i x e = absurd (some-ne-none x (sym e))
+get_or_there (w ∷ ws) zero x e = sym (some-injective w x e)
+get_or_there (w ∷ ws) (suc i) x e = get_or_there ws i x e
+
+-- one more of the words is copied
+pub copied : (ws left : List ℕ) (i x : ℕ) → i < length left → get_elem? ws i ≡ some x → ((k : ℕ) → k < i → get_or left k 0 ≡ get_or ws k 0)
+    → (k : ℕ) → k < i + 1 → get_or (set left i x) k 0 ≡ get_or ws k 0
+copied ws left i x inside at before k less = dite (ℕ_discrete k i)
+    (λ same. at_place left i k x same inside ∙ (get_or_there ws i x at ∙ ap (λ j. get_or ws j 0) (sym same)))
+    (λ apart. elsewhere left i k x apart ∙ before k (omega arith))
+
+-- a view that took what v recorded and recorded what v took
+abbrev mirrored : List LossStep → List LossStep
+mirrored [] = []
+mirrored (Add i q ∷ v) = Take i q ∷ mirrored v
+mirrored (Raise f ∷ v) = mirrored v
+mirrored (Lower f up ∷ v) = mirrored v
+mirrored (Take i q ∷ v) = Add i q ∷ mirrored v
+
+mirrored_added : (i : ℕ) (v : List LossStep) → total (added i) (mirrored v) ≡ total (took i) v
+mirrored_added i [] = refl
+mirrored_added i (Add j q ∷ v) = let r = mirrored_added i v in omega arith
+mirrored_added i (Raise f ∷ v) = let r = mirrored_added i v in omega arith
+mirrored_added i (Lower f up ∷ v) = let r = mirrored_added i v in omega arith
+mirrored_added i (Take j q ∷ v) = let r = mirrored_added i v in omega arith
+
+mirrored_took : (i : ℕ) (v : List LossStep) → total (took i) (mirrored v) ≡ total (added i) v
+mirrored_took i [] = refl
+mirrored_took i (Add j q ∷ v) = let r = mirrored_took i v in omega arith
+mirrored_took i (Raise f ∷ v) = let r = mirrored_took i v in omega arith
+mirrored_took i (Lower f up ∷ v) = let r = mirrored_took i v in omega arith
+mirrored_took i (Take j q ∷ v) = let r = mirrored_took i v in omega arith
+
+-- counters in which nothing stands, beside a view that took all that the first recorded
+pub nothing_stands : (mine : List LossStep) → IsClosed mine (replicate 63 0)
+nothing_stands mine = record {
+  words = replicate the_words 0;
+  views = mine ∷ mirrored mine ∷ [];
+  kept = record {
+    wide = refl;
+    laws = record {
+      balance = λ i less. let a = mirrored_added i mine in let b = mirrored_took i mine in let z = zero_at the_words i in omega arith;
+      flag_law = λ i less stands low. absurd (stands (zero_at the_words i));
+    };
+  };
+  seat = 0;
+  there = refl;
+  left = λ i less. zero_at 63 i ∙ sym (zero_at the_words i);
+}

@@ -1,0 +1,102 @@
+//! The book from which reports are made.
+ghost use Rattle.std.specs.Prelude.{◌≡◌, ◌<◌, [], ◌∷◌, ◌++◌, List, OnOk, OnErr, IfOk, IfErr};
+ghost use Rattle.sentry_base.specs.declared.protocol.refusal.Refusal.TheVariants.{OutOfMemory};
+ghost use Rattle.sentry_parts.specs.LossBooks.{Book, LossEntry, kept, recorded, absorbed, report_point, report_one, report_items, report_of};
+
+use sentry_base::plain::Items;
+use sentry_base::protocol::{
+    Category, ClientReport, ClientReportItem, LOSS_QUANTITIES, Losses, REASONS, Reason, Refusal,
+};
+use std::alloc::{AllocError, Global};
+use std::marker::Model;
+
+/// The losses that no report has told of yet. Contracts see it as what it keeps of each history that it stands for.
+#[derive(Drop)]
+pub struct LossBook {
+    pending: Losses,
+}
+
+impl Model for LossBook {
+    ghost Value = { Book };
+
+    ghost view = { λ b. record { pending = b.pending.quantities } };
+}
+
+// Lists a quantity that isn't 0.
+fn list_one(
+    items: &mut Items<ClientReportItem>,
+    index: usize,
+    quantity: u64,
+) -> Result<(), AllocError>
+    requires { index < 63 }
+    ensures { OnOk result (items.new ≡ items.old ++ report_one index quantity) }
+{
+    if quantity == 0 {
+        return Ok(());
+    }
+    items.push(ClientReportItem {
+        category: Category::at(index / REASONS),
+        reason: Reason::at(index % REASONS),
+        quantity,
+    })
+}
+
+fn list_all(
+    alloc: Global,
+    quantities: &[u64; LOSS_QUANTITIES],
+) -> Result<Items<ClientReportItem>, AllocError>
+    ensures { IfOk result (λ items. items ≡ report_items quantities.now) }
+{
+    let mut items = Items::new(alloc);
+    for i in 0..LOSS_QUANTITIES {
+        list_one(&mut items, i, quantities[i])?;
+    }
+    Ok(items)
+}
+
+fn report_of(items: Items<ClientReportItem>) -> Option<ClientReport>
+    ensures { result ≡ report_of items }
+{
+    if items.as_slice().is_empty() {
+        return None;
+    }
+    Some(ClientReport { items })
+}
+
+impl LossBook {
+    /// The book in which nothing came yet.
+    pub fn new() -> LossBook
+        ensures { result ≡ kept [] }
+    {
+        LossBook {
+            pending: Losses::none(),
+        }
+    }
+
+    /// Counts losses.
+    pub fn record(&mut self, losses: &Losses)
+        ensures { (history : List LossEntry) → self.old ≡ kept history → self.new ≡ kept (recorded losses.now.quantities ∷ history) }
+    {
+        self.pending.add(losses);
+    }
+
+    /// Takes drained losses over.
+    pub fn absorb(&mut self, drained: &Losses)
+        ensures { (history : List LossEntry) → self.old ≡ kept history → self.new ≡ kept (absorbed drained.now.quantities ∷ history) }
+    {
+        self.pending.add(drained);
+    }
+
+    /// A report of what is pending, which then counts as reported; none where nothing is pending. Where there is no
+    /// memory the book is as it was.
+    pub fn take_report(&mut self, alloc: Global) -> Result<Option<ClientReport>, Refusal>
+        ensures report { IfOk result (λ report. report ≡ report_of (report_items self.old.pending)) }
+        ensures point { OnOk result ((history : List LossEntry) → self.old ≡ kept history → self.new ≡ kept (report_point ∷ history)) }
+        ensures refused { IfErr result (λ refusal. refusal ≡ OutOfMemory) }
+        ensures unchanged { OnErr result (self.new ≡ self.old) }
+    {
+        let items = list_all(alloc, &self.pending.quantities)?;
+        self.pending = Losses::none();
+        Ok(report_of(items))
+    }
+}

@@ -1,0 +1,100 @@
+//! Drainers of losses.
+ghost use Rattle.std.specs.Prelude.{◌≡◌, ◌++◌, [], IfOk, IfErr};
+ghost use Rattle.sentry_base.specs.declared.protocol.refusal.Refusal.TheVariants.{OutOfMemory};
+ghost use Rattle.sentry_parts.specs.LossWords.{LossPart, loss_part, Quiet, IsDrain, the_flags};
+
+use crate::client_reports::draining::drain_all;
+use crate::client_reports::part::Part;
+use sentry_base::protocol::{Label, Losses, Refusal};
+use std::marker::Model;
+
+/// Takes the losses out of words that it shares with recorders and with other drainers. Contracts see which words those
+/// are, their label and the steps of this drainer.
+#[derive(Drop)]
+pub struct Drainer {
+    pub(crate) part: Part,
+    pub(crate) label: Label,
+}
+
+impl Model for Drainer {
+    ghost Value = { LossPart };
+
+    ghost view = { λ r. loss_part r.part.seat.table_id r.label r.part.seat.me.0 };
+
+    ghost invariant = { λ r. Quiet r.part.seat.me.0 };
+}
+
+/// What a drain took, and the label of its words. It has no `Drop`, so that no losses are dropped unseen: it is spent
+/// where a book absorbs it, or by `into_parts`.
+pub struct Drained {
+    label: Label,
+    losses: Losses,
+}
+
+impl Model for Drained {
+    ghost use Rattle.sentry_base.specs.declared.protocol.keys.Label.{Label};
+    ghost use Rattle.sentry_base.specs.declared.protocol.losses.Losses.{Losses};
+
+    ghost Value = { Label × Losses };
+
+    ghost view = { λ d. (d.label, d.losses) };
+}
+
+impl Drained {
+    /// The label of the words, and what was taken.
+    pub fn into_parts(self) -> (Label, Losses)
+        ensures { result ≡ self }
+    {
+        let Drained { label, losses } = self;
+        (label, losses)
+    }
+}
+
+impl Drainer {
+    /// Lowers the flag, and where it was up, takes each counter in the order of the indexes, which is the answer. Where
+    /// it was down the answer is all zeros. It takes no memory and waits for nobody. Which steps of other threads came
+    /// before it isn't said.
+    pub fn drain(&mut self) -> Drained
+        ensures words { self.new.words ≡ self.old.words }
+        ensures label { self.new.label ≡ self.old.label }
+        ensures drained_label { result.0 ≡ self.old.label }
+        ensures steps { IsDrain the_flags self.old.steps self.new.steps result.1.quantities }
+        ensures quiet { Quiet self.new.steps }
+    {
+        let quantities = drain_all(&mut self.part);
+        Drained {
+            label: self.label,
+            losses: Losses { quantities },
+        }
+    }
+
+    /// This drainer and another one of the same words, which has done nothing. Where there is no memory the drainer
+    /// comes back.
+    pub fn split(self) -> Result<(Drainer, Drainer), (Refusal, Drainer)>
+        ensures both { IfOk result (λ r. (r.0 ≡ self) × (r.1 ≡ loss_part self.words self.label [])) }
+        ensures back { IfErr result (λ r. (r.0 ≡ OutOfMemory) × (r.1 ≡ self)) }
+    {
+        let Drainer { mut part, label } = self;
+        match part.split() {
+            Ok(second) => Ok((
+                Drainer { part, label },
+                Drainer {
+                    part: second,
+                    label,
+                },
+            )),
+            Err(_) => Err((Refusal::OutOfMemory, Drainer { part, label })),
+        }
+    }
+
+    /// Takes the steps of another drainer of the same words over.
+    pub fn join(&mut self, other: Drainer)
+        requires { other.words ≡ self.old.words }
+        ensures words { self.new.words ≡ self.old.words }
+        ensures label { self.new.label ≡ self.old.label }
+        ensures steps { self.new.steps ≡ self.old.steps ++ other.steps }
+    {
+        let Drainer { part, label: _ } = other;
+        self.part.join(part);
+    }
+}

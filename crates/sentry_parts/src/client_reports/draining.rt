@@ -1,0 +1,48 @@
+//! The steps of a drain.
+ghost use Rattle.std.specs.Prelude.{◌≡◌, ◌≢◌, ℕ, false, ◌+◌, ◌*◌, ◌<◌, ◌++◌, length, slice_index};
+ghost use Rattle.sentry_parts.specs.LossWords.{Quiet, the_counters, the_flags, per_flag, the_flag, taking, draining_one, IsDrain};
+
+use crate::client_reports::part::{COUNTERS, FLAGS, PER_FLAG, Part};
+
+// Takes each counter of the flag.
+fn take_counters(part: &mut Part, flag: usize, taken: &mut [u64; COUNTERS])
+    requires { flag < the_flags }
+    ensures words { part.new.seat.table_id ≡ part.old.seat.table_id }
+    ensures steps { part.new.seat.me.0 ≡ part.old.seat.me.0 ++ taking (flag * per_flag) per_flag taken.new }
+    ensures others { (i : ℕ) → the_flag i ≢ flag → slice_index taken.new i ≡ slice_index taken.old i }
+{
+    let first = flag * PER_FLAG;
+    for k in 0..PER_FLAG {
+        taken[first + k] = part.take(first + k);
+    }
+}
+
+// Lowers the flag, and takes its counters if it was up.
+fn drain_flag(part: &mut Part, flag: usize, taken: &mut [u64; COUNTERS]) -> bool
+    requires inside { flag < the_flags }
+    requires quiet { Quiet part.old.seat.me.0 }
+    ensures words { part.new.seat.table_id ≡ part.old.seat.table_id }
+    ensures steps { part.new.seat.me.0 ≡ part.old.seat.me.0 ++ draining_one flag result taken.new }
+    ensures others { (i : ℕ) → the_flag i ≢ flag → slice_index taken.new i ≡ slice_index taken.old i }
+    ensures down { result ≡ false → taken.new ≡ taken.old }
+    ensures quiet { Quiet part.new.seat.me.0 }
+{
+    let up = part.lower(flag);
+    if up {
+        take_counters(part, flag, taken);
+    }
+    up
+}
+
+pub(crate) fn drain_all(part: &mut Part) -> [u64; COUNTERS]
+    requires { Quiet part.old.seat.me.0 }
+    ensures words { part.new.seat.table_id ≡ part.old.seat.table_id }
+    ensures steps { IsDrain the_flags part.old.seat.me.0 part.new.seat.me.0 result }
+    ensures quiet { Quiet part.new.seat.me.0 }
+{
+    let mut taken = [0; COUNTERS];
+    for f in 0..FLAGS {
+        drain_flag(part, f, &mut taken);
+    }
+    taken
+}

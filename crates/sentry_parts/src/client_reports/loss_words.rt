@@ -1,0 +1,78 @@
+//! The words of losses: how they begin and end.
+ghost use Rattle.std.specs.Prelude.{◌≡◌, ◌++◌, [], IfOk, IfErr};
+ghost use Rattle.sentry_base.specs.declared.protocol.refusal.Refusal.TheVariants.{OutOfMemory};
+ghost use Rattle.sentry_parts.specs.LossWords.{IsClosed};
+
+use crate::client_reports::closing::{close_both, close_one};
+use crate::client_reports::drainer::Drainer;
+use crate::client_reports::part::Part;
+use crate::client_reports::recorder::Recorder;
+use sentry_base::protocol::{Label, Losses, Refusal};
+use std::alloc::Global;
+
+/// The atomic words of losses, a counter for each quantity and a flag, which recorders and drainers share. Between any
+/// two steps of any threads both laws of the loss machine hold.
+pub struct LossWords;
+
+impl LossWords {
+    /// New words with all counters at 0: a recorder and a drainer, which have done nothing.
+    pub fn new(alloc: Global, label: Label) -> Result<(Recorder, Drainer), Refusal>
+        ensures words { IfOk result (λ parts. parts.1.words ≡ parts.0.words) }
+        ensures labels { IfOk result (λ parts. (parts.0.label ≡ label) × (parts.1.label ≡ label)) }
+        ensures steps { IfOk result (λ parts. (parts.0.steps ≡ []) × (parts.1.steps ≡ [])) }
+        ensures refused { IfErr result (λ refusal. refusal ≡ OutOfMemory) }
+    {
+        let mut first = Part::open(alloc)?;
+        let second = first.split()?;
+        Ok((
+            Recorder { part: first, label },
+            Drainer {
+                part: second,
+                label,
+            },
+        ))
+    }
+
+    /// What stands in the counters, which end here. Both parts come back while another part of these words is held.
+    /// It takes no memory.
+    pub fn close(recorder: Recorder, drainer: Drainer) -> Result<Losses, (Recorder, Drainer)>
+        requires { drainer.words ≡ recorder.words }
+        ensures closed { IfOk result (λ losses. IsClosed (recorder.steps ++ drainer.steps) losses.quantities) }
+        ensures back { IfErr result (λ parts. parts ≡ (recorder, drainer)) }
+    {
+        let Recorder {
+            part: first,
+            label: recorder_label,
+        } = recorder;
+        let Drainer {
+            part: second,
+            label: drainer_label,
+        } = drainer;
+        match close_both(first, second) {
+            Ok(quantities) => Ok(Losses { quantities }),
+            Err((first, second)) => Err((
+                Recorder {
+                    part: first,
+                    label: recorder_label,
+                },
+                Drainer {
+                    part: second,
+                    label: drainer_label,
+                },
+            )),
+        }
+    }
+
+    /// What stands in the counters, which end here. The drainer comes back while another part of these words is held.
+    /// It takes no memory.
+    pub fn close_drainer(drainer: Drainer) -> Result<Losses, Drainer>
+        ensures closed { IfOk result (λ losses. IsClosed drainer.steps losses.quantities) }
+        ensures back { IfErr result (λ part. part ≡ drainer) }
+    {
+        let Drainer { part, label } = drainer;
+        match close_one(part) {
+            Ok(quantities) => Ok(Losses { quantities }),
+            Err(part) => Err(Drainer { part, label }),
+        }
+    }
+}

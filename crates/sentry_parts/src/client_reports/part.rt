@@ -1,0 +1,157 @@
+//! One thread's part in the words: a share of them, and a seat. Each step on the words is one method here.
+ghost use Rattle.std.specs.Prelude.{◌≡◌, ◌+◌, ◌-◌, ◌<◌, ◌==◌, not, [], ◌∷◌, ◌++◌, length, replicate, IfOk, IfErr};
+ghost use Rattle.std.specs.Arc.{arc_value};
+ghost use Rattle.atomic_table.specs.Seated.{TableId};
+ghost use Rattle.sentry_parts.specs.LossWords.{Kept, Quiet, IsClosed, the_counters, the_words, the_flags};
+ghost use Rattle.sentry_parts.specs.declared.client_reports.step.LossStep.TheVariants.{Add, Raise, Lower, Take};
+
+use crate::client_reports::step::View;
+use atomic_table::{Join, Play, Seat, Split, Table, TableRule};
+use sentry_base::protocol::LOSS_QUANTITIES;
+use std::alloc::{AllocError, Global};
+use std::sync::Arc;
+
+pub(crate) const COUNTERS: usize = LOSS_QUANTITIES;
+
+pub(crate) const FLAGS: usize = 1;
+
+// How many counters a flag stands for.
+pub(crate) const PER_FLAG: usize = 63;
+
+// The rule of the words: both laws of the loss machine hold between any two steps.
+pub struct LossRule;
+
+impl TableRule<(), View, ()> for LossRule {
+    ghost holds = { λ _ s. Kept s.words s.views };
+
+    ghost first = { λ _. [] };
+}
+
+struct Adds;
+
+impl Play<(), View> for Adds {
+    ghost then = { λ st m n w. w ≡ (m.0 ++ Add st.word st.first ∷ [], m.1) };
+}
+
+struct Raises;
+
+impl Play<(), View> for Raises {
+    ghost then = { λ st m n w. w ≡ (m.0 ++ Raise (st.word - the_counters) ∷ [], m.1) };
+}
+
+struct Lowers;
+
+impl Play<(), View> for Lowers {
+    ghost then = { λ st m n w. w ≡ (m.0 ++ Lower (st.word - the_counters) (not (n == 0)) ∷ [], m.1) };
+}
+
+struct Takes;
+
+impl Play<(), View> for Takes {
+    ghost then = { λ st m n w. w ≡ (m.0 ++ Take st.word n ∷ [], m.1) };
+}
+
+// A new seat has done nothing.
+struct Cut;
+
+impl Split<View> for Cut {
+    ghost left = { λ v. v };
+
+    ghost right = { λ v. [] };
+}
+
+pub(crate) struct Both;
+
+impl Join<View> for Both {
+    ghost both = { λ v w. v ++ w };
+
+    ghost spent = { [] };
+}
+
+pub(crate) type Words = Table<(), View, (), LossRule, Global>;
+
+#[derive(Drop)]
+pub(crate) struct Part {
+    pub(crate) words: Arc<Words>,
+    pub(crate) seat: Seat<(), View>,
+    ghost seated: { seat.table_id ≡ (arc_value words).shared.table_id },
+    ghost sized: { (arc_value words).shared.table_id.words ≡ the_words },
+    ghost slotless: { (arc_value words).shared.table_id.slots ≡ 0 },
+    ghost bare: { seat.me.1 ≡ [] },
+}
+
+impl Part {
+    // The first part of new words, which are all 0.
+    pub(crate) fn open(alloc: Global) -> Result<Part, AllocError>
+        ensures { IfOk result (λ p. p.seat.me.0 ≡ []) }
+    {
+        let (table, seat) = Words::of_words(alloc, &[0; COUNTERS + FLAGS], &())?;
+        let words = Arc::new(alloc, table)?;
+        Ok(Part { words, seat })
+    }
+
+    // Another part of the words, which has done nothing.
+    pub(crate) fn split(&mut self) -> Result<Part, AllocError>
+        ensures words { self.new.seat.table_id ≡ self.old.seat.table_id }
+        ensures steps { self.new.seat.me.0 ≡ self.old.seat.me.0 }
+        ensures given { IfOk result (λ p. (p.seat.table_id ≡ self.old.seat.table_id) × (p.seat.me.0 ≡ [])) }
+    {
+        let words = Arc::try_clone(&self.words)?;
+        let seat = words.shared.split_seat::<Cut>(&mut self.seat);
+        Ok(Part { words, seat })
+    }
+
+    // Takes the steps of another part over.
+    pub(crate) fn join(&mut self, other: Part)
+        requires same { other.seat.table_id ≡ self.old.seat.table_id }
+        requires quiet { Quiet self.old.seat.me.0 × Quiet other.seat.me.0 }
+        ensures words { self.new.seat.table_id ≡ self.old.seat.table_id }
+        ensures steps { self.new.seat.me.0 ≡ self.old.seat.me.0 ++ other.seat.me.0 }
+        ensures quiet { Quiet self.new.seat.me.0 }
+    {
+        let Part { words: _, seat } = other;
+        self.words.shared.join_seat::<Both>(&mut self.seat, seat);
+    }
+
+    pub(crate) fn add(&mut self, counter: usize, quantity: u64)
+        requires { counter < the_counters }
+        ensures words { self.new.seat.table_id ≡ self.old.seat.table_id }
+        ensures steps { self.new.seat.me.0 ≡ self.old.seat.me.0 ++ Add counter quantity ∷ [] }
+    {
+        self.words
+            .shared
+            .fetch_add::<Adds>(&mut self.seat, counter, quantity);
+    }
+
+    pub(crate) fn raise(&mut self, flag: usize)
+        requires { flag < the_flags }
+        ensures words { self.new.seat.table_id ≡ self.old.seat.table_id }
+        ensures steps { self.new.seat.me.0 ≡ self.old.seat.me.0 ++ Raise flag ∷ [] }
+    {
+        self.words
+            .shared
+            .store::<Raises>(&mut self.seat, COUNTERS + flag, 1);
+    }
+
+    // Whether the flag was up.
+    pub(crate) fn lower(&mut self, flag: usize) -> bool
+        requires { flag < the_flags }
+        ensures words { self.new.seat.table_id ≡ self.old.seat.table_id }
+        ensures steps { self.new.seat.me.0 ≡ self.old.seat.me.0 ++ Lower flag result ∷ [] }
+    {
+        let found = self
+            .words
+            .shared
+            .swap::<Lowers>(&mut self.seat, COUNTERS + flag, 0);
+        found != 0
+    }
+
+    // What the counter had.
+    pub(crate) fn take(&mut self, counter: usize) -> u64
+        requires { counter < the_counters }
+        ensures words { self.new.seat.table_id ≡ self.old.seat.table_id }
+        ensures steps { self.new.seat.me.0 ≡ self.old.seat.me.0 ++ Take counter result ∷ [] }
+    {
+        self.words.shared.swap::<Takes>(&mut self.seat, counter, 0)
+    }
+}

@@ -1,0 +1,92 @@
+-- A client's options: their defaults, and the limits on the bodies of requests.
+use Rattle.std.specs.Prelude.{◌≡◌, ℕ, Bool, true, false, nat_le, Option, Some, None, Result, Ok, Err, [], if◌then◌else◌}
+use Rattle.sentry_base.specs.declared.dsn.Dsn.{Dsn}
+use Rattle.sentry_base.specs.declared.protocol.refusal.Refusal.{Refusal}
+use Rattle.sentry_base.specs.declared.protocol.refusal.Refusal.TheVariants.{OutOfMemory, InvalidRate}
+use Rattle.sentry_base.specs.Texts.{Bytes}
+use Rattle.sentry_state.specs.Constants.{sdk_user_agent}
+use Rattle.sentry_state.specs.declared.clientoptions.choices.SessionMode.TheVariants.{Application}
+use Rattle.sentry_state.specs.declared.clientoptions.choices.MaxRequestBodySize.{MaxRequestBodySize}
+use Rattle.sentry_state.specs.declared.clientoptions.choices.MaxRequestBodySize.TheVariants as size
+use Rattle.sentry_state.specs.declared.clientoptions.choices.EventSamplingStrategy.{EventSamplingStrategy}
+use Rattle.sentry_state.specs.declared.clientoptions.choices.EventSamplingStrategy.TheVariants.{FixedRate}
+use Rattle.sentry_state.specs.declared.clientoptions.choices.TracesSamplingStrategy.TheVariants.{Disabled}
+use Rattle.sentry_state.specs.declared.clientoptions.callbacks.ClientCallbacks.{ClientCallbacks}
+use Rattle.sentry_state.specs.declared.clientoptions.plain.PlainOptions.{PlainOptions}
+use Rattle.sentry_state.specs.declared.clientoptions.ClientOptions.{ClientOptions}
+
+-- whether a request's body of this many bytes is kept
+abbrev pub is_within_size_limit : MaxRequestBodySize → ℕ → Bool
+is_within_size_limit size.None length = false
+is_within_size_limit size.Small length = nat_le length 1000
+is_within_size_limit size.Medium length = nat_le length 10000
+is_within_size_limit size.Always length = true
+is_within_size_limit (size.Explicit longest) length = nat_le length longest
+
+-- a million in a million events are kept
+abbrev pub every_event : EventSamplingStrategy
+every_event = FixedRate 1000000
+
+-- the options of which nothing was set
+abbrev pub default_plain_options : PlainOptions
+default_plain_options = record {
+  dsn = None;
+  debug = false;
+  release = None;
+  environment = None;
+  event_sampling_strategy = every_event;
+  org_id = None;
+  strict_trace_continuation = false;
+  max_breadcrumbs = 100;
+  attach_stacktrace = false;
+  send_default_pii = false;
+  server_name = None;
+  in_app_include = [];
+  in_app_exclude = [];
+  default_integrations = true;
+  http_proxy = None;
+  https_proxy = None;
+  shutdown_timeout = 2000000000;
+  max_request_body_size = size.Medium;
+  transport_channel_capacity = None;
+  enable_logs = true;
+  enable_metrics = true;
+  accept_invalid_certs = false;
+  auto_session_tracking = false;
+  session_mode = Application;
+  user_agent = sdk_user_agent;
+}
+
+-- the options of which nothing was set, with these callbacks
+abbrev pub default_options_with : {C : Type 0} → C → ClientOptions C
+default_options_with callbacks = record { plain = default_plain_options; traces_sampling_strategy = Disabled; callbacks = callbacks }
+
+-- the options of which nothing was set: no integrations, and no callback
+abbrev pub default_options : {E I : Type 0} → ClientOptions (ClientCallbacks E I)
+default_options = default_options_with (record { integrations = []; before_send = None })
+
+-- ---- what builders make
+
+-- the options made are these, or memory was wanting
+abbrev pub Makes : {T : Type 0} → Result T Refusal → T → Type 0
+Makes (Ok made) expected = made ≡ expected
+Makes (Err refusal) expected = refusal ≡ OutOfMemory
+
+module _ {C : Type 0} where
+  -- the options with this DSN, or none
+  abbrev pub with_dsn : ClientOptions C → Option Dsn → ClientOptions C
+  with_dsn options dsn = record options { plain = record options.plain { dsn = dsn } }
+
+  -- the options with what was read as a DSN, or the refusal of the reading
+  abbrev pub with_dsn_read : ClientOptions C → Result (Option Dsn) Refusal → Result (ClientOptions C) Refusal
+  with_dsn_read options (Ok dsn) = Ok (with_dsn options dsn)
+  with_dsn_read options (Err refusal) = Err refusal
+
+  -- the options with this release, or as they are where there is none
+  abbrev pub with_release_if_any : ClientOptions C → Option Bytes → ClientOptions C
+  with_release_if_any options None = options
+  with_release_if_any options (Some release) = record options { plain = record options.plain { release = Some release } }
+
+  -- these options, or the refusal of a rate above a million
+  abbrev pub with_rate : ℕ → ClientOptions C → Result (ClientOptions C) Refusal
+  with_rate rate made = if nat_le rate 1000000 then Ok made else Err InvalidRate

@@ -1,0 +1,193 @@
+//! The options but for integrations, callbacks and the sampling of traces.
+ghost use Rattle.std.specs.Prelude.{◌≡◌, IfOk};
+ghost use Rattle.sentry_state.specs.Options.{default_plain_options};
+
+use crate::clientoptions::choices::{EventSamplingStrategy, MaxRequestBodySize, SessionMode};
+use crate::clientoptions::user_agent::UserAgent;
+use sentry_base::dsn::Dsn;
+use sentry_base::plain::{Items, Text};
+use sentry_base::protocol::OrganizationId;
+use std::alloc::{AllocError, Global};
+use std::num::NonZeroUsize;
+
+/// The options but for integrations, callbacks and the sampling of traces. An integration's `setup` may change any of
+/// them. `ClientOptions` has a builder for each.
+#[derive(Drop)]
+pub struct PlainOptions {
+    /// Where events go. Without one, nothing is sent.
+    pub dsn: Option<Dsn>,
+    /// Whether the SDK is to tell what it does.
+    pub debug: bool,
+    /// The version of the program, which events without one get.
+    pub release: Option<Text>,
+    /// Where the program runs, as `production`, which events without one get.
+    pub environment: Option<Text>,
+    /// Which events are kept.
+    pub event_sampling_strategy: EventSamplingStrategy,
+    /// The organization by which incoming traces are judged, in place of the DSN's.
+    pub org_id: Option<OrganizationId>,
+    /// Whether a trace is continued only where both sides name the same organization, or neither names one.
+    pub strict_trace_continuation: bool,
+    /// How many breadcrumbs a scope keeps.
+    pub max_breadcrumbs: usize,
+    /// Whether messages are to get a stack trace.
+    pub attach_stacktrace: bool,
+    /// Whether data that may name a person is sent.
+    pub send_default_pii: bool,
+    /// The name of the machine, which events without one get.
+    pub server_name: Option<Text>,
+    /// Prefixes of modules that count as the program's own.
+    pub in_app_include: Items<Text>,
+    /// Prefixes of modules that never count as the program's own.
+    pub in_app_exclude: Items<Text>,
+    /// Whether the usual integrations are to be added.
+    pub default_integrations: bool,
+    /// The proxy for HTTP.
+    pub http_proxy: Option<Text>,
+    /// The proxy for HTTPS.
+    pub https_proxy: Option<Text>,
+    /// How long a client may wait at its end for what is to be sent, in nanoseconds.
+    pub shutdown_timeout: u64,
+    /// How long a request's body may be that is kept with an event.
+    pub max_request_body_size: MaxRequestBodySize,
+    /// How many envelopes may wait in the transport.
+    pub transport_channel_capacity: Option<NonZeroUsize>,
+    /// Whether integrations may capture logs by themselves. Logs that are captured by a call are sent in any case.
+    pub enable_logs: bool,
+    /// Without effect: metrics are sent in any case.
+    pub enable_metrics: bool,
+    /// Whether a server's certificate may be invalid.
+    pub accept_invalid_certs: bool,
+    /// Whether sessions are to be started without a call.
+    pub auto_session_tracking: bool,
+    /// What a session is of.
+    pub session_mode: SessionMode,
+    /// What the transport tells the server of who sends.
+    pub user_agent: UserAgent,
+}
+
+impl PlainOptions {
+    /// The defaults. It takes no memory.
+    pub fn new(alloc: Global) -> PlainOptions
+        ensures { result ≡ default_plain_options }
+    {
+        PlainOptions {
+            dsn: None,
+            debug: false,
+            release: None,
+            environment: None,
+            event_sampling_strategy: EventSamplingStrategy::default(),
+            org_id: None,
+            strict_trace_continuation: false,
+            max_breadcrumbs: 100,
+            attach_stacktrace: false,
+            send_default_pii: false,
+            server_name: None,
+            in_app_include: Items::new(alloc),
+            in_app_exclude: Items::new(alloc),
+            default_integrations: true,
+            http_proxy: None,
+            https_proxy: None,
+            shutdown_timeout: 2_000_000_000,
+            max_request_body_size: MaxRequestBodySize::Medium,
+            transport_channel_capacity: None,
+            enable_logs: true,
+            enable_metrics: true,
+            accept_invalid_certs: false,
+            auto_session_tracking: false,
+            session_mode: SessionMode::Application,
+            user_agent: UserAgent::of_sdk(),
+        }
+    }
+}
+
+// Options are cloned in two parts, since a proof grows with the square of what one function clones.
+
+#[derive(Drop)]
+struct Origin {
+    release: Option<Text>,
+    environment: Option<Text>,
+    server_name: Option<Text>,
+    in_app_include: Items<Text>,
+    in_app_exclude: Items<Text>,
+}
+
+#[derive(Drop)]
+struct Server {
+    dsn: Option<Dsn>,
+    http_proxy: Option<Text>,
+    https_proxy: Option<Text>,
+    user_agent: UserAgent,
+}
+
+impl PlainOptions {
+    fn origin(&self) -> Result<Origin, AllocError>
+        ensures { IfOk result (λ parts. parts ≡ record {
+          release = self.now.release;
+          environment = self.now.environment;
+          server_name = self.now.server_name;
+          in_app_include = self.now.in_app_include;
+          in_app_exclude = self.now.in_app_exclude;
+        }) }
+    {
+        Ok(Origin {
+            release: self.release.clone()?,
+            environment: self.environment.clone()?,
+            server_name: self.server_name.clone()?,
+            in_app_include: self.in_app_include.clone()?,
+            in_app_exclude: self.in_app_exclude.clone()?,
+        })
+    }
+
+    fn server(&self) -> Result<Server, AllocError>
+        ensures { IfOk result (λ parts. parts ≡ record {
+          dsn = self.now.dsn;
+          http_proxy = self.now.http_proxy;
+          https_proxy = self.now.https_proxy;
+          user_agent = self.now.user_agent;
+        }) }
+    {
+        Ok(Server {
+            dsn: self.dsn.clone()?,
+            http_proxy: self.http_proxy.clone()?,
+            https_proxy: self.https_proxy.clone()?,
+            user_agent: self.user_agent.clone()?,
+        })
+    }
+}
+
+impl Clone for PlainOptions {
+    ghost is_clone = { λ old new. new ≡ old };
+
+    fn clone(&self) -> Result<PlainOptions, AllocError> {
+        let origin = self.origin()?;
+        let server = self.server()?;
+        Ok(PlainOptions {
+            dsn: server.dsn,
+            debug: self.debug,
+            release: origin.release,
+            environment: origin.environment,
+            event_sampling_strategy: self.event_sampling_strategy,
+            org_id: self.org_id,
+            strict_trace_continuation: self.strict_trace_continuation,
+            max_breadcrumbs: self.max_breadcrumbs,
+            attach_stacktrace: self.attach_stacktrace,
+            send_default_pii: self.send_default_pii,
+            server_name: origin.server_name,
+            in_app_include: origin.in_app_include,
+            in_app_exclude: origin.in_app_exclude,
+            default_integrations: self.default_integrations,
+            http_proxy: server.http_proxy,
+            https_proxy: server.https_proxy,
+            shutdown_timeout: self.shutdown_timeout,
+            max_request_body_size: self.max_request_body_size,
+            transport_channel_capacity: self.transport_channel_capacity,
+            enable_logs: self.enable_logs,
+            enable_metrics: self.enable_metrics,
+            accept_invalid_certs: self.accept_invalid_certs,
+            auto_session_tracking: self.auto_session_tracking,
+            session_mode: self.session_mode,
+            user_agent: server.user_agent,
+        })
+    }
+}
