@@ -103,8 +103,7 @@ fn read(alloc: Global, line: &str) -> Result<Option<Command>, AllocError>
 /// A line spells one command at most.
 pub fn one_command()
     ensures { (line : Bytes) (a b : Command) → Spells line a → Spells line b → a ≡ b }
-{
-}
+{}
 
 /// The command that a line spells, if it spells one.
 pub fn parse(alloc: Global, line: &[u8]) -> Result<Option<Command>, AllocError>

@@ -6,7 +6,9 @@ ghost use Rattle.replay.specs.Commands.{level_word};
 ghost use Rattle.replay.specs.Printing.{tag_text, tags_text, event_text, attachment_text, loss_text, report_text, item_text, envelope_line, answer_text};
 
 use sentry_base::plain::{Text, TextMap};
-use sentry_base::protocol::{Attachment, ClientKey, ClientReport, ClientReportItem, Envelope, EnvelopeItem, Event, Level};
+use sentry_base::protocol::{
+    Attachment, ClientKey, ClientReport, ClientReportItem, Envelope, EnvelopeItem, Event, Level,
+};
 use sentry_engine::call::Answer;
 use std::alloc::AllocError;
 use std::collections::btree_map::Iter;

@@ -1,7 +1,15 @@
 //! Whole runs, with what they print.
 use crate::fault::ReplayFault;
+use crate::print::push_answer;
 use crate::run::run_replay;
-use std::alloc::Global;
+use sentry_base::plain::{Items, Text};
+use sentry_base::protocol::{
+    Attachment, Category, ClientKey, ClientReport, ClientReportItem, Envelope, EnvelopeHeaders,
+    EnvelopeItem, Event, Reason, Uuid,
+};
+use sentry_engine::call::{Answer, Reply};
+use sentry_engine::engine::Out;
+use std::alloc::{AllocError, Global};
 use std::io::{BufReader, Error, ErrorKind, Read, Write};
 use std::process::Abort;
 use std::test::Fail;
@@ -152,6 +160,65 @@ fn a_long_line_is_one_line(rt: HostRuntime) -> Result<(), Fail> {
     let (written, end) = printed(alloc, input.as_slice());
     assert!(rt; written.as_slice() == want.as_slice());
     assert!(rt; end == Ok(()));
+    Ok(())
+}
+
+fn event(alloc: Global) -> Result<EnvelopeItem, AllocError> {
+    let mut event = Event::new(alloc, Uuid::from_u128(0xab), 7)?;
+    let key = Text::new(alloc, "k")?;
+    event.tags.insert(key, Text::new(alloc, "v")?)?;
+    Ok(EnvelopeItem::Event(event))
+}
+
+fn attachment(alloc: Global) -> Result<EnvelopeItem, AllocError> {
+    Ok(EnvelopeItem::Attachment(Attachment {
+        filename: Text::new(alloc, "trace.txt")?,
+        buffer: Items::new(alloc),
+        content_type: None,
+    }))
+}
+
+fn loss(reason: Reason, quantity: u64) -> ClientReportItem {
+    ClientReportItem {
+        category: Category::Error,
+        reason,
+        quantity,
+    }
+}
+
+fn report(alloc: Global) -> Result<EnvelopeItem, AllocError> {
+    let mut items = Items::new(alloc);
+    items.push(loss(Reason::BeforeSend, 1))?;
+    items.push(loss(Reason::QueueOverflow, 20))?;
+    Ok(EnvelopeItem::ClientReport(ClientReport { items }))
+}
+
+fn answer(alloc: Global, items: Items<EnvelopeItem>) -> Result<Answer, AllocError> {
+    let header = EnvelopeHeaders {
+        event_id: None,
+        trace: None,
+    };
+    let mut sent = Items::new(alloc);
+    sent.push((ClientKey { tag: 0, number: 3 }, Envelope { header, items }))?;
+    Ok(Ok(Out {
+        reply: Reply::Done,
+        sent,
+    }))
+}
+
+#[test]
+fn items_stand_between_bars(rt: HostRuntime) -> Result<(), Fail> {
+    let alloc = rt.alloc();
+    let mut items = Items::new(alloc);
+    items.push(event(alloc)?)?;
+    items.push(attachment(alloc)?)?;
+    items.push(report(alloc)?)?;
+    let mut text = String::new(alloc);
+    push_answer(&mut text, &answer(alloc, items)?)?;
+    assert!(rt;
+        text.as_str()
+            == "envelope 3 event 000000000000000000000000000000ab info k=v  | attachment trace.txt | report error/before_send=1,error/queue_overflow=20\n"
+    );
     Ok(())
 }
 
