@@ -55,11 +55,11 @@ has_equals_sign entry = nat_lt (position_or_len is_equals_sign entry) (length en
 abbrev pub entry_key : Bytes → Bytes
 entry_key entry = trim (before_first is_equals_sign entry)
 
--- a value ends before the first `;`
+-- properties follow a value after its first `;`
 abbrev pub value_part : Bytes → Bytes
 value_part rest = before_first is_semicolon rest
 
--- and its value after that
+-- an entry's value stands after its first `=`
 abbrev pub entry_value : Bytes → Bytes
 entry_value entry = trim (value_part (after_first is_equals_sign entry))
 
