@@ -1,5 +1,5 @@
 //! Options, and what an engine makes of them.
-use crate::support::{DSN, LABEL, fresh, options, scope, unset};
+use crate::support::{DSN, LABEL, add_client_and_hub, fresh, options, unset};
 use sentry_base::plain::Text;
 use sentry_core::engine::{Call, Engine, Reply};
 use sentry_core::protocol::{ClientKey, Draw, Event, OrganizationId, Refusal, SampleRate};
@@ -345,10 +345,6 @@ fn what_is_read_as_no_dsn_takes_it_away(rt: HostRuntime) -> Result<(), Fail> {
     Ok(())
 }
 
-fn boxed_silences(alloc: Global) -> Result<BoxedIntegration, AllocError> {
-    Ok(Box::new(alloc, Silences)?)
-}
-
 #[test]
 fn a_client_with_a_dsn_and_a_transport_is_enabled(rt: HostRuntime) -> Result<(), Fail> {
     let alloc = rt.alloc();
@@ -375,57 +371,90 @@ fn a_client_without_a_dsn_is_disabled(rt: HostRuntime) -> Result<(), Fail> {
     let mut engine = Engine::new(alloc, 0);
     let client = engine.add_client(unset(alloc), true, LABEL, 0)?.reply;
     assert!(rt; !engine.is_enabled(client)?.reply);
-    let hub = engine.new_hub(Some(client), scope(alloc))?.reply;
+    Ok(())
+}
+
+// How many envelopes a message hands out, on a client with these options and a transport.
+fn envelopes_of_a_message(alloc: Global, options: ClientOptions) -> Result<usize, Fail> {
+    let mut engine = Engine::new(alloc, 0);
+    let (_, hub) = add_client_and_hub(&mut engine, alloc, options)?;
     let out = engine.capture_message(hub, "m", Level::Error, fresh(1)?)?;
-    assert!(rt; out.reply.is_nil() && out.sent.is_empty());
+    Ok(out.sent.len())
+}
+
+#[test]
+fn a_message_goes_where_the_dsn_says(rt: HostRuntime) -> Result<(), Fail> {
+    let alloc = rt.alloc();
+    assert_eq!(rt; envelopes_of_a_message(alloc, options(alloc)?)?, 1);
+    assert_eq!(rt; envelopes_of_a_message(alloc, unset(alloc))?, 0);
+    Ok(())
+}
+
+// Options without a DSN, and an integration that gives one.
+fn directed(alloc: Global) -> Result<ClientOptions, Fail> {
+    let dsn = Dsn::parse(alloc, DSN)?;
+    let directs: BoxedIntegration = Box::new(alloc, Directs { dsn })?;
+    Ok(unset(alloc).add_integration(directs)?)
+}
+
+#[test]
+fn a_dsn_of_set_up_enables_no_client(rt: HostRuntime) -> Result<(), Fail> {
+    let alloc = rt.alloc();
+    let mut engine = Engine::new(alloc, 0);
+    let client = engine.add_client(directed(alloc)?, true, LABEL, 0)?.reply;
+    assert!(rt; engine.dsn(client)?.reply.is_some());
+    assert!(rt; !engine.is_enabled(client)?.reply);
     Ok(())
 }
 
 #[test]
 fn a_dsn_of_set_up_opens_no_slot(rt: HostRuntime) -> Result<(), Fail> {
     let alloc = rt.alloc();
-    let dsn = Dsn::parse(alloc, DSN)?;
-    let directs: BoxedIntegration = Box::new(alloc, Directs { dsn })?;
-    let options = unset(alloc).add_integration(directs)?;
+    assert_eq!(rt; envelopes_of_a_message(alloc, directed(alloc)?)?, 0);
+    Ok(())
+}
+
+// Options with a DSN, and an integration that takes it.
+fn silenced(alloc: Global) -> Result<ClientOptions, Fail> {
+    let silences: BoxedIntegration = Box::new(alloc, Silences)?;
+    Ok(options(alloc)?.integrations(vec![in alloc; silences]?)?)
+}
+
+#[test]
+fn a_dsn_that_set_up_takes_disables_the_client(rt: HostRuntime) -> Result<(), Fail> {
+    let alloc = rt.alloc();
     let mut engine = Engine::new(alloc, 0);
-    let client = engine.add_client(options, true, LABEL, 0)?.reply;
-    assert!(rt; engine.dsn(client)?.reply.is_some());
+    let client = engine.add_client(silenced(alloc)?, true, LABEL, 0)?.reply;
+    assert!(rt; engine.dsn(client)?.reply.is_none());
     assert!(rt; !engine.is_enabled(client)?.reply);
-    let hub = engine.new_hub(Some(client), scope(alloc))?.reply;
-    let out = engine.capture_message(hub, "m", Level::Error, fresh(1)?)?;
-    assert!(rt; out.reply.is_nil() && out.sent.is_empty());
     Ok(())
 }
 
 #[test]
 fn a_dsn_that_set_up_takes_leaves_the_slot_occupied(rt: HostRuntime) -> Result<(), Fail> {
     let alloc = rt.alloc();
-    let silences = boxed_silences(alloc)?;
-    let options = options(alloc)?.integrations(vec![in alloc; silences]?)?;
-    let mut engine = Engine::new(alloc, 0);
-    let client = engine.add_client(options, true, LABEL, 0)?.reply;
-    assert!(rt; engine.dsn(client)?.reply.is_none());
-    assert!(rt; !engine.is_enabled(client)?.reply);
-    let hub = engine.new_hub(Some(client), scope(alloc))?.reply;
-    let out = engine.capture_message(hub, "m", Level::Error, fresh(1)?)?;
-    assert_eq!(rt; out.sent.len(), 1);
+    assert_eq!(rt; envelopes_of_a_message(alloc, silenced(alloc)?)?, 1);
     Ok(())
 }
 
 #[test]
 fn a_clients_options_are_read_as_its_own(rt: HostRuntime) -> Result<(), Fail> {
     let alloc = rt.alloc();
-    let options = options(alloc)?
-        .release("app@1")?
-        .add_integration(boxed_silences(alloc)?)?
-        .integrations(Vec::new(alloc))?
-        .add_integration(boxed_silences(alloc)?)?;
+    let options = silenced(alloc)?.release("app@1")?;
     let mut engine = Engine::new(alloc, 0);
     let client = engine.add_client(options, true, LABEL, 0)?.reply;
     let held = engine.options(client)?.reply;
     assert!(rt; is(&held.release, "app@1"));
     assert!(rt; held.dsn.is_none());
     assert_eq!(rt; held.callbacks.integrations.len(), 1);
+    Ok(())
+}
+
+#[test]
+fn integrations_replace_those_before(rt: HostRuntime) -> Result<(), Fail> {
+    let alloc = rt.alloc();
+    let options = silenced(alloc)?.integrations(Vec::new(alloc))?;
+    assert!(rt; options.callbacks.integrations.is_empty());
     Ok(())
 }
 
