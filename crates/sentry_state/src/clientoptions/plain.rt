@@ -94,8 +94,8 @@ impl PlainOptions {
             enable_logs: true,
             enable_metrics: true,
             accept_invalid_certs: false,
-            auto_session_tracking: false,
             session_mode: SessionMode::Application,
+            auto_session_tracking: false,
             user_agent: UserAgent::of_sdk(),
         }
     }
