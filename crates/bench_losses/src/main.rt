@@ -1,6 +1,6 @@
 //! Records losses in threads, with or without a drainer beside them, and tells whether all are accounted for.
 //! Arguments: how many threads, how many losses each records, and how many drains run beside them.
-//! `bench/losses.sh` measures it.
+//! `bench/losses` measures it.
 #![tactic(auto)]
 
 mod counting;
