@@ -1,11 +1,16 @@
 -- What is printed for a list of lines.
-use Rattle.std.specs.Prelude.{◌≡◌, ◌≢◌, ℕ, ◌+◌, ◌-◌, ◌*◌, ◌^◌, ◌++◌, min, true, Option, Some, None, Result, Ok, Err, List, [], ◌∷◌}
+use Rattle.std.specs.Prelude.{◌≡◌, ◌≢◌, ℕ, ◌+◌, ◌-◌, ◌*◌, ◌^◌, ◌++◌, min, true, Option, Some, None, Result, Ok, Err, List, [], ◌∷◌, codes, Bool, false}
+use Rattle.std.specs.Result.{result_ok}
 use Rattle.std.specs.Int.{to_be_bytes, w64, w128}
 use Rattle.std.specs.Io.KnownBytes.{Appends, Keeps}
 use Rattle.sentry_base.specs.Texts.{Bytes}
 use Rattle.sentry_base.specs.declared.protocol.fresh.Fresh.{Fresh}
 use Rattle.sentry_base.specs.declared.protocol.refusal.Refusal.{Refusal}
 use Rattle.sentry_base.specs.declared.protocol.refusal.Refusal.TheVariants as refusal
+use Rattle.sentry_base.specs.DsnTexts.{dsn_of_text}
+use Rattle.sentry_base.specs.declared.dsn.Dsn.{Dsn}
+use Rattle.sentry_state.specs.Options.{default_plain_options, default_options_with}
+use Rattle.sentry_state.specs.declared.clientoptions.ClientOptions.{ClientOptions}
 use Rattle.sentry_state.specs.Scopes.{new_scope}
 use Rattle.sentry_state.specs.declared.scope.edit.ScopeEdit.TheVariants.{SetTag}
 use Rattle.sentry_engine.specs.declared.call.Call.{Call}
@@ -44,25 +49,38 @@ fresh_of number = record {
   draw = 0;
 }
 
+-- the DSN that a text spells, if it spells one
+unfoldable pub spelled_dsn : Bytes → Option Dsn
+spelled_dsn text = result_ok (dsn_of_text text)
+
+-- the options of a client: its release and where its events go
+abbrev pub client_options : Option Bytes → ClientOptions NoCallbacks
+client_options release = record (default_options_with (record {})) {
+  plain = record default_plain_options { dsn = spelled_dsn (codes "https://public@sentry.invalid/1"); release = release };
+}
+
 -- the call that a command on the line of this number makes; a client's label is the number of its line
 abbrev pub call_of : ℕ → Command → Call NoProcessor NoCallbacks
-call_of number (Client release) = call.AddClient (record {
-  plain = record { release = release; environment = None; server_name = None };
-  callbacks = record {};
-}) true (record { tag = 0; number = number }) (moment_of number)
+call_of number (Client release) = call.AddClient (client_options release) true (record { tag = 0; number = number }) (moment_of number)
 call_of number (Hub client) = call.NewHub (Some (record { tag = 0; number = client })) (new_scope (fresh_of number).trace_id (fresh_of number).span_id)
 call_of number (Tag hub key value) = call.Configure (record { tag = 0; number = hub }) (SetTag key value ∷ []) (moment_of number)
 call_of number (Message hub level text) = call.CaptureMessage (record { tag = 0; number = hub }) text level (fresh_of number)
 
+-- the answer is want of memory
+abbrev pub wants_memory : Result (Out (Reply NoCallbacks)) Refusal → Bool
+wants_memory (Ok out) = false
+wants_memory (Err refusal.OutOfMemory) = true
+wants_memory (Err cause) = false
+
 -- the engine may answer a call so, and not by want of memory
-abbrev pub Answers : World NoProcessor NoCallbacks → Call NoProcessor NoCallbacks → Result (Out Reply) Refusal → World NoProcessor NoCallbacks → Type 0
-Answers world asked answer next = May unprocessed no_callbacks world asked answer next × (answer ≢ Err refusal.OutOfMemory)
+abbrev pub Answers : World NoProcessor NoCallbacks → Call NoProcessor NoCallbacks → Result (Out (Reply NoCallbacks)) Refusal → World NoProcessor NoCallbacks → Type 0
+Answers world asked answer next = May unprocessed no_callbacks world asked answer next × (wants_memory answer ≡ false)
 
 -- the line of this number may lead from a world to the next, and print this, which is the engine's answer to its
 -- command; an empty one does nothing
 abbrev pub Leads : World NoProcessor NoCallbacks → ℕ → Bytes → Bytes → World NoProcessor NoCallbacks → Type 0
 Leads world number [] printed next = (printed ≡ []) × (next ≡ world)
-Leads world number (b ∷ bs) printed next = (command : Command) × (answer : Result (Out Reply) Refusal) × Spells (b ∷ bs) command × Answers world (call_of number command) answer next × (printed ≡ answer_text answer)
+Leads world number (b ∷ bs) printed next = (command : Command) × (answer : Result (Out (Reply NoCallbacks)) Refusal) × Spells (b ∷ bs) command × Answers world (call_of number command) answer next × (printed ≡ answer_text answer)
 
 -- the line isn't empty and spells no command
 pub record IsBad (line : Bytes) : Type 0 where

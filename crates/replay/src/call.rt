@@ -1,18 +1,24 @@
 //! The calls that commands make.
-ghost use Rattle.std.specs.Prelude.{◌≡◌, IfOk};
-ghost use Rattle.replay.specs.Replays.{moment_of, fresh_of, call_of};
+ghost use Rattle.std.specs.Prelude.{◌≡◌, ◌<◌, ◌^◌, length, IfOk};
+ghost use Rattle.replay.specs.Replays.{moment_of, fresh_of, spelled_dsn, client_options, call_of};
 
 use crate::command::Command;
 use crate::uncalled::{NoCallbacks, NoProcessor};
-use sentry_base::plain::Items;
-use sentry_base::protocol::{ClientKey, Draw, Fresh, HubKey, Label, SpanId, TraceId, Uuid};
+use sentry_base::dsn::Dsn;
+use sentry_base::plain::{Items, Text};
+use sentry_base::protocol::{
+    ClientKey, Draw, Fresh, HubKey, Label, Refusal, SpanId, TraceId, Uuid,
+};
 use sentry_engine::call::Call;
-use sentry_state::clientoptions::{ClientOptions, PlainOptions};
+use sentry_state::clientoptions::{ClientOptions, PlainOptions, TracesSamplingStrategy};
 use sentry_state::scope::{Scope, ScopeEdit};
 use std::alloc::{AllocError, Global};
 
 /// The tag of the one engine, by which its keys are told.
 pub const TAG: u64 = 0;
+
+/// Where the events of every client go.
+const DSN: &str = "https://public@sentry.invalid/1";
 
 const NANOSECONDS: u64 = 1_000_000_000;
 
@@ -37,6 +43,34 @@ fn fresh(number: u64) -> Fresh
     }
 }
 
+/// The DSN that a text spells, if it spells one.
+fn dsn(alloc: Global, text: &str) -> Result<Option<Dsn>, AllocError>
+    requires { length text.now < 2 ^ 24 }
+    ensures { IfOk result (λ dsn. dsn ≡ spelled_dsn text.now) }
+{
+    match Dsn::parse(alloc, text) {
+        Ok(dsn) => Ok(Some(dsn)),
+        Err(Refusal::InvalidDsn(_)) => Ok(None),
+        Err(_) => Err(AllocError),
+    }
+}
+
+/// The options of a client of this release.
+fn options(alloc: Global, release: Option<Text>) -> Result<ClientOptions<NoCallbacks>, AllocError>
+    ensures { IfOk result (λ options. options ≡ client_options release) }
+{
+    let plain = PlainOptions {
+        dsn: dsn(alloc, DSN)?,
+        release,
+        ..PlainOptions::new(alloc)
+    };
+    Ok(ClientOptions {
+        plain,
+        traces_sampling_strategy: TracesSamplingStrategy::Disabled,
+        callbacks: NoCallbacks,
+    })
+}
+
 /// The call that a command on the line of this number makes.
 pub fn call(
     alloc: Global,
@@ -49,14 +83,9 @@ pub fn call(
     let fresh = fresh(number);
     match command {
         Command::Client(release) => {
-            let plain = PlainOptions {
-                release,
-                environment: None,
-                server_name: None,
-            };
-            let callbacks = NoCallbacks;
+            let options = options(alloc, release)?;
             let label = Label { tag: TAG, number };
-            Ok(Call::AddClient(ClientOptions { plain, callbacks }, true, label, now))
+            Ok(Call::AddClient(options, true, label, now))
         }
         Command::Hub(client) => {
             let client = ClientKey {

@@ -5,6 +5,7 @@ ghost use Rattle.std.specs.List.{join_by};
 ghost use Rattle.replay.specs.Commands.{level_word};
 ghost use Rattle.replay.specs.Printing.{tag_text, tags_text, event_text, attachment_text, loss_text, report_text, item_text, envelope_line, answer_text};
 
+use crate::uncalled::NoCallbacks;
 use sentry_base::plain::{Text, TextMap};
 use sentry_base::protocol::{
     Attachment, ClientKey, ClientReport, ClientReportItem, Envelope, EnvelopeItem, Event, Level,
@@ -164,7 +165,7 @@ fn push_envelopes(text: &mut String, sent: &[(ClientKey, Envelope)]) -> Result<(
 }
 
 /// Appends what is printed of an answer: a line for each envelope, or one for the refusal.
-pub fn push_answer(text: &mut String, answer: &Answer) -> Result<(), AllocError>
+pub fn push_answer(text: &mut String, answer: &Answer<NoCallbacks>) -> Result<(), AllocError>
     ensures { OnOk result (string_bytes text.new ≡ string_bytes text.old ++ answer_text answer.now) }
 {
     match answer {

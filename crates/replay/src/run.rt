@@ -1,7 +1,7 @@
 //! A run over a whole input.
-ghost use Rattle.std.specs.Prelude.{IfOk};
+ghost use Rattle.std.specs.Prelude.{◌≡◌, IfOk};
 ghost use Rattle.sentry_engine.specs.Worlds.{World, Stands};
-ghost use Rattle.replay.specs.Replays.{Answers, call_of, DoesLine, Writes};
+ghost use Rattle.replay.specs.Replays.{wants_memory, Answers, call_of, DoesLine, Writes};
 
 use crate::call::{TAG, call};
 use crate::command::{Command, parse};
@@ -15,20 +15,32 @@ use sentry_engine::engine::Engine;
 use std::alloc::{AllocError, Global};
 use std::io::{BufRead, Write};
 
+/// Whether memory was wanting.
+fn wants_memory(answer: &Answer<NoCallbacks>) -> bool
+    ensures { result ≡ wants_memory answer.now }
+{
+    match answer {
+        Err(Refusal::OutOfMemory) => true,
+        _ => false,
+    }
+}
+
 /// Does the command on the line of this number.
 fn answer(
     alloc: Global,
     engine: &mut Engine<NoProcessor, NoCallbacks>,
     number: u64,
     command: Command,
-) -> Result<Answer, AllocError>
+) -> Result<Answer<NoCallbacks>, AllocError>
     ensures { IfOk result (λ answer. (world : World NoProcessor NoCallbacks) → Stands engine.old world →
         (next : World NoProcessor NoCallbacks) × Answers world (call_of number command) answer next × Stands engine.new next) }
 {
-    match engine.apply(call(alloc, number, command)?) {
-        Err(Refusal::OutOfMemory) => Err(AllocError),
-        answer => Ok(answer),
+    let call = call(alloc, number, command)?;
+    let answer = engine.apply(call);
+    if wants_memory(&answer) {
+        return Err(AllocError);
     }
+    Ok(answer)
 }
 
 /// Does one line, and writes what it prints. `text` is room for that.
