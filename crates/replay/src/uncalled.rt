@@ -7,9 +7,9 @@ use sentry_state::callbacks::EventCallback;
 use sentry_state::clientoptions::{Callbacks, PlainOptions};
 use std::alloc::{AllocError, Global};
 
-/// An event processor, of which there is none.
+/// An event processor that lets every event pass. No scope of this program gets one.
 #[derive(Drop)]
-pub enum NoProcessor {}
+pub struct NoProcessor;
 
 impl EventCallback for NoProcessor {
     ghost gives = { unprocessed };
