@@ -3,10 +3,10 @@ use crate::support::{
     Adds, Drops, Hides, LABEL, Multiplies, Starves, WantsMemory, add_client_and_hub, fresh, id,
     only_event, options, scope,
 };
-use sentry_base::plain::Text;
 use sentry_core::engine::Engine;
 use sentry_core::protocol::{Context, Event, Uuid};
 use sentry_core::{BoxedEventCallback, BoxedIntegration, Level, ScopeEdit};
+use sentry_plain::Text;
 use std::test::Fail;
 
 #[test]

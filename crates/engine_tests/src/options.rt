@@ -1,6 +1,5 @@
 //! Options, and what an engine makes of them.
 use crate::support::{DSN, LABEL, add_client_and_hub, fresh, options, unset};
-use sentry_base::plain::Text;
 use sentry_core::engine::{Call, Engine, Reply};
 use sentry_core::protocol::{ClientKey, Draw, Event, OrganizationId, Refusal, SampleRate};
 use sentry_core::types::{Dsn, ParseDsnError};
@@ -8,6 +7,7 @@ use sentry_core::{
     BoxedIntegration, ClientOptions, EventSamplingStrategy, Integration, Level, MaxRequestBodySize,
     PlainOptions, SessionMode, TracesSamplingStrategy,
 };
+use sentry_plain::Text;
 use std::alloc::{AllocError, Global};
 use std::num::NonZeroUsize;
 use std::test::Fail;

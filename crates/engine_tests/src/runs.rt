@@ -1,9 +1,9 @@
 //! Lists of calls.
 use crate::support::{LABEL, fresh, id, only_event, options, scope};
-use sentry_base::plain::{Items, Text};
 use sentry_core::engine::{Call, Engine, Out, Reply, run};
 use sentry_core::protocol::{ClientKey, Event, HubKey, Refusal};
 use sentry_core::{Level, ScopeEdit};
+use sentry_plain::{Items, Text};
 use std::alloc::Global;
 use std::test::Fail;
 

@@ -1,10 +1,10 @@
 //! What the worked examples share: callbacks, options, and an engine with one client and one hub.
-use sentry_base::plain::Items;
 use sentry_core::engine::Engine;
 use sentry_core::protocol::{
     ClientKey, Draw, EnvelopeItem, Event, Fresh, HubKey, Label, Refusal, SpanId, TraceId, Uuid,
 };
 use sentry_core::{ClientOptions, Envelope, EventCallback, Integration, Scope};
+use sentry_plain::Items;
 use sentry_state::clientoptions::PlainOptions;
 use std::alloc::{AllocError, Global};
 use std::test::Fail;

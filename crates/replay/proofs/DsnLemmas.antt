@@ -2,7 +2,7 @@
 use Rattle.std.proofs.Common.{◌≡◌, ◌≢◌, refl, ap, ◌∙◌, sym, ◌<◌, ◌^◌, length, arith, inl, inr, ◌⊎◌, Result, Ok, Err}
 use Rattle.std.specs.Prelude.{Some, None}
 use Rattle.std.specs.Result.{result_ok}
-use Rattle.sentry_base.specs.Texts.{Bytes}
+use Rattle.sentry_plain.specs.Texts.{Bytes}
 use Rattle.sentry_base.specs.DsnTexts.{dsn_of_text, GivesDsn, IsRefusedAsTooLong}
 use Rattle.sentry_base.specs.declared.dsn.Dsn.{Dsn}
 use Rattle.sentry_base.specs.declared.dsn.ParseDsnError.{ParseDsnError}

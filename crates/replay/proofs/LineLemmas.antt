@@ -5,7 +5,7 @@ use Rattle.std.specs.Prelude.{Option, Some, None, nat_lt, IfSome}
 use Rattle.std.specs.List.{onto_first}
 use Rattle.std.specs.Io.BufRead.{take_through, drop_through, strip_last, DropsThrough}
 use Rattle.std.specs.Io.KnownBytes.{IsAtEnd}
-use Rattle.sentry_base.specs.Texts.{Bytes}
+use Rattle.sentry_plain.specs.Texts.{Bytes}
 use Rattle.replay.specs.Lines.{lines_of, TakesLine}
 
 cond-cons : (t : Bool) (b : ℕ) (xs ys : Bytes) → cond t (b ∷ xs) (b ∷ ys) ≡ b ∷ cond t xs ys

@@ -3,7 +3,7 @@ use Rattle.std.proofs.Common.{◌≡◌, ◌≢◌, refl, ap, ◌∙◌, sym, su
 use Rattle.std.specs.Prelude.{Option, Some, None, min}
 use Rattle.std.specs.Io.KnownBytes.{Appends, Keeps}
 use Rattle.std.proofs.lemmas.List.{append-nil}
-use Rattle.sentry_base.specs.Texts.{Bytes}
+use Rattle.sentry_plain.specs.Texts.{Bytes}
 use Rattle.sentry_base.specs.declared.protocol.refusal.Refusal.{Refusal}
 use Rattle.sentry_engine.specs.declared.engine.Engine.{Engine}
 use Rattle.sentry_engine.specs.declared.engine.Out.{Out}

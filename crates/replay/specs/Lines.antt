@@ -1,7 +1,7 @@
 -- The lines of a text: each ends by a line feed, which the last may lack.
 use Rattle.std.specs.Prelude.{◌≡◌, Bool, true, false, ◌==◌, if◌then◌else◌, Option, Some, None, List, [], ◌∷◌, ⊤}
 use Rattle.std.specs.List.{onto_first}
-use Rattle.sentry_base.specs.Texts.{Bytes}
+use Rattle.sentry_plain.specs.Texts.{Bytes}
 
 -- a line feed begins a line, and any other byte goes onto the first line of what follows
 abbrev pub lines_of : Bytes → List Bytes

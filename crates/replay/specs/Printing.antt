@@ -3,7 +3,7 @@ use Rattle.std.specs.Prelude.{◌++◌, Result, Ok, Err, List, [], ◌∷◌, co
 use Rattle.std.specs.List.{join_by}
 use Rattle.std.specs.Fmt.{decimal}
 use Rattle.uuid.specs.Text.{simple_text, lower}
-use Rattle.sentry_base.specs.Texts.{Bytes}
+use Rattle.sentry_plain.specs.Texts.{Bytes}
 use Rattle.sentry_base.specs.Refusals.{refusal_number}
 use Rattle.sentry_base.specs.declared.protocol.event.Event.{Event}
 use Rattle.sentry_base.specs.declared.protocol.attachment.Attachment.{Attachment}

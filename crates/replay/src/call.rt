@@ -5,11 +5,11 @@ ghost use Rattle.replay.specs.Replays.{moment_of, fresh_of, spelled_dsn, client_
 use crate::command::Command;
 use crate::uncalled::{NoCallbacks, NoProcessor};
 use sentry_base::dsn::Dsn;
-use sentry_base::plain::{Items, Text};
 use sentry_base::protocol::{
     ClientKey, Draw, Fresh, HubKey, Label, Refusal, SpanId, TraceId, Uuid,
 };
 use sentry_engine::call::Call;
+use sentry_plain::{Items, Text};
 use sentry_state::clientoptions::{ClientOptions, PlainOptions, TracesSamplingStrategy};
 use sentry_state::scope::{Scope, ScopeEdit};
 use std::alloc::{AllocError, Global};

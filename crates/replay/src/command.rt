@@ -3,11 +3,11 @@ ghost use Rattle.std.specs.Prelude.{◌≡◌, IfOk, IfSome, IfNone};
 ghost use Rattle.replay.specs.Reading.{client_of, hub_of, tag_of, message_of, form_of, command_of};
 ghost use Rattle.replay.specs.Commands.{Spells};
 ghost use Rattle.replay.specs.declared.command.Command.{Command};
-ghost use Rattle.sentry_base.specs.Texts.{Bytes};
+ghost use Rattle.sentry_plain.specs.Texts.{Bytes};
 
 use crate::word::{cut, is_word, level, number};
-use sentry_base::plain::Text;
 use sentry_base::protocol::Level;
+use sentry_plain::Text;
 use std::alloc::{AllocError, Global};
 
 /// What a line asks for. Clients and hubs are named by their numbers.

@@ -1,16 +1,16 @@
 //! What is printed of envelopes and of answers.
 ghost use Rattle.std.specs.Prelude.{◌≡◌, ◌++◌, codes, OnOk, string_bytes, flat_map};
-ghost use Rattle.sentry_base.specs.Texts.{by_bytes};
+ghost use Rattle.sentry_plain.specs.Texts.{by_bytes};
 ghost use Rattle.std.specs.List.{join_by};
 ghost use Rattle.replay.specs.Commands.{level_word};
 ghost use Rattle.replay.specs.Printing.{tag_text, tags_text, event_text, attachment_text, loss_text, report_text, item_text, envelope_line, answer_text};
 
 use crate::uncalled::NoCallbacks;
-use sentry_base::plain::{Text, TextMap};
 use sentry_base::protocol::{
     Attachment, ClientKey, ClientReport, ClientReportItem, Envelope, EnvelopeItem, Event, Level,
 };
 use sentry_engine::call::Answer;
+use sentry_plain::{Text, TextMap};
 use std::alloc::AllocError;
 use std::collections::btree_map::Iter;
 

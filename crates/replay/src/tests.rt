@@ -3,13 +3,13 @@ use crate::fault::ReplayFault;
 use crate::print::push_answer;
 use crate::run::run_replay;
 use crate::uncalled::NoCallbacks;
-use sentry_base::plain::{Items, Text};
 use sentry_base::protocol::{
     Attachment, Category, ClientKey, ClientReport, ClientReportItem, Envelope, EnvelopeHeaders,
     EnvelopeItem, Event, Reason, Uuid,
 };
 use sentry_engine::call::{Answer, Reply};
 use sentry_engine::engine::Out;
+use sentry_plain::{Items, Text};
 use std::alloc::{AllocError, Global};
 use std::io::{BufReader, Error, ErrorKind, Read, Write};
 use std::process::Abort;

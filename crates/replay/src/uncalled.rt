@@ -1,8 +1,8 @@
 //! The callbacks that this program doesn't have.
 ghost use Rattle.replay.specs.Uncalled.{unprocessed, no_callbacks};
 
-use sentry_base::plain::{Items, Text};
 use sentry_base::protocol::Event;
+use sentry_plain::{Items, Text};
 use sentry_state::callbacks::EventCallback;
 use sentry_state::clientoptions::{Callbacks, PlainOptions};
 use std::alloc::{AllocError, Global};

@@ -15,7 +15,7 @@ use Rattle.sentry_base.specs.declared.protocol.ids.OrganizationId.{OrganizationI
 use Rattle.sentry_base.specs.HeaderLists.{Header, is_named, values_of, is_comma, baggage_entries, is_organization_entry, entry_value, organization_values, organization_of_entry, NamesOrganization, SayTrace, SayOrganization, HeadersSay}
 use Rattle.sentry_base.specs.Ids.{organization_id_of}
 use Rattle.sentry_base.specs.Readings.{SaysNothing, IsReading}
-use Rattle.sentry_base.specs.Texts.{Bytes}
+use Rattle.sentry_plain.specs.Texts.{Bytes}
 use Rattle.sentry_base.specs.TraceTexts.{IsTraceText}
 use Rattle.sentry_base.proofs.ReadingLemmas.{last_reading_push}
 

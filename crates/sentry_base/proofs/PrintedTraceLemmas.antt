@@ -19,7 +19,7 @@ use Rattle.sentry_base.specs.HeaderLists.{GiveContext, SayOrganization, trace_of
 use Rattle.sentry_base.specs.Ids.{trace_id_of, span_id_of}
 use Rattle.sentry_base.specs.Readings.{SaysNothing}
 use Rattle.sentry_base.specs.TraceHeaders.{trace_header}
-use Rattle.sentry_base.specs.Texts.{Bytes}
+use Rattle.sentry_plain.specs.Texts.{Bytes}
 use Rattle.sentry_base.specs.TraceTexts.{dash, sampling_text, trace_text, HasParts, IsTraceText}
 use Rattle.sentry_base.proofs.TraceTextLemmas.{NoDash, RestSays, parts_of, rest_uncut, rest_cut, trace_digits, span_digits}
 

@@ -13,7 +13,7 @@ use Rattle.sentry_base.specs.declared.protocol.ids.SpanId.{SpanId}
 use Rattle.sentry_base.specs.declared.protocol.ids.TraceId.{TraceId}
 use Rattle.sentry_base.specs.Ids.{trace_id_of, span_id_of}
 use Rattle.sentry_base.specs.Readings.{IsReading}
-use Rattle.sentry_base.specs.Texts.{Bytes}
+use Rattle.sentry_plain.specs.Texts.{Bytes}
 use Rattle.sentry_base.specs.TraceTexts.{dash, sampling_of, with_span, HasParts}
 
 abbrev pub NoDash : Bytes → Type 0

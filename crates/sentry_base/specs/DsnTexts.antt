@@ -15,7 +15,7 @@ use Rattle.sentry_base.specs.declared.protocol.ids.OrganizationId.{OrganizationI
 use Rattle.sentry_base.specs.declared.protocol.refusal.Refusal.{Refusal}
 use Rattle.sentry_base.specs.declared.protocol.refusal.Refusal.TheVariants.{OutOfMemory, Stale, OutOfOrder, StillNamed, ScopesOpen, InvalidDsn, InvalidRate, ForeignLosses, Full}
 use Rattle.sentry_base.specs.Ids.{organization_id_of}
-use Rattle.sentry_base.specs.Texts.{Bytes}
+use Rattle.sentry_plain.specs.Texts.{Bytes}
 
 -- ---- the parts
 

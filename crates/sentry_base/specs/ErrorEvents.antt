@@ -5,7 +5,7 @@ use Rattle.sentry_base.specs.declared.protocol.event.Event.{Event}
 use Rattle.sentry_base.specs.declared.protocol.exception.Exception.{Exception}
 use Rattle.sentry_base.specs.declared.protocol.level.Level.TheVariants.{Error}
 use Rattle.sentry_base.specs.Events.{new_event}
-use Rattle.sentry_base.specs.Texts.{Bytes}
+use Rattle.sentry_plain.specs.Texts.{Bytes}
 use Rattle.sentry_base.specs.UtilityTexts.{type_of_debug}
 
 -- where the debug text is the quoted message, it names no type

@@ -11,7 +11,7 @@ use Rattle.sentry_base.specs.declared.headers.TracePropagationContext.{TraceProp
 use Rattle.sentry_base.specs.declared.protocol.ids.OrganizationId.{OrganizationId}
 use Rattle.sentry_base.specs.Ids.{organization_id_of}
 use Rattle.sentry_base.specs.Readings.{SaysNothing, IsLastReading}
-use Rattle.sentry_base.specs.Texts.{Bytes}
+use Rattle.sentry_plain.specs.Texts.{Bytes}
 use Rattle.sentry_base.specs.TraceTexts.{IsTraceText}
 
 -- a header's name and value

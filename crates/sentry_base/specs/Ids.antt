@@ -8,7 +8,7 @@ use Rattle.hex.specs.Hex.{decode_sized}
 use Rattle.sentry_base.specs.declared.protocol.ids.OrganizationId.{OrganizationId}
 use Rattle.sentry_base.specs.declared.protocol.ids.SpanId.{SpanId}
 use Rattle.sentry_base.specs.declared.protocol.ids.TraceId.{TraceId}
-use Rattle.sentry_base.specs.Texts.{Bytes}
+use Rattle.sentry_plain.specs.Texts.{Bytes}
 
 -- the trace that 32 hex digits name, in either case; no other text names one
 abbrev pub trace_id_of : Bytes → Option TraceId

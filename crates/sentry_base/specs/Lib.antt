@@ -1,15 +1,6 @@
-pub mod Texts
-pub mod Tables
-pub mod Lending
-pub mod Values
-pub mod ValueView
-pub mod ValueSizes
 pub mod Refusals
 pub mod Events
 pub mod Envelopes
-pub mod Defaults
-pub mod Equality
-pub mod ValueEquality
 pub mod Ids
 pub mod DsnTexts
 pub mod TraceTexts

@@ -3,7 +3,7 @@ use Rattle.std.specs.Prelude.{List, map, codes, option_to_list, String, string_b
 use denote.Ref.{Bor}
 use Rattle.sentry_base.specs.declared.headers.trace_headers.TraceHeadersIter.{TraceHeadersIter}
 use Rattle.sentry_base.specs.HeaderLists.{Header}
-use Rattle.sentry_base.specs.Texts.{Bytes}
+use Rattle.sentry_plain.specs.Texts.{Bytes}
 
 -- the header that hands on the trace of this text
 abbrev pub trace_header : Bytes → Header

@@ -6,7 +6,7 @@ use Rattle.sentry_base.specs.declared.headers.trace_text.SentryTrace.{SentryTrac
 use Rattle.sentry_base.specs.declared.protocol.ids.SpanId.{SpanId}
 use Rattle.sentry_base.specs.declared.protocol.ids.TraceId.{TraceId}
 use Rattle.sentry_base.specs.Ids.{trace_id_of, span_id_of}
-use Rattle.sentry_base.specs.Texts.{Bytes}
+use Rattle.sentry_plain.specs.Texts.{Bytes}
 
 abbrev pub dash : ℕ
 dash = 45

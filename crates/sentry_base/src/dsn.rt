@@ -7,9 +7,9 @@ mod into_dsn;
 #[cfg(test)]
 mod tests;
 
-use crate::plain::Text;
 use crate::protocol::{OrganizationId, Refusal};
 pub use into_dsn::IntoDsn;
+use sentry_plain::Text;
 use std::alloc::Global;
 use std::fmt;
 use thiserror::Error;

@@ -2,7 +2,7 @@
 ghost use Rattle.std.specs.Prelude.{◌≡◌, ◌∷◌, ◌++◌, [], List, map, Some, None, Result, Ok, IfOk, string_bytes};
 ghost use Rattle.std.specs.Iterator.{IsFiniteIterable, Drains};
 ghost use Rattle.sentry_base.specs.HeaderLists.{Header, HeadersSay, SayTrace, GiveContext, GiveTrace, header_of, trace_of};
-ghost use Rattle.sentry_base.specs.Texts.{Bytes};
+ghost use Rattle.sentry_plain.specs.Texts.{Bytes};
 ghost use Rattle.sentry_base.specs.TraceHeaders.{trace_header};
 ghost use Rattle.sentry_base.specs.TraceTexts.{trace_text};
 

@@ -1,8 +1,7 @@
-//! What the layers of `sentry_core` share: plain values, and the records, ids, keys and refusals over them.
+//! What the layers of `sentry_core` share: records, ids, keys, refusals and losses, trace headers, DSNs and texts.
 #![tactic(auto)]
 
 pub mod dsn;
 pub mod headers;
-pub mod plain;
 pub mod protocol;
 pub mod utils;

@@ -20,7 +20,6 @@ mod request;
 mod sdk;
 mod user;
 
-pub use crate::plain::{Value, ValueMap, Values};
 pub use attachment::Attachment;
 pub use breadcrumb::Breadcrumb;
 pub use client_report::{ClientReport, ClientReportItem};
@@ -40,5 +39,6 @@ pub use rates::{Draw, SampleRate};
 pub use refusal::Refusal;
 pub use request::Request;
 pub use sdk::{ClientSdkInfo, ClientSdkPackage};
+pub use sentry_plain::{Value, ValueMap, Values};
 pub use user::User;
 pub use uuid::Uuid;

@@ -1,6 +1,6 @@
 -- What the calls on clients answer, hand out and leave.
 use Rattle.std.specs.Prelude.{ℕ, nat_lt, ◌-◌, Bool, ◌&&◌, Option, is_some, [], ◌+◌, ◌^◌, ◌==◌}
-use Rattle.sentry_base.specs.Tables.{stored}
+use Rattle.sentry_plain.specs.Tables.{stored}
 use Rattle.sentry_base.specs.declared.dsn.Dsn.{Dsn}
 use Rattle.sentry_base.specs.declared.protocol.keys.ClientKey.{ClientKey}
 use Rattle.sentry_base.specs.declared.protocol.keys.Label.{Label}

@@ -1,7 +1,7 @@
 -- What the calls on hubs answer, hand out and leave.
 use Rattle.std.specs.Prelude.{nat_lt, ◌-◌, ℕ, Option, Some, None, List, [], ◌∷◌, ◌+◌, ◌^◌, if◌then◌else◌}
-use Rattle.sentry_base.specs.Texts.{Bytes}
-use Rattle.sentry_base.specs.Tables.{stored}
+use Rattle.sentry_plain.specs.Texts.{Bytes}
+use Rattle.sentry_plain.specs.Tables.{stored}
 use Rattle.sentry_base.specs.Events.{new_event, nil_id}
 use Rattle.sentry_base.specs.Envelopes.{empty_envelope, with_item}
 use Rattle.sentry_base.specs.declared.protocol.keys.ClientKey.{ClientKey}

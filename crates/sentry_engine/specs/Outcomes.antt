@@ -1,7 +1,7 @@
 -- What a call comes to, and what it means that an engine did it.
 use Rattle.std.specs.Prelude.{is_ok, ◌≡◌, ℕ, Bool, true, false, Option, Some, None, Result, Ok, Err, List, ◌==◌, if◌then◌else◌}
 use Rattle.std.specs.Option.{option_map, is_some}
-use Rattle.sentry_base.specs.Tables.{found, changed}
+use Rattle.sentry_plain.specs.Tables.{found, changed}
 use Rattle.sentry_base.specs.declared.protocol.keys.ClientKey.{ClientKey}
 use Rattle.sentry_base.specs.declared.protocol.keys.HubKey.{HubKey}
 use Rattle.sentry_base.specs.declared.protocol.envelope.Envelope.{Envelope}

@@ -7,10 +7,10 @@ ghost use Rattle.sentry_engine.specs.Runs.{step, as_reply, Run};
 
 use crate::engine::{Engine, Out};
 use sentry_base::dsn::Dsn;
-use sentry_base::plain::{Items, Shared, Text};
 use sentry_base::protocol::{
     ClientKey, Draw, Event, Fresh, HubKey, Label, Level, Refusal, SampleRate, Uuid,
 };
+use sentry_plain::{Items, Shared, Text};
 use sentry_state::callbacks::EventCallback;
 use sentry_state::clientoptions::{Callbacks, ClientOptions};
 use sentry_state::scope::{Scope, ScopeEdit};

@@ -1,14 +1,14 @@
 //! What an engine holds, and how its calls find and change it.
 ghost use Rattle.std.specs.Prelude.{◌≡◌, [], Some, option_copied};
-ghost use Rattle.sentry_base.specs.Tables.{found};
+ghost use Rattle.sentry_plain.specs.Tables.{found};
 ghost use Rattle.sentry_engine.specs.Worlds.{World, Stands, first_world, starting_world};
 ghost use Rattle.sentry_engine.specs.Outcomes.{hub_at, plain_client_at, is_held_or_none};
 
 mod clients;
 mod hubs;
 
-use sentry_base::plain::{Items, Shared, Table};
 use sentry_base::protocol::{ClientKey, Envelope, HubKey, Label, Uuid};
+use sentry_plain::{Items, Shared, Table};
 use sentry_state::callbacks::EventCallback;
 use sentry_state::clientoptions::{Callbacks, ClientOptions};
 use sentry_state::scope::{Scope, Stack};

@@ -3,8 +3,8 @@ ghost use Rattle.std.specs.Prelude.{◌≡◌, IfOk};
 ghost use Rattle.std.specs.Option.{option_or};
 ghost use Rattle.sentry_parts.specs.Pipeline.{with_id, with_sdk, sdk_info, with_defaults, prepared};
 
-use sentry_base::plain::{Items, Text};
 use sentry_base::protocol::{ClientSdkInfo, ClientSdkPackage, Event, Uuid};
+use sentry_plain::{Items, Text};
 use sentry_state::callbacks::EventCallback;
 use sentry_state::clientoptions::{Callbacks, ClientOptions, PlainOptions};
 use sentry_state::constants::{PACKAGE_NAME, SDK_NAME, VERSION};

@@ -1,6 +1,6 @@
 -- What the SDK says of itself.
 use Rattle.std.specs.Prelude.{codes}
-use Rattle.sentry_base.specs.Texts.{Bytes}
+use Rattle.sentry_plain.specs.Texts.{Bytes}
 
 abbrev pub sdk_name : Bytes
 sdk_name = codes "sentry.rust"

@@ -3,7 +3,7 @@ use Rattle.std.specs.Prelude.{◌≡◌, ℕ, Bool, true, false, nat_le, Option,
 use Rattle.sentry_base.specs.declared.dsn.Dsn.{Dsn}
 use Rattle.sentry_base.specs.declared.protocol.refusal.Refusal.{Refusal}
 use Rattle.sentry_base.specs.declared.protocol.refusal.Refusal.TheVariants.{OutOfMemory, InvalidRate}
-use Rattle.sentry_base.specs.Texts.{Bytes}
+use Rattle.sentry_plain.specs.Texts.{Bytes}
 use Rattle.sentry_state.specs.Constants.{sdk_user_agent}
 use Rattle.sentry_state.specs.declared.clientoptions.choices.SessionMode.TheVariants.{Application}
 use Rattle.sentry_state.specs.declared.clientoptions.choices.MaxRequestBodySize.{MaxRequestBodySize}

@@ -1,7 +1,7 @@
 -- Scopes: what an edit makes of one, and what one makes of an event.
 use Rattle.std.specs.Prelude.{None, List, [], ◌∷◌, ◌++◌, codes, unwrap_or}
-use Rattle.sentry_base.specs.Texts.{put, without, merged}
-use Rattle.sentry_base.specs.Defaults.{with_default}
+use Rattle.sentry_plain.specs.Texts.{put, without, merged}
+use Rattle.sentry_plain.specs.Defaults.{with_default}
 use Rattle.sentry_base.specs.declared.protocol.event.Event.{Event}
 use Rattle.sentry_base.specs.declared.protocol.context.Context.{Context}
 use Rattle.sentry_base.specs.declared.protocol.context.Context.TheVariants.{Trace}

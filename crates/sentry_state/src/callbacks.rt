@@ -6,8 +6,8 @@ mod boxed;
 
 use crate::clientoptions::PlainOptions;
 pub use boxed::{BoxedEventCallback, BoxedIntegration};
-use sentry_base::plain::Shared;
 use sentry_base::protocol::Event;
+use sentry_plain::Shared;
 use std::alloc::AllocError;
 
 /// A function from an event to an event or none, which drops it: an event processor of a scope, or `before_send`.

@@ -8,8 +8,8 @@ ghost use Rattle.std.specs.Prelude.{◌≡◌};
 ghost use Rattle.sentry_state.specs.Scopes.{new_scope};
 
 pub use edit::ScopeEdit;
-use sentry_base::plain::{Items, Shared, Text, TextMap};
 use sentry_base::protocol::{Level, SpanId, TraceId};
+use sentry_plain::{Items, Shared, Text, TextMap};
 pub use stack::{Stack, StackLayer};
 use std::alloc::{AllocError, Global};
 

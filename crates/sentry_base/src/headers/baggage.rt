@@ -2,7 +2,7 @@
 ghost use Rattle.std.specs.Prelude.{◌≡◌, ◌++◌, List};
 ghost use Rattle.std.specs.List.{slice_split};
 ghost use Rattle.sentry_base.specs.HeaderLists.{is_comma, organization_values, organization_of_entry, SayOrganization, value_part};
-ghost use Rattle.sentry_base.specs.Texts.{Bytes};
+ghost use Rattle.sentry_plain.specs.Texts.{Bytes};
 
 use crate::protocol::OrganizationId;
 

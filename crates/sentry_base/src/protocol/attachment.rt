@@ -1,7 +1,7 @@
 //! Attachments.
 ghost use Rattle.std.specs.Prelude.{◌≡◌};
 
-use crate::plain::{Items, Text};
+use sentry_plain::{Items, Text};
 use std::alloc::AllocError;
 
 /// A file that goes along with an event.

@@ -2,8 +2,8 @@
 ghost use Rattle.std.specs.Prelude.{◌≡◌, IfOk};
 ghost use Rattle.sentry_base.specs.Events.{new_breadcrumb};
 
-use crate::plain::{Text, ValueMap};
 use crate::protocol::level::Level;
+use sentry_plain::{Text, ValueMap};
 use std::alloc::{AllocError, Global};
 
 /// One step on the way to an event.

@@ -1,8 +1,8 @@
 //! Reports of what was lost.
 ghost use Rattle.std.specs.Prelude.{◌≡◌};
 
-use crate::plain::Items;
 use crate::protocol::losses::{Category, Reason};
+use sentry_plain::Items;
 use std::alloc::AllocError;
 
 /// So much of a category was lost for a reason.

@@ -1,8 +1,8 @@
 //! Contexts: what is known around an event, by name.
 ghost use Rattle.std.specs.Prelude.{◌≡◌};
 
-use crate::plain::{Text, ValueMap};
 use crate::protocol::ids::{SpanId, TraceId};
+use sentry_plain::{Text, ValueMap};
 use std::alloc::AllocError;
 
 /// What is known of one matter around an event.

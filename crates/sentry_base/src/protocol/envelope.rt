@@ -2,12 +2,12 @@
 ghost use Rattle.std.specs.Prelude.{◌≡◌, [], None, OnOk, OnErr};
 ghost use Rattle.sentry_base.specs.Envelopes.{item_event_id, with_item, empty_envelope};
 
-use crate::plain::{Items, Text};
 use crate::protocol::attachment::Attachment;
 use crate::protocol::client_report::ClientReport;
 use crate::protocol::event::Event;
 use crate::protocol::ids::TraceId;
 use crate::protocol::rates::SampleRate;
+use sentry_plain::{Items, Text};
 use std::alloc::{AllocError, Global};
 use uuid::Uuid;
 

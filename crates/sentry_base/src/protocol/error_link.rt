@@ -1,7 +1,7 @@
 //! Errors, as they are handed in.
 ghost use Rattle.std.specs.Prelude.{◌≡◌};
 
-use crate::plain::Text;
+use sentry_plain::Text;
 use std::alloc::AllocError;
 
 /// One error of a chain, by its texts.

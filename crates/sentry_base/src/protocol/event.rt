@@ -2,7 +2,6 @@
 ghost use Rattle.std.specs.Prelude.{◌≡◌, IfOk};
 ghost use Rattle.sentry_base.specs.Events.{new_event};
 
-use crate::plain::{Items, Text, TextMap, ValueMap};
 use crate::protocol::breadcrumb::Breadcrumb;
 use crate::protocol::context::Context;
 use crate::protocol::exception::Exception;
@@ -10,6 +9,7 @@ use crate::protocol::level::Level;
 use crate::protocol::request::Request;
 use crate::protocol::sdk::ClientSdkInfo;
 use crate::protocol::user::User;
+use sentry_plain::{Items, Text, TextMap, ValueMap};
 use std::alloc::{AllocError, Global};
 use uuid::Uuid;
 

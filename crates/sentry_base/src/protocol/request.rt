@@ -1,7 +1,7 @@
 //! HTTP requests.
 ghost use Rattle.std.specs.Prelude.{◌≡◌};
 
-use crate::plain::{Text, TextMap};
+use sentry_plain::{Text, TextMap};
 use std::alloc::AllocError;
 
 /// The HTTP request that was being served.

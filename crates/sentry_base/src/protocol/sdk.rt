@@ -1,7 +1,7 @@
 //! What made an event.
 ghost use Rattle.std.specs.Prelude.{◌≡◌};
 
-use crate::plain::{Items, Text};
+use sentry_plain::{Items, Text};
 use std::alloc::AllocError;
 
 /// The SDK that made an event.

@@ -1,7 +1,7 @@
 //! Users.
 ghost use Rattle.std.specs.Prelude.{◌≡◌};
 
-use crate::plain::{Text, ValueMap};
+use sentry_plain::{Text, ValueMap};
 use std::alloc::AllocError;
 
 /// Who used the program.

@@ -2,9 +2,9 @@
 ghost use Rattle.std.specs.Prelude.{◌≡◌, IfOk};
 ghost use Rattle.sentry_base.specs.ErrorEvents.{exception_of, error_event};
 
-use crate::plain::{Items, Text};
 use crate::protocol::{ErrorLink, Event, Exception, Level, Uuid};
 use crate::utils::parse_type_from_debug;
+use sentry_plain::{Items, Text};
 use std::alloc::{AllocError, Global};
 
 /// The event of an error, whose chain is given outermost first: level `Error`, and one exception for each error, the

@@ -1,7 +1,7 @@
 //! Worked examples of the utilities.
 use super::*;
-use crate::plain::Text;
 use crate::protocol::{ErrorLink, Level, Uuid};
+use sentry_plain::Text;
 use std::alloc::{AllocError, Global};
 use std::test::Fail;
 

@@ -1,14 +1,14 @@
 //! The calls on clients.
 ghost use Rattle.std.specs.Prelude.{◌≡◌, ◌≢◌, OnOk, OnErr, Ok, [], nat_lt};
-ghost use Rattle.sentry_base.specs.Tables.{stored};
+ghost use Rattle.sentry_plain.specs.Tables.{stored};
 ghost use Rattle.sentry_engine.specs.Worlds.{World, ClientState, Stands, kept};
 ghost use Rattle.sentry_engine.specs.Outcomes.{Does};
 ghost use Rattle.sentry_engine.specs.Clients as call;
 
 use crate::engine::{Client, Engine, Out};
 use sentry_base::dsn::Dsn;
-use sentry_base::plain::Shared;
 use sentry_base::protocol::{ClientKey, Draw, Label, Refusal, SampleRate};
+use sentry_plain::Shared;
 use sentry_state::callbacks::EventCallback;
 use sentry_state::clientoptions::{Callbacks, ClientOptions};
 use std::alloc::AllocError;

@@ -1,6 +1,6 @@
 //! The calls on hubs.
 ghost use Rattle.std.specs.Prelude.{◌≡◌, ◌≢◌, IfOk, IfErr, OnOk, OnErr, Some, [], ◌∷◌};
-ghost use Rattle.sentry_base.specs.Tables.{found, changed};
+ghost use Rattle.sentry_plain.specs.Tables.{found, changed};
 ghost use Rattle.sentry_state.specs.Scopes.{edited};
 ghost use Rattle.sentry_engine.specs.declared.engine.Hub.{Hub};
 ghost use Rattle.sentry_engine.specs.Worlds.{World, Stands};
@@ -9,11 +9,11 @@ ghost use Rattle.sentry_engine.specs.Hubs.{captured, captured_id, captured_envel
 ghost use Rattle.sentry_engine.specs.Hubs as call;
 
 use crate::engine::{Client, Engine, Hub, Out};
-use sentry_base::plain::{Items, Text};
 use sentry_base::protocol::{
     ClientKey, Envelope, EnvelopeItem, Event, Fresh, HubKey, Level, Refusal, Uuid,
 };
 use sentry_parts::pipeline::{Prepared, prepare_event};
+use sentry_plain::{Items, Text};
 use sentry_state::callbacks::EventCallback;
 use sentry_state::clientoptions::Callbacks;
 use sentry_state::scope::{Scope, ScopeEdit, Stack};

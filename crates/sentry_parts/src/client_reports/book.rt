@@ -3,10 +3,10 @@ ghost use Rattle.std.specs.Prelude.{◌≡◌, ◌<◌, [], ◌∷◌, ◌++◌,
 ghost use Rattle.sentry_base.specs.declared.protocol.refusal.Refusal.TheVariants.{OutOfMemory};
 ghost use Rattle.sentry_parts.specs.LossBooks.{Book, LossEntry, kept, recorded, absorbed, report_point, report_one, report_items, report_of};
 
-use sentry_base::plain::Items;
 use sentry_base::protocol::{
     Category, ClientReport, ClientReportItem, LOSS_QUANTITIES, Losses, REASONS, Reason, Refusal,
 };
+use sentry_plain::Items;
 use std::alloc::{AllocError, Global};
 use std::marker::Model;
 

@@ -4,11 +4,11 @@ use crate::client_reports::closing::close_one;
 use crate::client_reports::draining::drain_all;
 use crate::client_reports::part::Part;
 use crate::client_reports::{Drainer, LossBook, LossWords, Recorder, TransportLossReason};
-use sentry_base::plain::{Items, Text};
 use sentry_base::protocol::{
     Attachment, Category, ClientReport, ClientReportItem, Envelope, EnvelopeItem, Event, Label,
     LossSource, Losses, Reason, Uuid, loss_index,
 };
+use sentry_plain::{Items, Text};
 use std::alloc::{AllocError, Global};
 use std::test::Fail;
 use std::thread::join;

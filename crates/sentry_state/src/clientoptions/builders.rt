@@ -17,8 +17,8 @@ use crate::clientoptions::choices::{
 use crate::clientoptions::plain::PlainOptions;
 use crate::clientoptions::user_agent::UserAgent;
 use sentry_base::dsn::{Dsn, IntoDsn};
-use sentry_base::plain::{Items, Shared, Text};
 use sentry_base::protocol::{OrganizationId, Refusal, SampleRate};
+use sentry_plain::{Items, Shared, Text};
 use std::alloc::{AllocError, Global};
 use std::num::NonZeroUsize;
 

@@ -1,12 +1,12 @@
 //! A client's callbacks.
 ghost use Rattle.std.specs.Prelude.{◌≡◌, ◌∷◌, ◌++◌, [], IfOk, OnOk, Some, map, option_map};
 ghost use Rattle.sentry_state.specs.Callbacks.{Meanings, set_up_by, integrated_by, called};
-ghost use Rattle.sentry_base.specs.Texts.{Bytes};
+ghost use Rattle.sentry_plain.specs.Texts.{Bytes};
 
 use crate::callbacks::{EventCallback, Integration};
 use crate::clientoptions::plain::PlainOptions;
-use sentry_base::plain::{Items, Shared, Text};
 use sentry_base::protocol::Event;
+use sentry_plain::{Items, Shared, Text};
 use std::alloc::{AllocError, Global};
 
 /// The callbacks of a client, whatever their types.

@@ -5,8 +5,8 @@ ghost use Rattle.sentry_state.specs.Options.{default_plain_options};
 use crate::clientoptions::choices::{EventSamplingStrategy, MaxRequestBodySize, SessionMode};
 use crate::clientoptions::user_agent::UserAgent;
 use sentry_base::dsn::Dsn;
-use sentry_base::plain::{Items, Text};
 use sentry_base::protocol::OrganizationId;
+use sentry_plain::{Items, Text};
 use std::alloc::{AllocError, Global};
 use std::num::NonZeroUsize;
 

@@ -6,7 +6,7 @@ ghost use Rattle.std.specs.Cmp.Lexicographic.{pointwise};
 ghost use Rattle.sentry_state.specs.Constants.{sdk_user_agent};
 
 use crate::constants::USER_AGENT;
-use sentry_base::plain::Text;
+use sentry_plain::Text;
 use std::alloc::AllocError;
 use std::marker::Model;
 
@@ -20,7 +20,7 @@ pub struct UserAgent {
 
 impl Model for UserAgent {
     ghost use Rattle.std.specs.Prelude.{unwrap_or};
-    ghost use Rattle.sentry_base.specs.Texts.{Bytes};
+    ghost use Rattle.sentry_plain.specs.Texts.{Bytes};
     ghost use Rattle.sentry_state.specs.Constants.{sdk_user_agent};
 
     ghost Value = { Bytes };

@@ -4,8 +4,8 @@ ghost use Rattle.sentry_state.specs.declared.scope.edit.ScopeEdit.TheVariants.{S
 ghost use Rattle.sentry_state.specs.Scopes.{edited, edited_by};
 
 use crate::scope::Scope;
-use sentry_base::plain::{Shared, Text};
 use sentry_base::protocol::Level;
+use sentry_plain::{Shared, Text};
 use std::alloc::{AllocError, Global};
 
 /// The call of one setter of a scope.

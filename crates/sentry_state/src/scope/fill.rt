@@ -1,12 +1,12 @@
 //! What a scope makes of an event.
 ghost use Rattle.std.specs.Prelude.{◌≡◌, IfOk, codes};
-ghost use Rattle.sentry_base.specs.Defaults.{with_default};
+ghost use Rattle.sentry_plain.specs.Defaults.{with_default};
 ghost use Rattle.sentry_state.specs.Scopes.{filled, applied, trace_of};
 
 use crate::callbacks::{EventCallback, process};
 use crate::scope::Scope;
-use sentry_base::plain::{Text, TextMap, ValueMap};
 use sentry_base::protocol::{Context, Event, TraceContext};
+use sentry_plain::{Text, TextMap, ValueMap};
 use std::alloc::{AllocError, Global};
 
 impl<P: Drop> Scope<P> {

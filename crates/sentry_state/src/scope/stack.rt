@@ -3,8 +3,8 @@ ghost use Rattle.std.specs.Prelude.{◌≡◌, length};
 ghost use Rattle.sentry_state.specs.Stacks.{one_layer};
 
 use crate::scope::Scope;
-use sentry_base::plain::Items;
 use sentry_base::protocol::ClientKey;
+use sentry_plain::Items;
 use std::alloc::Global;
 
 /// A client, or none, and a scope.

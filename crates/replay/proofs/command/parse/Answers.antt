@@ -2,7 +2,7 @@ use Rattle.std.proofs.Common.{◌≡◌, ◌∙◌, sym, subst}
 use Rattle.std.specs.Prelude.{Option, Some, None, Result, Ok, Err, IfOk, IfSome, IfNone}
 use Rattle.std.specs.Str.{IsUtf8}
 use Rattle.std.proofs.lemmas.Option.{none-some}
-use Rattle.sentry_base.specs.Texts.{Bytes}
+use Rattle.sentry_plain.specs.Texts.{Bytes}
 use Rattle.replay.specs.declared.command.Command.{Command}
 use Rattle.replay.specs.Reading.{command_of}
 use Rattle.replay.specs.Commands.{Spells}

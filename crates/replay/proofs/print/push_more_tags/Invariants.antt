@@ -1,6 +1,6 @@
 use Rattle.std.proofs.Common.{◌≡◌, ◌++◌}
 use Rattle.std.specs.Prelude.{codes, string_bytes, flat_map}
-use Rattle.sentry_base.specs.Texts.{by_bytes}
+use Rattle.sentry_plain.specs.Texts.{by_bytes}
 use Rattle.replay.specs.Printing.{tag_text}
 use Rattle.replay.proofs.print.push_more_tags.Given as goal
 

@@ -1,6 +1,6 @@
 use Rattle.std.proofs.Common.{◌+◌, ℕ, Bool, subst, Ok, Err}
 use Rattle.std.proofs.lemmas.Result.{err_from_is_err_and}
-use Rattle.sentry_base.specs.Texts.{Bytes}
+use Rattle.sentry_plain.specs.Texts.{Bytes}
 use Rattle.replay.specs.Lines.{TakesLine}
 use Rattle.replay.specs.Replays.{DoesLine}
 use Rattle.replay.proofs.ReplayLemmas.{Reaches, line_number, numbered, line_number-next, goes_on, ends_well, ends_unread, ends_undone}

@@ -5,7 +5,7 @@ use Rattle.std.proofs.lemmas.Bool.{eqb-true}
 use Rattle.std.proofs.lemmas.Str.{encode_ascii}
 use Rattle.std.proofs.lemmas.Grind.{common_steps}
 use Rattle.sentry_base.specs.DsnTexts.{is_dot, organization_of_host}
-use Rattle.sentry_base.specs.Texts.{Bytes}
+use Rattle.sentry_plain.specs.Texts.{Bytes}
 use Rattle.sentry_base.proofs.dsn.organization_of_host.Goals as goal
 
 -- what stands before the dot of a text that begins with `o` begins with `o`

@@ -1,6 +1,6 @@
 use Rattle.std.proofs.Common.{List, map, ◌++◌}
 use Rattle.sentry_base.specs.HeaderLists.{organization_values, SayOrganization}
-use Rattle.sentry_base.specs.Texts.{Bytes}
+use Rattle.sentry_plain.specs.Texts.{Bytes}
 use Rattle.sentry_base.proofs.headers.baggage.read_organization.Given as goal
 
 abbrev pub invariant-loop-entry : goal.invariant-loop-entry

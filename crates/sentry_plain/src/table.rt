@@ -1,0 +1,135 @@
+//! Tables by number.
+ghost use Rattle.std.specs.Prelude.{◌≡◌, ◌==◌, ◌↔◌, IsTrue, ℕ, [], OnOk, OnErr, IsSome, length, option_copied};
+ghost use Rattle.std.specs.Map.Iter.{ShowsInOrder, deref_pair};
+ghost use Rattle.std.specs.Borrow.{sem};
+ghost use Rattle.std.specs.Option.{option_copied_mut};
+ghost use Rattle.sentry_plain.specs.Tables.{found, stored, changed, removed};
+ghost use Rattle.sentry_plain.specs.Lending.{lends_value};
+ghost use Rattle.std.specs.Cmp.Lexicographic.{pointwise, lists_per, lists_equiv};
+ghost use Rattle.sentry_plain.specs.Equality.{IsExact, same_row, per_row, equiv_row};
+
+use std::alloc::{AllocError, Global};
+use std::collections::BTreeMap;
+use std::collections::btree_map::Iter;
+use std::marker::Model;
+
+/// A map from numbers, over a `BTreeMap`. Contracts see the list of its entries in the order of the numbers.
+#[derive(Debug, Drop)]
+pub struct Table<T> {
+    entries: BTreeMap<u64, T>,
+}
+
+impl<T> Model for Table<T> {
+    ghost use Rattle.std.specs.Prelude.{List, ℕ};
+
+    ghost Value = { List (ℕ × T) };
+
+    ghost view = { λ a. a.entries.entries };
+}
+
+impl<T> Table<T> {
+    /// The empty table, which takes no memory.
+    pub fn new(alloc: Global) -> Self
+        ensures { result ≡ [] }
+    {
+        Table {
+            entries: BTreeMap::new(alloc),
+        }
+    }
+
+    /// The value under a number.
+    pub fn get(&self, number: u64) -> Option<&T>
+        ensures { option_copied result ≡ found self.now number }
+    {
+        self.entries.get(&number)
+    }
+
+    /// How many numbers the table has.
+    pub fn len(&self) -> usize
+        ensures { result ≡ length self.now }
+    {
+        self.entries.len()
+    }
+
+    /// Whether the table has no number.
+    pub fn is_empty(&self) -> bool
+        ensures { result ≡ (length self.now == 0) }
+    {
+        self.entries.is_empty()
+    }
+
+    /// The entries in the order of the numbers.
+    pub fn iter(&self) -> Iter<'_, u64, T>
+        ensures rest { result ≡ self.now }
+        ensures runs { ShowsInOrder (deref_pair {K = ℕ} {X = T}) }
+    {
+        self.entries.iter()
+    }
+
+    /// The value under a number, to be written: the table then has what was last written there.
+    pub fn get_mut(&mut self, number: u64) -> Option<&mut T>
+        ensures* writes_back { sem 𝓛 (lends_value T.row self.entry number result) }
+        ensures value { option_copied_mut result ≡ found self.old number }
+    {
+        self.entries.get_mut(&number)
+    }
+}
+
+impl<T: Drop> Table<T> {
+    /// Puts a value under a number.
+    pub fn insert(&mut self, number: u64, value: T) -> Result<(), AllocError>
+        ensures ok { OnOk result (self.new ≡ stored self.old number value) }
+        ensures err { OnErr result (self.new ≡ self.old) }
+    {
+        self.entries.insert(number, value)?;
+        Ok(())
+    }
+
+    /// Writes over the value of a number that is there.
+    pub fn set(&mut self, number: u64, value: T)
+        requires { IsSome (found self.old number) }
+        ensures { self.new ≡ changed self.old number value }
+    {
+        let Some(place) = self.get_mut(number) else {
+            return;
+        };
+        *place = value;
+    }
+
+    /// Takes the value under a number out.
+    pub fn remove(&mut self, number: u64) -> Option<T>
+        ensures value { result ≡ found self.old number }
+        ensures rest { self.new ≡ removed self.old number }
+    {
+        self.entries.remove(&number)
+    }
+}
+
+impl<T: Clone> Clone for Table<T> {
+    // Where a clone of a value is that value, so is a clone of the table.
+    ghost is_clone = { λ old new. ((x y : T) → T.is_clone x y → y ≡ x) → new ≡ old };
+
+    fn clone(&self) -> Result<Table<T>, AllocError> {
+        Ok(Table {
+            entries: self.entries.clone()?,
+        })
+    }
+}
+
+impl<T: PartialEq> PartialEq for Table<T> {
+    ghost eq = { pointwise (same_row T.eq) };
+
+    ghost laws = { lists_per (per_row T.laws) };
+
+    // Where `==` of the values is equality, so is `==` of the tables.
+    fn eq(&self, other: &Table<T>) -> bool
+        ensures test { result ≡ pointwise (same_row T.eq) self.now other.now }
+        ensures equality { IsExact T.eq → (IsTrue result ↔ (self.now ≡ other.now)) }
+    {
+        self.entries == other.entries
+    }
+}
+
+impl<T: Eq> Eq for Table<T> {
+    ghost laws = { lists_equiv (equiv_row T.Eq.laws) };
+}
