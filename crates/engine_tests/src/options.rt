@@ -9,7 +9,6 @@ use sentry_core::{
 };
 use sentry_plain::Text;
 use std::alloc::{AllocError, Global};
-use std::num::NonZeroUsize;
 use std::test::Fail;
 
 /// Gives the options a DSN.
@@ -248,15 +247,18 @@ fn a_release_that_is_not_there_changes_nothing(rt: HostRuntime) -> Result<(), Fa
     Ok(())
 }
 
+// The capacity that is kept of one that is set.
+fn capacity(alloc: Global, capacity: usize) -> Option<usize> {
+    let options = unset(alloc).transport_channel_capacity(capacity);
+    options.transport_channel_capacity.map(|kept| kept.get())
+}
+
 #[test]
 fn the_least_capacity_of_the_channel_is_one(rt: HostRuntime) -> Result<(), Fail> {
     let alloc = rt.alloc();
-    let some = unset(alloc).transport_channel_capacity(42);
-    assert_eq!(rt; some.transport_channel_capacity, NonZeroUsize::new(42));
-    let one = unset(alloc).transport_channel_capacity(1);
-    assert_eq!(rt; one.transport_channel_capacity, Some(NonZeroUsize::MIN));
-    let zero = unset(alloc).transport_channel_capacity(0);
-    assert_eq!(rt; zero.transport_channel_capacity, Some(NonZeroUsize::MIN));
+    assert_eq!(rt; capacity(alloc, 42), Some(42));
+    assert_eq!(rt; capacity(alloc, 1), Some(1));
+    assert_eq!(rt; capacity(alloc, 0), Some(1));
     Ok(())
 }
 

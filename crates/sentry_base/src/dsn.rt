@@ -4,8 +4,6 @@ ghost use Rattle.url.specs.Parser.{parse_url};
 ghost use Rattle.sentry_base.specs.DsnTexts.{is_empty, project_of, scheme_of, default_port_of, organization_of_host, dsn_of, dsn_of_text, GivesDsn, IsRefusedAsTooLong, project_id_of};
 
 mod into_dsn;
-#[cfg(test)]
-mod tests;
 
 use crate::protocol::{OrganizationId, Refusal};
 pub use into_dsn::IntoDsn;

@@ -7,8 +7,6 @@ ghost use Rattle.sentry_base.specs.TraceHeaders.{trace_header};
 ghost use Rattle.sentry_base.specs.TraceTexts.{trace_text};
 
 mod baggage;
-#[cfg(test)]
-mod tests;
 mod trace_headers;
 mod trace_text;
 

@@ -4,8 +4,6 @@ ghost use Rattle.std.specs.List.{list_all, zip};
 ghost use Rattle.sentry_base.specs.UtilityTexts.{header_letter, is_sensitive, ends_type, type_of_debug};
 
 mod error_event;
-#[cfg(test)]
-mod tests;
 
 use crate::protocol::Refusal;
 pub use error_event::event_from_error;

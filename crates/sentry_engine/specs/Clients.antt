@@ -13,7 +13,7 @@ use Rattle.sentry_engine.specs.Outcomes.{Outcome, needs, unless, replied, plain_
 module _ {P C : Type 0} where
   -- a client, under the next number, after the `setup` of its integrations; its slot is occupied where it had a DSN before
   -- that, and has a transport
-  abbrev pub add_client : (C → Meanings) → ClientOptions C → Bool → Label → World P C → Outcome P C ClientKey
+  unfoldable pub add_client : (C → Meanings) → ClientOptions C → Bool → Label → World P C → Outcome P C ClientKey
   add_client meanings options transport label world =
       unless ForeignLosses world (label.tag == world.tag)
       (unless Full world (nat_lt world.next.client (2 ^ 64 - 1))
@@ -27,19 +27,19 @@ module _ {P C : Type 0} where
       })))
 
   -- the options of a client
-  abbrev pub options : ClientKey → World P C → Outcome P C (ClientOptions C)
+  unfoldable pub options : ClientKey → World P C → Outcome P C (ClientOptions C)
   options key world = needs Stale world (plain_client_at world key) (λ client. replied client.options [] world)
 
   -- where a client sends to
-  abbrev pub dsn : ClientKey → World P C → Outcome P C (Option Dsn)
+  unfoldable pub dsn : ClientKey → World P C → Outcome P C (Option Dsn)
   dsn key world = needs Stale world (plain_client_at world key) (λ client. replied client.options.plain.dsn [] world)
 
   -- a client is enabled where its options have a DSN and its slot is occupied
-  abbrev pub is_enabled : ClientKey → World P C → Outcome P C Bool
+  unfoldable pub is_enabled : ClientKey → World P C → Outcome P C Bool
   is_enabled key world =
       needs Stale world (plain_client_at world key) (λ client.
       replied (is_some client.options.plain.dsn && client.occupied) [] world)
 
   -- what has this draw is sent where the draw lies below the rate
-  abbrev pub sample_should_send : ℕ → ℕ → World P C → Outcome P C Bool
+  unfoldable pub sample_should_send : ℕ → ℕ → World P C → Outcome P C Bool
   sample_should_send rate draw world = replied (nat_lt draw rate) [] world

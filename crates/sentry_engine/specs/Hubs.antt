@@ -50,7 +50,7 @@ message_event message level id now = record (new_event id now) { message = Some 
 
 module _ {P C : Type 0} where
   -- a hub with one layer, under the next number
-  abbrev pub new_hub : Option ClientKey → Scope P → World P C → Outcome P C HubKey
+  unfoldable pub new_hub : Option ClientKey → Scope P → World P C → Outcome P C HubKey
   new_hub client scope world =
       unless Stale world (is_held_or_none world client)
       (unless Full world (nat_lt world.next.hub (2 ^ 64 - 1))
@@ -60,17 +60,17 @@ module _ {P C : Type 0} where
       })))
 
   -- the edits are done to the top scope
-  abbrev pub configure : HubKey → List (ScopeEdit P) → World P C → Outcome P C (Unit {0})
+  unfoldable pub configure : HubKey → List (ScopeEdit P) → World P C → Outcome P C (Unit {0})
   configure key edits world =
       needs Stale world (hub_at world key) (λ hub.
       replied tt [] (with_hub world key (with_scope hub (edited_by edits hub.stack.top.scope))))
 
   -- the last event id of a hub
-  abbrev pub last_event_id : HubKey → World P C → Outcome P C (Option (List ℕ))
+  unfoldable pub last_event_id : HubKey → World P C → Outcome P C (Option (List ℕ))
   last_event_id key world = needs Stale world (hub_at world key) (λ hub. replied hub.last_event_id [] world)
 
   -- an event on a hub, under the client of its top layer: without one nothing happens, and with one the answer becomes the last event id
-  abbrev pub capture_event : (P → Partial) → (C → Meanings) → HubKey → Event → Fresh → World P C → Outcome P C (List ℕ)
+  unfoldable pub capture_event : (P → Partial) → (C → Meanings) → HubKey → Event → Fresh → World P C → Outcome P C (List ℕ)
   capture_event gives meanings key event fresh world =
       needs Stale world (hub_at world key) (λ hub.
       or_else hub.stack.top.client (replied nil_id [] world) (λ client_key.
@@ -79,5 +79,5 @@ module _ {P C : Type 0} where
       replied (captured_id made) (captured_envelopes client_key made) (with_hub world key (record hub { last_event_id = Some (captured_id made) })))))
 
   -- a message on a hub
-  abbrev pub capture_message : (P → Partial) → (C → Meanings) → HubKey → Bytes → Level → Fresh → World P C → Outcome P C (List ℕ)
+  unfoldable pub capture_message : (P → Partial) → (C → Meanings) → HubKey → Bytes → Level → Fresh → World P C → Outcome P C (List ℕ)
   capture_message gives meanings key message level fresh world = capture_event gives meanings key (message_event message level fresh.uuid fresh.now) fresh world

@@ -24,7 +24,7 @@ module _ {C T : Type 0} where
 
 module _ {P C : Type 0} (gives : P → Partial) (meanings : C → Meanings) where
   -- what a call answers, hands out and leaves
-  abbrev pub step : Call P C → World P C → Outcome P C (Reply C)
+  unfoldable pub step : Call P C → World P C → Outcome P C (Reply C)
   step (AddClient options transport label now) world = replying reply.Client (clients.add_client meanings options transport label world)
   step (Options client) world = replying reply.Options (clients.options client world)
   step (Dsn client) world = replying reply.Dsn (clients.dsn client world)

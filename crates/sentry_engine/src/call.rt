@@ -163,6 +163,7 @@ impl<P: EventCallback + Drop, C: Callbacks> Engine<P, C> {
     }
 
     /// Does one call, by the method of its name.
+    #[tactic(auto, unfolding(crate::specs::Runs::step))]
     pub fn apply(&mut self, call: Call<P, C>) -> Answer<C>
         ensures { Does self.old self.new result (step P.gives C.meanings call) }
     {

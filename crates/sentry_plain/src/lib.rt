@@ -17,6 +17,3 @@ pub use table::Table;
 pub use text::Text;
 pub use text_map::TextMap;
 pub use value::{Value, ValueMap, Values};
-
-#[cfg(test)]
-mod tests;

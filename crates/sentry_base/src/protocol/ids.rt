@@ -4,9 +4,6 @@ ghost use Rattle.std.specs.Char.{is_ascii_digit};
 ghost use Rattle.std.specs.List.{list_all};
 ghost use Rattle.sentry_base.specs.Ids.{trace_id_of, span_id_of, organization_id_of};
 
-#[cfg(test)]
-mod tests;
-
 use hex::FromHex;
 use std::fmt;
 

@@ -31,6 +31,7 @@ impl<P: EventCallback + Drop, C: Callbacks> Engine<P, C> {
     /// are to wait.
     ///
     /// `ForeignLosses`: the label has another tag than the engine. `Full`: the numbers are used up. `OutOfMemory`.
+    #[tactic(auto, unfolding(crate::specs::Clients::add_client))]
     pub fn add_client(
         &mut self,
         options: ClientOptions<C>,
@@ -66,6 +67,7 @@ impl<P: EventCallback + Drop, C: Callbacks> Engine<P, C> {
     /// The options of a client, as a share: after the `setup` of its integrations, which are among them.
     ///
     /// `Stale`: the client isn't held. `OutOfMemory`.
+    #[tactic(auto, unfolding(crate::specs::Clients::options))]
     pub fn options(&self, client: ClientKey) -> Result<Out<Shared<ClientOptions<C>>>, Refusal>
         ensures { Does self.now self.now result (call.options client) }
     {
@@ -79,6 +81,7 @@ impl<P: EventCallback + Drop, C: Callbacks> Engine<P, C> {
     /// Where a client sends to, if anywhere.
     ///
     /// `Stale`: the client isn't held. `OutOfMemory`.
+    #[tactic(auto, unfolding(crate::specs::Clients::dsn))]
     pub fn dsn(&self, client: ClientKey) -> Result<Out<Option<Dsn>>, Refusal>
         ensures { Does self.now self.now result (call.dsn client) }
     {
@@ -92,6 +95,7 @@ impl<P: EventCallback + Drop, C: Callbacks> Engine<P, C> {
     /// Whether a client has a DSN, now and when it was added, and a transport.
     ///
     /// `Stale`: the client isn't held.
+    #[tactic(auto, unfolding(crate::specs::Clients::is_enabled))]
     pub fn is_enabled(&self, client: ClientKey) -> Result<Out<bool>, Refusal>
         ensures does { Does self.now self.now result (call.is_enabled client) }
         ensures takes_no_memory { result ≢ Err Refusal.OutOfMemory }
@@ -104,6 +108,7 @@ impl<P: EventCallback + Drop, C: Callbacks> Engine<P, C> {
     }
 
     /// Whether what has this draw is sent at this rate. It takes no memory, and is never refused.
+    #[tactic(auto, unfolding(crate::specs::Clients::sample_should_send))]
     pub fn sample_should_send(&self, rate: SampleRate, draw: Draw) -> Result<Out<bool>, Refusal>
         ensures does { Does self.now self.now result (call.sample_should_send rate draw) }
         ensures answers { result ≡ Ok (record { reply = nat_lt draw rate; sent = [] }) }

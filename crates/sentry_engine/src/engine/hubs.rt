@@ -134,6 +134,7 @@ impl<P: EventCallback + Drop, C: Callbacks> Engine<P, C> {
     /// Adds a hub with one layer, of a client or none and a scope, and answers its key.
     ///
     /// `Stale`: the client isn't held. `Full`: the numbers are used up. `OutOfMemory`.
+    #[tactic(auto, unfolding(crate::specs::Hubs::new_hub))]
     pub fn new_hub(
         &mut self,
         client: Option<ClientKey>,
@@ -161,6 +162,7 @@ impl<P: EventCallback + Drop, C: Callbacks> Engine<P, C> {
     }
 
     // One edit, which costs what it changes.
+    #[tactic(auto, unfolding(crate::specs::Hubs::configure))]
     fn configure_one(&mut self, hub: HubKey, edit: ScopeEdit<P>) -> Result<Out<()>, Refusal>
         ensures { Does self.old self.new result (call.configure hub (edit ∷ [])) }
     {
@@ -172,6 +174,7 @@ impl<P: EventCallback + Drop, C: Callbacks> Engine<P, C> {
     }
 
     // Several edits, which are done to a copy of the scope, so that all of them are done or none.
+    #[tactic(auto, unfolding(crate::specs::Hubs::configure))]
     fn configure_all(&mut self, hub: HubKey, edits: Vec<ScopeEdit<P>>) -> Result<Out<()>, Refusal>
         ensures { Does self.old self.new result (call.configure hub edits.items) }
     {
@@ -205,6 +208,7 @@ impl<P: EventCallback + Drop, C: Callbacks> Engine<P, C> {
     /// The id that the last capture on a hub answered, if its top layer had a client at one.
     ///
     /// `Stale`: the hub isn't held.
+    #[tactic(auto, unfolding(crate::specs::Hubs::last_event_id))]
     pub fn last_event_id(&self, hub: HubKey) -> Result<Out<Option<Uuid>>, Refusal>
         ensures does { Does self.now self.now result (call.last_event_id hub) }
         ensures takes_no_memory { result ≢ Err Refusal.OutOfMemory }
@@ -220,6 +224,7 @@ impl<P: EventCallback + Drop, C: Callbacks> Engine<P, C> {
     /// transport.
     ///
     /// `Stale`: the hub isn't held. `OutOfMemory`.
+    #[tactic(auto, unfolding(crate::specs::Hubs::capture_event))]
     pub fn capture_event(
         &mut self,
         hub: HubKey,
@@ -247,6 +252,7 @@ impl<P: EventCallback + Drop, C: Callbacks> Engine<P, C> {
     /// Captures an event of a message and a level on a hub, as `capture_event` does.
     ///
     /// `Stale`: the hub isn't held. `OutOfMemory`.
+    #[tactic(auto, unfolding(crate::specs::Hubs::capture_message, crate::specs::Hubs::capture_event))]
     pub fn capture_message(
         &mut self,
         hub: HubKey,

@@ -1,5 +1,5 @@
 //! Ids as text.
-use super::*;
+use sentry_base::protocol::{OrganizationId, SpanId, TraceId};
 use std::test::Fail;
 
 const TRACE: [u8; 16] = [

@@ -1,7 +1,9 @@
 //! Each call that takes memory, with ample memory, and each container at a type of its own.
 ghost use Rattle.std.specs.Prelude.{◌≡◌, ◌↔◌, IsTrue, IfOk};
 
-use crate::{Items, PlainEq, Shared, Table, Text, TextMap, Value, ValueMap, Values, is_same};
+use sentry_plain::{
+    Items, PlainEq, Shared, Table, Text, TextMap, Value, ValueMap, Values, is_same,
+};
 use std::alloc::{AllocError, Global};
 use std::test::Fail;
 
@@ -23,7 +25,7 @@ struct User {
 
 impl PlainEq for Level {
     ghost use Rattle.sentry_plain.specs.Equality.{exact_enum};
-    ghost use Rattle.sentry_plain.specs.contracts.tests.Level.{the_type as Levels};
+    ghost use Rattle.base_tests.specs.contracts.plain.Level.{the_type as Levels};
 
     ghost exact = { exact_enum Levels tt };
 }
@@ -34,7 +36,7 @@ impl PlainEq for User {
     ghost use Rattle.sentry_plain.specs.Values.{same_data};
     ghost use Rattle.sentry_plain.specs.Equality.{exact_bytes, exact_option, exact_entries, exact_pair, exact_record, exact_enum};
     ghost use Rattle.sentry_plain.specs.ValueEquality.{exact_data};
-    ghost use Rattle.sentry_plain.specs.contracts.tests.Level.{the_type as Levels};
+    ghost use Rattle.base_tests.specs.contracts.plain.Level.{the_type as Levels};
 
     ghost exact = { exact_record _ (λ u. (u.id, (u.age, (u.level, (u.groups, (u.tags, u.extra))))))
         (λ x y e i. record { id = (e i).0; age = (e i).1.0; level = (e i).1.1.0; groups = (e i).1.1.1.0; tags = (e i).1.1.1.1.0; extra = (e i).1.1.1.1.1 })

@@ -1,9 +1,12 @@
 //! Worked examples of the utilities.
-use super::*;
-use crate::protocol::{ErrorLink, Level, Uuid};
+use sentry_base::protocol::{ErrorLink, Level, Uuid};
+use sentry_base::utils::{
+    event_from_error, is_sensitive_header, parse_type_from_debug, scrub_pii_from_url,
+};
 use sentry_plain::Text;
 use std::alloc::{AllocError, Global};
 use std::test::Fail;
+use url::Url;
 
 #[test]
 fn sensitive_headers_are_known_in_any_case(rt: HostRuntime) -> Result<(), Fail> {

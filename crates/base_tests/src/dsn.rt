@@ -1,5 +1,7 @@
 //! Worked examples of DSN texts.
-use super::*;
+use sentry_base::dsn::{Dsn, IntoDsn, ParseDsnError, ProjectId, Scheme};
+use sentry_base::protocol::{OrganizationId, Refusal};
+use std::alloc::Global;
 use std::borrow::CowStr;
 use std::test::Fail;
 

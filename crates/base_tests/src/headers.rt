@@ -1,5 +1,8 @@
 //! Worked examples of headers.
-use super::*;
+use sentry_base::headers::{
+    HeaderParseError, SentryTrace, TraceHeadersIter, TracePropagationContext, parse_headers,
+};
+use sentry_base::protocol::{OrganizationId, SpanId, TraceId};
 use std::test::Fail;
 
 const PLAIN: &str = "09e04486820349518ac7b5d2adbf6ba5-9cf635fa5b870b3a";

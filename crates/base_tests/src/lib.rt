@@ -1,0 +1,13 @@
+//! Worked examples of plain values, ids, headers, DSNs and texts, a file a topic.
+#![tactic(auto)]
+
+#[cfg(test)]
+mod dsn;
+#[cfg(test)]
+mod headers;
+#[cfg(test)]
+mod ids;
+#[cfg(test)]
+mod plain;
+#[cfg(test)]
+mod utils;
