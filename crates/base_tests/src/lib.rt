@@ -1,4 +1,4 @@
-//! Worked examples of plain values, ids, headers, DSNs and texts, a file a topic.
+//! Worked examples of plain values, records, ids, headers, DSNs and texts, a file a topic.
 #![tactic(auto)]
 
 #[cfg(test)]
@@ -9,5 +9,7 @@ mod headers;
 mod ids;
 #[cfg(test)]
 mod plain;
+#[cfg(test)]
+mod records;
 #[cfg(test)]
 mod utils;

@@ -3,15 +3,17 @@ use sentry_core::engine::Engine;
 use sentry_core::protocol::{
     ClientKey, Draw, EnvelopeItem, Event, Fresh, HubKey, Label, Refusal, SpanId, TraceId, Uuid,
 };
-use sentry_core::{ClientOptions, Envelope, EventCallback, Integration, Scope};
-use sentry_plain::Items;
+use sentry_core::{
+    BoxedEventCallback, BoxedIntegration, ClientOptions, Envelope, EventCallback, Integration,
+    Level, Scope, ScopeEdit,
+};
+use sentry_plain::{Items, Text};
 use sentry_state::clientoptions::PlainOptions;
 use std::alloc::{AllocError, Global};
-use std::test::Fail;
 
 /// Adds to the event's moment.
 #[derive(Drop)]
-pub struct Adds(pub u64);
+struct Adds(u64);
 
 impl EventCallback for Adds {
     ghost use Rattle.std.specs.Prelude.{Some, ◌+◌, ◌%◌, ◌^◌};
@@ -27,7 +29,7 @@ impl EventCallback for Adds {
 
 /// Drops every event.
 #[derive(Drop)]
-pub struct Drops;
+struct Drops;
 
 impl EventCallback for Drops {
     ghost use Rattle.std.specs.Prelude.{None};
@@ -41,7 +43,7 @@ impl EventCallback for Drops {
 
 /// Never gets its memory, so that a call of it shows.
 #[derive(Drop)]
-pub struct WantsMemory;
+struct WantsMemory;
 
 impl EventCallback for WantsMemory {
     ghost use Rattle.std.specs.Prelude.{Some};
@@ -55,7 +57,7 @@ impl EventCallback for WantsMemory {
 
 /// Multiplies the event's moment.
 #[derive(Drop)]
-pub struct Multiplies(pub u64);
+struct Multiplies(u64);
 
 impl Integration for Multiplies {
     ghost use Rattle.std.specs.Prelude.{Some, ◌*◌, ◌%◌, ◌^◌, codes};
@@ -87,7 +89,7 @@ impl Integration for Multiplies {
 
 /// Removes the release from the options, and drops every event.
 #[derive(Drop)]
-pub struct Hides;
+struct Hides;
 
 impl Integration for Hides {
     ghost use Rattle.std.specs.Prelude.{None, codes};
@@ -118,7 +120,7 @@ impl Integration for Hides {
 
 /// An integration that never gets its memory for an event.
 #[derive(Drop)]
-pub struct Starves;
+struct Starves;
 
 impl Integration for Starves {
     ghost use Rattle.std.specs.Prelude.{Some, codes};
@@ -146,6 +148,49 @@ impl Integration for Starves {
     }
 }
 
+/// A boxed `Adds`.
+pub fn boxed_adds(alloc: Global, number: u64) -> Result<BoxedEventCallback, AllocError> {
+    let callback: BoxedEventCallback = Box::new(alloc, Adds(number))?;
+    Ok(callback)
+}
+
+/// A boxed `Drops`.
+pub fn boxed_drops(alloc: Global) -> Result<BoxedEventCallback, AllocError> {
+    let callback: BoxedEventCallback = Box::new(alloc, Drops)?;
+    Ok(callback)
+}
+
+/// A boxed `WantsMemory`.
+pub fn boxed_wants_memory(alloc: Global) -> Result<BoxedEventCallback, AllocError> {
+    let callback: BoxedEventCallback = Box::new(alloc, WantsMemory)?;
+    Ok(callback)
+}
+
+/// A boxed `Multiplies`.
+pub fn boxed_multiplies(alloc: Global, number: u64) -> Result<BoxedIntegration, AllocError> {
+    let integration: BoxedIntegration = Box::new(alloc, Multiplies(number))?;
+    Ok(integration)
+}
+
+/// A boxed `Hides`.
+pub fn boxed_hides(alloc: Global) -> Result<BoxedIntegration, AllocError> {
+    let integration: BoxedIntegration = Box::new(alloc, Hides)?;
+    Ok(integration)
+}
+
+/// A boxed `Starves`.
+pub fn boxed_starves(alloc: Global) -> Result<BoxedIntegration, AllocError> {
+    let integration: BoxedIntegration = Box::new(alloc, Starves)?;
+    Ok(integration)
+}
+
+/// A list of one item.
+pub fn only<T: Drop>(alloc: Global, item: T) -> Result<Vec<T>, AllocError> {
+    let mut items = Items::new(alloc);
+    items.push(item)?;
+    Ok(items.into_vec())
+}
+
 /// Where the clients of the examples send to.
 pub const DSN: &str = "https://public@sentry.invalid/1";
 
@@ -154,9 +199,14 @@ pub fn unset(alloc: Global) -> ClientOptions {
     ClientOptions::new(alloc)
 }
 
-/// Options with a DSN, and nothing else set.
+/// Options with this DSN, and nothing else set.
+pub fn options_of(alloc: Global, dsn: &str) -> Result<ClientOptions, Refusal> {
+    ClientOptions::from_dsn(alloc, dsn)
+}
+
+/// Options with the DSN of the examples.
 pub fn options(alloc: Global) -> Result<ClientOptions, Refusal> {
-    ClientOptions::from_dsn(alloc, DSN)
+    options_of(alloc, DSN)
 }
 
 /// The label that clients of the examples have.
@@ -173,14 +223,14 @@ pub fn id(byte: u8) -> Uuid {
 }
 
 /// What a call is handed at a moment: ids of that number.
-pub fn fresh(number: u8) -> Result<Fresh, Fail> {
-    Ok(Fresh {
+pub fn fresh(number: u8) -> Fresh {
+    Fresh {
         now: number as u64,
         uuid: id(number),
         trace_id: TraceId([number; 16]),
         span_id: SpanId([number; 8]),
-        draw: Draw::new(0).ok_or("no draw")?,
-    })
+        draw: Draw::new(0).unwrap(),
+    }
 }
 
 /// A client with these options and a transport, and a hub on it.
@@ -188,10 +238,50 @@ pub fn add_client_and_hub(
     engine: &mut Engine,
     alloc: Global,
     options: ClientOptions,
-) -> Result<(ClientKey, HubKey), Fail> {
+) -> Result<(ClientKey, HubKey), Refusal> {
     let client = engine.add_client(options, true, LABEL, 0)?.reply;
     let hub = engine.new_hub(Some(client), scope(alloc))?.reply;
     Ok((client, hub))
+}
+
+/// What a capture came to: the id that it answered, how many envelopes it handed out, and the hub's last event id then.
+#[derive(Clone, Copy, Debug, PartialEq)]
+pub struct Captured {
+    pub reply: Uuid,
+    pub envelopes: usize,
+    pub last: Option<Uuid>,
+}
+
+/// What a dropped event comes to.
+pub fn dropped() -> Captured {
+    Captured {
+        reply: Uuid::nil(),
+        envelopes: 0,
+        last: Some(Uuid::nil()),
+    }
+}
+
+/// What a message on a hub comes to.
+pub fn captured_message(engine: &mut Engine, hub: HubKey) -> Result<Captured, Refusal> {
+    let out = engine.capture_message(hub, "m", Level::Error, fresh(1))?;
+    let last = engine.last_event_id(hub)?.reply;
+    Ok(Captured {
+        reply: out.reply,
+        envelopes: out.sent.len(),
+        last,
+    })
+}
+
+/// What a message comes to on a hub of a client with these options and a transport, after these edits of its scope.
+pub fn message_under(
+    alloc: Global,
+    options: ClientOptions,
+    edits: Vec<ScopeEdit>,
+) -> Result<Captured, Refusal> {
+    let mut engine = Engine::new(alloc, 0);
+    let (_, hub) = add_client_and_hub(&mut engine, alloc, options)?;
+    engine.configure(hub, edits, 0)?;
+    captured_message(&mut engine, hub)
 }
 
 /// The only event of the only envelope, if that is all.
@@ -202,5 +292,21 @@ pub fn only_event(sent: &Items<(ClientKey, Envelope)>) -> Option<&Event> {
             _ => None,
         },
         _ => None,
+    }
+}
+
+/// Whether there is a text, and it is this one.
+pub fn is(text: &Option<Text>, expected: &str) -> bool {
+    match text {
+        Some(text) => text.as_str() == expected,
+        None => false,
+    }
+}
+
+/// Whether the event has this tag.
+pub fn has_tag(event: &Event, key: &str, value: &str) -> bool {
+    match event.tags.get(key) {
+        Some(found) => found.as_str() == value,
+        None => false,
     }
 }
