@@ -1,8 +1,8 @@
 //! What becomes of captured events.
 use crate::support::{
     Captured, LABEL, add_client_and_hub, boxed_adds, boxed_drops, boxed_hides, boxed_multiplies,
-    boxed_starves, boxed_wants_memory, captured_message, dropped, fresh, has_tag, id, is,
-    message_under, only, only_event, options, scope,
+    boxed_starves, boxed_wants_memory, captured_message, fresh, has_tag, id, is, message_under,
+    only, only_event, options, scope,
 };
 use sentry_core::engine::{Engine, Out};
 use sentry_core::protocol::{ClientSdkInfo, Context, Event, HubKey, Refusal, Uuid};
@@ -120,7 +120,7 @@ fn dropped_by_a_processor(alloc: Global) -> Result<Captured, Refusal> {
 
 #[test]
 fn what_drops_an_event_stops_what_follows(rt: HostRuntime) -> Result<(), Fail> {
-    assert_eq!(rt; dropped_by_a_processor(rt.alloc())?, dropped());
+    assert!(rt; dropped_by_a_processor(rt.alloc())?.is_dropped());
     Ok(())
 }
 
@@ -137,7 +137,7 @@ fn dropped_by_an_integration(alloc: Global) -> Result<Captured, Refusal> {
 
 #[test]
 fn an_integration_drops_before_the_next_one_and_before_send(rt: HostRuntime) -> Result<(), Fail> {
-    assert_eq!(rt; dropped_by_an_integration(rt.alloc())?, dropped());
+    assert!(rt; dropped_by_an_integration(rt.alloc())?.is_dropped());
     Ok(())
 }
 
@@ -148,7 +148,7 @@ fn dropped_by_before_send(alloc: Global) -> Result<Captured, Refusal> {
 
 #[test]
 fn before_send_drops(rt: HostRuntime) -> Result<(), Fail> {
-    assert_eq!(rt; dropped_by_before_send(rt.alloc())?, dropped());
+    assert!(rt; dropped_by_before_send(rt.alloc())?.is_dropped());
     Ok(())
 }
 
@@ -166,12 +166,10 @@ fn event_without_a_client(alloc: Global) -> Result<Captured, Refusal> {
 
 #[test]
 fn a_hub_without_a_client_captures_nothing(rt: HostRuntime) -> Result<(), Fail> {
-    let expected = Captured {
-        reply: Uuid::nil(),
-        envelopes: 0,
-        last: None,
-    };
-    assert_eq!(rt; event_without_a_client(rt.alloc())?, expected);
+    let captured = event_without_a_client(rt.alloc())?;
+    assert!(rt; captured.reply.is_nil());
+    assert_eq!(rt; captured.envelopes, 0);
+    assert_eq!(rt; captured.last, None);
     Ok(())
 }
 
@@ -185,7 +183,7 @@ fn message_without_a_transport(alloc: Global) -> Result<Captured, Refusal> {
 
 #[test]
 fn without_a_transport_nothing_runs(rt: HostRuntime) -> Result<(), Fail> {
-    assert_eq!(rt; message_without_a_transport(rt.alloc())?, dropped());
+    assert!(rt; message_without_a_transport(rt.alloc())?.is_dropped());
     Ok(())
 }
 

@@ -10,4 +10,6 @@ mod refusals;
 #[cfg(test)]
 mod runs;
 #[cfg(test)]
+mod scopes;
+#[cfg(test)]
 mod support;

@@ -245,19 +245,17 @@ pub fn add_client_and_hub(
 }
 
 /// What a capture came to: the id that it answered, how many envelopes it handed out, and the hub's last event id then.
-#[derive(Clone, Copy, Debug, PartialEq)]
+#[derive(Clone, Copy)]
 pub struct Captured {
     pub reply: Uuid,
     pub envelopes: usize,
     pub last: Option<Uuid>,
 }
 
-/// What a dropped event comes to.
-pub fn dropped() -> Captured {
-    Captured {
-        reply: Uuid::nil(),
-        envelopes: 0,
-        last: Some(Uuid::nil()),
+impl Captured {
+    /// Whether the event was dropped: the nil id is answered and kept, and nothing is handed out.
+    pub fn is_dropped(self) -> bool {
+        self.reply.is_nil() && self.envelopes == 0 && self.last == Some(Uuid::nil())
     }
 }
 
