@@ -3,6 +3,7 @@ use sentry_base::headers::{
     HeaderParseError, SentryTrace, TraceHeadersIter, TracePropagationContext, parse_headers,
 };
 use sentry_base::protocol::{OrganizationId, SpanId, TraceId};
+use std::alloc::{AllocError, Global};
 use std::test::Fail;
 
 const PLAIN: &str = "09e04486820349518ac7b5d2adbf6ba5-9cf635fa5b870b3a";
@@ -30,13 +31,19 @@ fn read(headers: &[(&str, &str)]) -> Read {
     TracePropagationContext::try_from_headers(headers.iter().copied())
 }
 
+fn read_alone(value: &str) -> Read {
+    TracePropagationContext::try_from_headers([("sentry-trace", value)])
+}
+
+fn read_with_suffix(alloc: Global, suffix: &str) -> Result<Read, Fail> {
+    let value = format!(in alloc; "{PLAIN}{suffix}")?;
+    Ok(read_alone(value.as_str()))
+}
+
 #[test]
 fn a_third_part_says_whether_a_trace_is_sampled(rt: HostRuntime) -> Result<(), Fail> {
-    let read = |value: &str| -> Read {
-        TracePropagationContext::try_from_headers([("sentry-trace", value)])
-    };
-    assert_eq!(rt; read(UNSAMPLED), context(Some(false), None));
-    assert_eq!(rt; read(PLAIN), context(None, None));
+    assert_eq!(rt; read_alone(UNSAMPLED), context(Some(false), None));
+    assert_eq!(rt; read_alone(PLAIN), context(None, None));
     let suffixes = [
         ("-1", Some(true)),
         ("-0", Some(false)),
@@ -48,10 +55,15 @@ fn a_third_part_says_whether_a_trace_is_sampled(rt: HostRuntime) -> Result<(), F
         ("-1-1", None),
     ];
     for (suffix, sampled) in suffixes {
-        let value = format!(in rt.alloc(); "{PLAIN}{suffix}")?;
-        assert_eq!(rt; read(value.as_str()), context(sampled, None), "at {suffix}");
+        let read = read_with_suffix(rt.alloc(), suffix)?;
+        assert_eq!(rt; read, context(sampled, None), "at {suffix}");
     }
     Ok(())
+}
+
+fn read_between(alloc: Global, front: &str, back: &str) -> Result<Read, Fail> {
+    let value = format!(in alloc; "{front}{UNSAMPLED}{back}")?;
+    Ok(read(&[("sentry-trace", value.as_str())]))
 }
 
 #[test]
@@ -62,8 +74,7 @@ fn blanks_round_a_value_are_passed_over(rt: HostRuntime) -> Result<(), Fail> {
         ("\r\n ", " \n"),
         ("\u{a0}", "\u{2003}\u{3000}"),
     ] {
-        let value = format!(in rt.alloc(); "{front}{UNSAMPLED}{back}")?;
-        let read = read(&[("sentry-trace", value.as_str())]);
+        let read = read_between(rt.alloc(), front, back)?;
         assert_eq!(rt; read, context(Some(false), None));
     }
     assert_eq!(rt;
@@ -200,6 +211,19 @@ fn the_last_valid_organization_counts(rt: HostRuntime) -> Result<(), Fail> {
     Ok(())
 }
 
+fn read_back(alloc: Global, context: TracePropagationContext) -> Result<Read, Fail> {
+    let text = context.sentry_trace_header(alloc)?;
+    Ok(read(&[("sentry-trace", text.as_str())]))
+}
+
+fn is_printed_as(
+    alloc: Global,
+    context: TracePropagationContext,
+    printed: &str,
+) -> Result<bool, Fail> {
+    Ok(context.sentry_trace_header(alloc)?.as_str() == printed)
+}
+
 #[test]
 fn a_printed_header_is_read_back(rt: HostRuntime) -> Result<(), Fail> {
     let alloc = rt.alloc();
@@ -211,19 +235,19 @@ fn a_printed_header_is_read_back(rt: HostRuntime) -> Result<(), Fail> {
         known.with_sampled(true),
         known.with_sampled(false),
     ] {
-        let text = context.sentry_trace_header(alloc)?;
-        let read = read(&[("sentry-trace", text.as_str())]);
-        assert_eq!(rt; read, Ok(context));
+        assert_eq!(rt; read_back(alloc, context)?, Ok(context));
     }
-    let text = known.with_sampled(false).sentry_trace_header(alloc)?;
-    assert_eq!(rt; text.as_str(), UNSAMPLED);
-    assert_eq!(rt; known.sentry_trace_header(alloc)?.as_str(), PLAIN);
+    assert!(rt; is_printed_as(alloc, known.with_sampled(false), UNSAMPLED)?);
+    assert!(rt; is_printed_as(alloc, known, PLAIN)?);
     Ok(())
+}
+
+fn is_trace_printed_as(alloc: Global, trace: SentryTrace, printed: &str) -> Result<bool, Fail> {
+    Ok(trace.to_string(alloc)?.as_str() == printed)
 }
 
 #[test]
 fn a_trace_alone_leaves_the_organization_out(rt: HostRuntime) -> Result<(), Fail> {
-    let alloc = rt.alloc();
     let trace = SentryTrace::new(TRACE_ID, SPAN_ID, Some(false));
     let headers = [
         ("sentry-trace", UNSAMPLED),
@@ -236,26 +260,40 @@ fn a_trace_alone_leaves_the_organization_out(rt: HostRuntime) -> Result<(), Fail
         Ok(TracePropagationContext::from(trace)),
         context(Some(false), None)
     );
-    assert_eq!(rt; trace.to_string(alloc)?.as_str(), UNSAMPLED);
+    assert!(rt; is_trace_printed_as(rt.alloc(), trace, UNSAMPLED)?);
     Ok(())
+}
+
+fn is_told_as(alloc: Global, error: HeaderParseError, words: &str) -> Result<bool, Fail> {
+    Ok(error.to_string(alloc)?.as_str() == words)
 }
 
 #[test]
 fn refusals_are_told_in_words(rt: HostRuntime) -> Result<(), Fail> {
     let alloc = rt.alloc();
-    let missing = HeaderParseError::Missing.to_string(alloc)?;
-    assert_eq!(rt; missing.as_str(), "missing sentry-trace header");
-    let invalid = HeaderParseError::Invalid.to_string(alloc)?;
-    assert_eq!(rt; invalid.as_str(), "invalid sentry-trace header");
+    let missing = "missing sentry-trace header";
+    assert!(rt; is_told_as(alloc, HeaderParseError::Missing, missing)?);
+    let invalid = "invalid sentry-trace header";
+    assert!(rt; is_told_as(alloc, HeaderParseError::Invalid, invalid)?);
     Ok(())
+}
+
+fn is_header(header: Option<(&str, String)>, name: &str, value: &str) -> bool {
+    match header {
+        Some((key, held)) => key == name && held.as_str() == value,
+        None => false,
+    }
+}
+
+/// Whether the trace is handed on in one header, and whether that is all.
+fn is_handed_on_once(alloc: Global, trace: &str) -> Result<(bool, bool), AllocError> {
+    let mut headers = TraceHeadersIter::new(String::from_str(alloc, trace)?);
+    let is_first = is_header(headers.next(), "sentry-trace", trace);
+    Ok((is_first, headers.next().is_none()))
 }
 
 #[test]
 fn one_header_hands_a_trace_on(rt: HostRuntime) -> Result<(), Fail> {
-    let mut headers = TraceHeadersIter::new(String::from_str(rt.alloc(), PLAIN)?);
-    let (name, value) = headers.next().ok_or("no header")?;
-    assert_eq!(rt; name, "sentry-trace");
-    assert_eq!(rt; value.as_str(), PLAIN);
-    assert!(rt; headers.next().is_none());
+    assert_eq!(rt; is_handed_on_once(rt.alloc(), PLAIN)?, (true, true));
     Ok(())
 }

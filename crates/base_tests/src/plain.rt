@@ -63,162 +63,360 @@ fn text(alloc: Global, text: &str) -> Result<Text, AllocError> {
     Text::new(alloc, text)
 }
 
-/// `{"list": [1, "one", {}], "truth": true}`
-fn nested(alloc: Global) -> Result<ValueMap, AllocError> {
+/// `[1, "one", {}]`
+fn nested_list(alloc: Global) -> Result<Values, AllocError> {
     let mut list = Values::new(alloc);
     list.push(Value::Int(1))?;
     list.push(Value::Text(text(alloc, "one")?))?;
     list.push(Value::Map(ValueMap::new(alloc)))?;
+    Ok(list)
+}
+
+/// `{"list": [1, "one", {}], "truth": true}`
+fn nested(alloc: Global) -> Result<ValueMap, AllocError> {
     let mut map = ValueMap::new(alloc);
-    map.insert(text(alloc, "list")?, Value::List(list))?;
+    map.insert(text(alloc, "list")?, Value::List(nested_list(alloc)?))?;
     map.insert(text(alloc, "truth")?, Value::Bool(true))?;
     Ok(map)
 }
 
-fn a_user(alloc: Global) -> Result<User, AllocError> {
+/// The map of `"truth"` alone.
+fn truth(alloc: Global, value: Value) -> Result<ValueMap, AllocError> {
+    let mut map = ValueMap::new(alloc);
+    map.insert(text(alloc, "truth")?, value)?;
+    Ok(map)
+}
+
+/// The nested map, where a map with no truth has won.
+fn nested_without_truth(alloc: Global) -> Result<ValueMap, AllocError> {
+    let wins = truth(alloc, Value::Null)?;
+    copy_of_nested(alloc)?.merged(&wins)
+}
+
+fn copy_of_nested(alloc: Global) -> Result<ValueMap, AllocError> {
+    nested(alloc)?.clone()
+}
+
+fn staff(alloc: Global) -> Result<Items<Text>, AllocError> {
     let mut groups = Items::new(alloc);
     groups.push(text(alloc, "staff")?)?;
+    Ok(groups)
+}
+
+fn free_plan(alloc: Global) -> Result<TextMap<Text>, AllocError> {
     let mut tags = TextMap::new(alloc);
     tags.insert(text(alloc, "plan")?, text(alloc, "free")?)?;
+    Ok(tags)
+}
+
+fn a_user(alloc: Global) -> Result<User, AllocError> {
     Ok(User {
         id: Some(text(alloc, "7")?),
         age: 40,
         level: Level::Info,
-        groups,
-        tags,
+        groups: staff(alloc)?,
+        tags: free_plan(alloc)?,
         extra: nested(alloc)?,
     })
+}
+
+fn text_reads_as(alloc: Global, written: &str) -> Result<bool, AllocError> {
+    Ok(text(alloc, written)?.as_str() == written)
+}
+
+fn text_is_its_copy(alloc: Global, written: &str) -> Result<bool, AllocError> {
+    let one = text(alloc, written)?;
+    Ok(one.clone()? == one)
+}
+
+fn texts_differ(alloc: Global, one: &str, other: &str) -> Result<bool, AllocError> {
+    Ok(text(alloc, one)? != text(alloc, other)?)
 }
 
 #[test]
 fn texts_are_copied_and_compared(rt: HostRuntime) -> Result<(), Fail> {
     let alloc = rt.alloc();
-    let one = Text::new(alloc, "größe")?;
-    assert_eq!(rt; one.as_str(), "größe");
-    assert!(rt; one.clone()? == one);
-    assert!(rt; one != Text::new(alloc, "grösse")?);
+    assert!(rt; text_reads_as(alloc, "größe")?);
+    assert!(rt; text_is_its_copy(alloc, "größe")?);
+    assert!(rt; texts_differ(alloc, "größe", "grösse")?);
     Ok(())
+}
+
+fn a_new_list_is_empty(alloc: Global) -> bool {
+    let list: Items<u64> = Items::new(alloc);
+    list.is_empty()
+}
+
+fn only(alloc: Global, number: u64) -> Result<Items<u64>, AllocError> {
+    let mut list = Items::new(alloc);
+    list.push(number)?;
+    Ok(list)
+}
+
+fn one_to_four(alloc: Global) -> Result<Items<u64>, AllocError> {
+    let mut list = Items::new(alloc);
+    list.push(1)?;
+    list.push(3)?;
+    list.insert(1, 2)?;
+    list.append(only(alloc, 4)?)?;
+    Ok(list)
+}
+
+fn one_to_four_holds(alloc: Global, numbers: &[u64]) -> Result<bool, AllocError> {
+    Ok(one_to_four(alloc)?.as_slice() == numbers)
+}
+
+fn list_is_its_copy(alloc: Global) -> Result<bool, AllocError> {
+    let list = one_to_four(alloc)?;
+    Ok(list.clone()? == list)
+}
+
+fn number_at(alloc: Global, index: usize) -> Result<Option<u64>, AllocError> {
+    Ok(one_to_four(alloc)?.get(index).copied())
+}
+
+/// The first number, the last, and whether the others are these.
+fn ends_and_rest(
+    alloc: Global,
+    rest: &[u64],
+) -> Result<Option<(u64, Option<u64>, bool)>, AllocError> {
+    let mut list = one_to_four(alloc)?;
+    if list.is_empty() {
+        return Ok(None);
+    }
+    let first = list.remove(0);
+    let last = list.pop();
+    Ok(Some((first, last, list.into_vec().as_slice() == rest)))
 }
 
 #[test]
 fn lists_grow_and_shrink(rt: HostRuntime) -> Result<(), Fail> {
     let alloc = rt.alloc();
-    let mut list: Items<u64> = Items::new(alloc);
-    assert!(rt; list.is_empty());
-    list.push(1)?;
-    list.push(3)?;
-    list.insert(1, 2)?;
-    let mut more = Items::new(alloc);
-    more.push(4)?;
-    list.append(more)?;
-    assert_eq!(rt; list.as_slice(), [1, 2, 3, 4].as_slice());
-    assert!(rt; list.clone()? == list);
-    assert_eq!(rt; list.get(2).copied(), Some(3));
-    assert_eq!(rt; list.get(4).copied(), None);
-    assert_eq!(rt; list.remove(0), 1);
-    assert_eq!(rt; list.pop(), Some(4));
-    assert_eq!(rt; list.into_vec().as_slice(), [2, 3].as_slice());
+    assert!(rt; a_new_list_is_empty(alloc));
+    assert!(rt; one_to_four_holds(alloc, &[1, 2, 3, 4])?);
+    assert!(rt; list_is_its_copy(alloc)?);
+    assert_eq!(rt; number_at(alloc, 2)?, Some(3));
+    assert_eq!(rt; number_at(alloc, 4)?, None);
+    let ends = ends_and_rest(alloc, &[2, 3])?;
+    assert_eq!(rt; ends, Some((1, Some(4), true)));
     Ok(())
+}
+
+fn numbers(
+    alloc: Global,
+    one: (&str, u64),
+    other: (&str, u64),
+) -> Result<TextMap<u64>, AllocError> {
+    let mut map = TextMap::new(alloc);
+    map.insert(text(alloc, one.0)?, one.1)?;
+    map.insert(text(alloc, other.0)?, other.1)?;
+    Ok(map)
+}
+
+fn old_numbers(alloc: Global) -> Result<TextMap<u64>, AllocError> {
+    numbers(alloc, ("a", 1), ("b", 2))
+}
+
+fn merged_numbers(alloc: Global) -> Result<TextMap<u64>, AllocError> {
+    let wins = numbers(alloc, ("c", 30), ("b", 20))?;
+    old_numbers(alloc)?.clone()?.merged(&wins)
+}
+
+fn merged_count(alloc: Global) -> Result<usize, AllocError> {
+    Ok(merged_numbers(alloc)?.len())
+}
+
+fn merged_number(alloc: Global, key: &str) -> Result<Option<u64>, AllocError> {
+    Ok(merged_numbers(alloc)?.get(key).copied())
+}
+
+fn joined_keys(alloc: Global, map: &TextMap<u64>) -> Result<String, AllocError> {
+    let mut keys = String::new(alloc);
+    for (key, _) in map.iter() {
+        keys.push_str(key)?;
+    }
+    Ok(keys)
+}
+
+fn merged_keys_are(alloc: Global, keys: &str) -> Result<bool, AllocError> {
+    Ok(joined_keys(alloc, &merged_numbers(alloc)?)?.as_str() == keys)
+}
+
+/// What is taken out at a key, what is taken out there again, and whether the rest is not the old map.
+fn taken_twice(alloc: Global, key: &str) -> Result<(Option<u64>, Option<u64>, bool), AllocError> {
+    let old = old_numbers(alloc)?;
+    let mut made = merged_numbers(alloc)?;
+    let first = made.remove(key);
+    let again = made.remove(key);
+    Ok((first, again, made != old))
 }
 
 #[test]
 fn the_winning_map_has_its_way(rt: HostRuntime) -> Result<(), Fail> {
     let alloc = rt.alloc();
-    let mut old: TextMap<u64> = TextMap::new(alloc);
-    old.insert(text(alloc, "a")?, 1)?;
-    old.insert(text(alloc, "b")?, 2)?;
-    let mut wins = TextMap::new(alloc);
-    wins.insert(text(alloc, "c")?, 30)?;
-    wins.insert(text(alloc, "b")?, 20)?;
-    let mut made = old.clone()?.merged(&wins)?;
-    assert_eq!(rt; made.len(), 3);
-    assert_eq!(rt; made.get("a").copied(), Some(1));
-    assert_eq!(rt; made.get("b").copied(), Some(20));
-    assert_eq!(rt; made.get("c").copied(), Some(30));
-    let mut keys = String::new(alloc);
-    for (key, _) in made.iter() {
-        keys.push_str(key)?;
-    }
-    assert_eq!(rt; keys.as_str(), "abc");
-    assert_eq!(rt; made.remove("c"), Some(30));
-    assert_eq!(rt; made.remove("c"), None);
-    assert!(rt; made != old);
+    assert_eq!(rt; merged_count(alloc)?, 3);
+    assert_eq!(rt; merged_number(alloc, "a")?, Some(1));
+    assert_eq!(rt; merged_number(alloc, "b")?, Some(20));
+    assert_eq!(rt; merged_number(alloc, "c")?, Some(30));
+    assert!(rt; merged_keys_are(alloc, "abc")?);
+    assert_eq!(rt; taken_twice(alloc, "c")?, (Some(30), None, true));
     Ok(())
+}
+
+/// `2: "two"` and `9: "neuf"`
+fn table_of_two(alloc: Global) -> Result<Table<Text>, AllocError> {
+    let mut table = Table::new(alloc);
+    table.insert(9, text(alloc, "nine")?)?;
+    table.insert(2, text(alloc, "two")?)?;
+    table.set(9, text(alloc, "neuf")?);
+    Ok(table)
+}
+
+fn table_is_its_copy(alloc: Global) -> Result<bool, AllocError> {
+    let table = table_of_two(alloc)?;
+    let copy = table.clone()?;
+    Ok(copy == table)
+}
+
+fn table_length(alloc: Global) -> Result<usize, AllocError> {
+    Ok(table_of_two(alloc)?.len())
+}
+
+fn numbers_in_order(alloc: Global, table: &Table<Text>) -> Result<Vec<u64>, AllocError> {
+    let mut numbers = Vec::new(alloc);
+    for (number, _) in table.iter() {
+        numbers.push(*number)?;
+    }
+    Ok(numbers)
+}
+
+fn table_numbers_are(alloc: Global, numbers: &[u64]) -> Result<bool, AllocError> {
+    Ok(numbers_in_order(alloc, &table_of_two(alloc)?)?.as_slice() == numbers)
+}
+
+fn table_holds(alloc: Global, number: u64, held: &str) -> Result<Option<bool>, AllocError> {
+    Ok(
+        table_of_two(alloc)?
+            .get(number)
+            .map(|found| found.as_str() == held),
+    )
+}
+
+/// Whether there is a text to be taken out, and whether the table then is no longer its copy.
+fn is_taken_out(alloc: Global, number: u64) -> Result<(bool, bool), AllocError> {
+    let mut table = table_of_two(alloc)?;
+    let copy = table.clone()?;
+    let taken = table.remove(number).is_some();
+    Ok((taken, copy != table))
 }
 
 #[test]
 fn tables_keep_their_numbers_in_order(rt: HostRuntime) -> Result<(), Fail> {
     let alloc = rt.alloc();
-    let mut table = Table::new(alloc);
-    table.insert(9, text(alloc, "nine")?)?;
-    table.insert(2, text(alloc, "two")?)?;
-    table.set(9, text(alloc, "neuf")?);
-    let copy = table.clone()?;
-    assert!(rt; copy == table);
-    assert_eq!(rt; table.len(), 2);
-    let mut numbers = Vec::new(alloc);
-    for (number, _) in table.iter() {
-        numbers.push(*number)?;
-    }
-    assert_eq!(rt; numbers.as_slice(), [2, 9].as_slice());
-    assert_eq!(rt;
-        table.get(9).map(|held| held.as_str() == "neuf"),
-        Some(true)
-    );
-    assert!(rt; table.remove(2).is_some());
-    assert!(rt; copy != table);
+    assert!(rt; table_is_its_copy(alloc)?);
+    assert_eq!(rt; table_length(alloc)?, 2);
+    assert!(rt; table_numbers_are(alloc, &[2, 9])?);
+    assert_eq!(rt; table_holds(alloc, 9, "neuf")?, Some(true));
+    assert_eq!(rt; is_taken_out(alloc, 2)?, (true, true));
     Ok(())
+}
+
+/// Whether another share of a text reads as the text, and whether it is the share.
+fn another_share(alloc: Global, written: &str) -> Result<(bool, bool), AllocError> {
+    let share = Shared::new(alloc, text(alloc, written)?)?;
+    let other = share.clone()?;
+    Ok((other.get().as_str() == written, other == share))
 }
 
 #[test]
 fn a_share_is_what_it_shares(rt: HostRuntime) -> Result<(), Fail> {
-    let alloc = rt.alloc();
-    let share = Shared::new(alloc, text(alloc, "shared")?)?;
-    let other = share.clone()?;
-    assert_eq!(rt; other.get().as_str(), "shared");
-    assert!(rt; other == share);
+    assert_eq!(rt; another_share(rt.alloc(), "shared")?, (true, true));
     Ok(())
+}
+
+fn map_is_its_copy(alloc: Global) -> Result<bool, AllocError> {
+    let map = nested(alloc)?;
+    let copy = map.clone()?;
+    Ok(copy == map)
+}
+
+fn value_is_its_copy(alloc: Global) -> Result<bool, AllocError> {
+    let value = Value::Map(nested(alloc)?);
+    Ok(value.clone()? == value)
+}
+
+fn value_is_not_empty(alloc: Global) -> Result<bool, AllocError> {
+    Ok(Value::Map(nested(alloc)?) != Value::Map(ValueMap::new(alloc)))
+}
+
+fn truth_is_gone(alloc: Global) -> Result<bool, AllocError> {
+    Ok(
+        nested_without_truth(alloc)?
+            .get("truth")
+            .is_some_and(|held| *held == Value::Null),
+    )
+}
+
+fn value_without_truth_differs(alloc: Global) -> Result<bool, AllocError> {
+    let value = Value::Map(nested(alloc)?);
+    Ok(Value::Map(nested_without_truth(alloc)?.clone()?) != value)
+}
+
+/// Whether there is a list to be taken out, and whether what won is all that is left.
+fn list_is_taken_out(alloc: Global) -> Result<(bool, bool), AllocError> {
+    let mut made = nested_without_truth(alloc)?;
+    let taken = made.remove("list").is_some();
+    Ok((taken, made == truth(alloc, Value::Null)?))
 }
 
 #[test]
 fn nested_values_are_copied_and_compared(rt: HostRuntime) -> Result<(), Fail> {
     let alloc = rt.alloc();
-    let map = nested(alloc)?;
-    let copy = map.clone()?;
-    assert!(rt; copy == map);
-    let value = Value::Map(map);
-    assert!(rt; value.clone()? == value);
-    assert!(rt; value != Value::Map(ValueMap::new(alloc)));
-    let mut wins = ValueMap::new(alloc);
-    wins.insert(text(alloc, "truth")?, Value::Null)?;
-    let mut made = copy.merged(&wins)?;
-    assert!(rt; made.get("truth").is_some_and(|held| *held == Value::Null));
-    assert!(rt; Value::Map(made.clone()?) != value);
-    assert!(rt; made.remove("list").is_some());
-    assert!(rt; made == wins);
+    assert!(rt; map_is_its_copy(alloc)?);
+    assert!(rt; value_is_its_copy(alloc)?);
+    assert!(rt; value_is_not_empty(alloc)?);
+    assert!(rt; truth_is_gone(alloc)?);
+    assert!(rt; value_without_truth_differs(alloc)?);
+    assert_eq!(rt; list_is_taken_out(alloc)?, (true, true));
     Ok(())
+}
+
+/// Whether a list with one value more than its copy is not that, and its length, twice.
+fn grown_list(alloc: Global) -> Result<(bool, usize, usize), AllocError> {
+    let mut list = Values::from_vec(vec![in alloc; Value::Int(-1)]?);
+    let short = list.clone()?;
+    list.push(Value::Null)?;
+    Ok((list != short, list.len(), list.into_vec().len()))
 }
 
 #[test]
 fn lists_of_values_are_copied_and_compared(rt: HostRuntime) -> Result<(), Fail> {
-    let alloc = rt.alloc();
-    let mut list = Values::from_vec(vec![in alloc; Value::Int(-1)]?);
-    let short = list.clone()?;
-    list.push(Value::Null)?;
-    assert!(rt; list != short);
-    assert_eq!(rt; list.len(), 2);
-    assert_eq!(rt; list.into_vec().len(), 2);
+    assert_eq!(rt; grown_list(rt.alloc())?, (true, 2, 2));
     Ok(())
+}
+
+/// Whether they are equal by `==`, and whether they are by all that can be told of them.
+fn are_the_same(one: &User, other: &User) -> (bool, bool) {
+    (one == other, same_user(one, other))
+}
+
+fn user_is_its_copy(alloc: Global) -> Result<(bool, bool), AllocError> {
+    let one = a_user(alloc)?;
+    let other = copied_user(&one)?;
+    Ok(are_the_same(&one, &other))
+}
+
+fn user_of_another_level_differs(alloc: Global) -> Result<bool, AllocError> {
+    let one = a_user(alloc)?;
+    let mut other = copied_user(&one)?;
+    other.level = Level::Debug;
+    Ok(one != other)
 }
 
 #[test]
 fn records_are_copied_and_compared(rt: HostRuntime) -> Result<(), Fail> {
     let alloc = rt.alloc();
-    let one = a_user(alloc)?;
-    let mut other = copied_user(&one)?;
-    assert!(rt; one == other);
-    assert!(rt; same_user(&one, &other));
-    other.level = Level::Debug;
-    assert!(rt; one != other);
+    assert_eq!(rt; user_is_its_copy(alloc)?, (true, true));
+    assert!(rt; user_of_another_level_differs(alloc)?);
     Ok(())
 }

@@ -1,5 +1,5 @@
 //! Worked examples of the utilities.
-use sentry_base::protocol::{ErrorLink, Level, Uuid};
+use sentry_base::protocol::{ErrorLink, Event, Exception, Level, Uuid};
 use sentry_base::utils::{
     event_from_error, is_sensitive_header, parse_type_from_debug, scrub_pii_from_url,
 };
@@ -36,6 +36,11 @@ fn sensitive_headers_are_known_in_any_case(rt: HostRuntime) -> Result<(), Fail> 
     Ok(())
 }
 
+fn scrubbed_is(alloc: Global, text: &str, scrubbed: &str) -> Result<bool, Fail> {
+    let url = Url::parse(alloc, text)?;
+    Ok(scrub_pii_from_url(url)?.as_str() == scrubbed)
+}
+
 #[test]
 fn users_and_passwords_are_scrubbed(rt: HostRuntime) -> Result<(), Fail> {
     for (text, scrubbed) in [
@@ -58,9 +63,7 @@ fn users_and_passwords_are_scrubbed(rt: HostRuntime) -> Result<(), Fail> {
         ("mailto:user@example.com", "mailto:user@example.com"),
         ("file:///etc/hosts", "file:///etc/hosts"),
     ] {
-        let url = Url::parse(rt.alloc(), text)?;
-        let url = scrub_pii_from_url(url)?;
-        assert_eq!(rt; url.as_str(), scrubbed);
+        assert!(rt; scrubbed_is(rt.alloc(), text, scrubbed)?, "at {text}");
     }
     Ok(())
 }
@@ -97,44 +100,80 @@ fn link(alloc: Global, debug: &str, shown: &str, quoted: &str) -> Result<ErrorLi
     })
 }
 
-#[test]
-fn an_event_has_the_innermost_error_first(rt: HostRuntime) -> Result<(), Fail> {
-    let alloc = rt.alloc();
-    let outer = link(
+fn outer_link(alloc: Global) -> Result<ErrorLink, AllocError> {
+    link(
         alloc,
         "Load { line: 3 }",
         "line 3 is bad",
         "\"line 3 is bad\"",
-    )?;
-    let inner = link(alloc, "ParseIntError(Empty)", "no digits", "\"no digits\"")?;
-    let event = event_from_error(alloc, &[outer, inner], Uuid::nil(), 5)?;
-    assert_eq!(rt; event.level, Level::Error);
-    assert_eq!(rt; event.timestamp, 5);
+    )
+}
+
+fn inner_link(alloc: Global) -> Result<ErrorLink, AllocError> {
+    link(alloc, "ParseIntError(Empty)", "no digits", "\"no digits\"")
+}
+
+fn event_of_two(alloc: Global) -> Result<Event, AllocError> {
+    let links = [outer_link(alloc)?, inner_link(alloc)?];
+    event_from_error(alloc, &links, Uuid::nil(), 5)
+}
+
+fn event_of_message(alloc: Global, message: &str, quoted: &str) -> Result<Event, AllocError> {
+    let links = [link(alloc, quoted, message, quoted)?];
+    event_from_error(alloc, &links, Uuid::nil(), 0)
+}
+
+fn is_of_type(exception: Option<&Exception>, ty: &str) -> bool {
+    match exception {
+        Some(exception) => exception.ty.as_str() == ty,
+        None => false,
+    }
+}
+
+fn is_of_value(exception: Option<&Exception>, value: &str) -> bool {
+    match exception {
+        Some(exception) => is_text(exception.value.as_ref(), value),
+        None => false,
+    }
+}
+
+fn is_text(text: Option<&Text>, expected: &str) -> bool {
+    match text {
+        Some(text) => text.as_str() == expected,
+        None => false,
+    }
+}
+
+fn level_time_and_count(event: &Event) -> (Level, u64, usize) {
+    (event.level, event.timestamp, event.exception.len())
+}
+
+/// The level, the moment and the number of exceptions, and whether the first and the last are of these types and the last
+/// of this value.
+fn told(event: Event, first: &str, last: &str, value: &str) -> ((Level, u64, usize), [bool; 3]) {
     let exceptions = event.exception.as_slice();
-    assert_eq!(rt; exceptions.len(), 2);
-    let (first, last) = (
-        exceptions.first().ok_or("first")?,
-        exceptions.last().ok_or("last")?,
-    );
-    assert_eq!(rt; first.ty.as_str(), "ParseIntError");
-    assert_eq!(rt; last.ty.as_str(), "Load");
-    let value = last.value.as_ref().ok_or("value")?;
-    assert_eq!(rt; value.as_str(), "line 3 is bad");
+    let are_expected = [
+        is_of_type(exceptions.first(), first),
+        is_of_type(exceptions.last(), last),
+        is_of_value(exceptions.last(), value),
+    ];
+    (level_time_and_count(&event), are_expected)
+}
+
+#[test]
+fn an_event_has_the_innermost_error_first(rt: HostRuntime) -> Result<(), Fail> {
+    let event = event_of_two(rt.alloc())?;
+    let told = told(event, "ParseIntError", "Load", "line 3 is bad");
+    assert_eq!(rt; told, ((Level::Error, 5, 2), [true, true, true]));
     Ok(())
 }
 
 #[test]
 fn a_bare_message_is_of_no_type(rt: HostRuntime) -> Result<(), Fail> {
-    let alloc = rt.alloc();
     let message = "Ooops, something bad happened";
     let quoted = "\"Ooops, something bad happened\"";
-    let event = event_from_error(
-        alloc,
-        &[link(alloc, quoted, message, quoted)?],
-        Uuid::nil(),
-        0,
-    )?;
-    let exception = event.exception.as_slice().first().ok_or("exception")?;
-    assert_eq!(rt; exception.ty.as_str(), "Error");
+    let event = event_of_message(rt.alloc(), message, quoted)?;
+    let told = told(event, "Error", "Error", message);
+    assert_eq!(rt; told, ((Level::Error, 0, 1), [true, true, true]));
     Ok(())
 }
