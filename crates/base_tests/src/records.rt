@@ -261,22 +261,31 @@ fn events_and_what_carries_them_are_their_clones(rt: HostRuntime) -> Result<(), 
     Ok(())
 }
 
-// The ids of an envelope: without items, with an attachment, and with two events.
+fn id_of(envelope: &Envelope) -> Option<Uuid> {
+    envelope.header.event_id
+}
+
+fn add_event(envelope: &mut Envelope, alloc: Global, byte: u8) -> Result<(), AllocError> {
+    let event = Event::new(alloc, Uuid::from_bytes([byte; 16]), 5)?;
+    envelope.add_item(EnvelopeItem::Event(event))
+}
+
+// The ids of an envelope: with an attachment alone, with an event, and with one more.
 fn envelope_ids(alloc: Global) -> Result<[Option<Uuid>; 3], AllocError> {
+    let attachment = EnvelopeItem::Attachment(attachment(alloc, 1)?);
     let mut envelope = Envelope::new(alloc);
-    let empty = envelope.header.event_id;
-    envelope.add_item(EnvelopeItem::Attachment(attachment(alloc, 1)?))?;
-    let attached = envelope.header.event_id;
-    let first = Event::new(alloc, Uuid::from_bytes([1; 16]), 5)?;
-    envelope.add_item(EnvelopeItem::Event(first))?;
-    let second = Event::new(alloc, Uuid::from_bytes([2; 16]), 6)?;
-    envelope.add_item(EnvelopeItem::Event(second))?;
-    Ok([empty, attached, envelope.header.event_id])
+    envelope.add_item(attachment)?;
+    let attached = id_of(&envelope);
+    add_event(&mut envelope, alloc, 1)?;
+    let first = id_of(&envelope);
+    add_event(&mut envelope, alloc, 2)?;
+    Ok([attached, first, id_of(&envelope)])
 }
 
 #[test]
 fn an_envelope_has_the_id_of_its_first_event(rt: HostRuntime) -> Result<(), Fail> {
-    let expected = [None, None, Some(Uuid::from_bytes([1; 16]))];
+    let first = Some(Uuid::from_bytes([1; 16]));
+    let expected = [None, first, first];
     assert_eq!(rt; envelope_ids(rt.alloc())?, expected);
     Ok(())
 }

@@ -244,18 +244,19 @@ pub fn add_client_and_hub(
     Ok((client, hub))
 }
 
-/// What a capture came to: the id that it answered, how many envelopes it handed out, and the hub's last event id then.
+/// What a capture came to: the id that it answered, how many envelopes it handed out, and whether that id is the hub's
+/// last event id then.
 #[derive(Clone, Copy)]
 pub struct Captured {
     pub reply: Uuid,
     pub envelopes: usize,
-    pub last: Option<Uuid>,
+    pub is_last: bool,
 }
 
 impl Captured {
     /// Whether the event was dropped: the nil id is answered and kept, and nothing is handed out.
     pub fn is_dropped(self) -> bool {
-        self.reply.is_nil() && self.envelopes == 0 && self.last == Some(Uuid::nil())
+        self.reply.is_nil() && self.envelopes == 0 && self.is_last
     }
 }
 
@@ -266,7 +267,7 @@ pub fn captured_message(engine: &mut Engine, hub: HubKey) -> Result<Captured, Re
     Ok(Captured {
         reply: out.reply,
         envelopes: out.sent.len(),
-        last,
+        is_last: last == Some(out.reply),
     })
 }
 
