@@ -42,8 +42,10 @@ fn read_with_suffix(alloc: Global, suffix: &str) -> Result<Read, Fail> {
 
 #[test]
 fn a_third_part_says_whether_a_trace_is_sampled(rt: HostRuntime) -> Result<(), Fail> {
-    assert_eq!(rt; read_alone(UNSAMPLED), context(Some(false), None));
-    assert_eq!(rt; read_alone(PLAIN), context(None, None));
+    assert_eq!(rt;
+        [read_alone(UNSAMPLED), read_alone(PLAIN)],
+        [context(Some(false), None), context(None, None)]
+    );
     let suffixes = [
         ("-1", Some(true)),
         ("-0", Some(false)),
