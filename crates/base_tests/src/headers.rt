@@ -42,8 +42,10 @@ fn read_with_suffix(alloc: Global, suffix: &str) -> Result<Read, Fail> {
 
 #[test]
 fn a_third_part_says_whether_a_trace_is_sampled(rt: HostRuntime) -> Result<(), Fail> {
-    assert_eq!(rt; read_alone(UNSAMPLED), context(Some(false), None));
-    assert_eq!(rt; read_alone(PLAIN), context(None, None));
+    assert_eq!(rt;
+        [read_alone(UNSAMPLED), read_alone(PLAIN)],
+        [context(Some(false), None), context(None, None)]
+    );
     let suffixes = [
         ("-1", Some(true)),
         ("-0", Some(false)),
@@ -125,24 +127,21 @@ fn the_last_valid_trace_counts(rt: HostRuntime) -> Result<(), Fail> {
         "00000000000000000000000000000000-0000000000000000-1",
     );
     let zero = TracePropagationContext::new(TraceId([0; 16]), SpanId([0; 8])).with_sampled(true);
-    assert_eq!(rt; read(&[valid, invalid]), context(Some(false), None));
-    assert_eq!(rt; read(&[invalid, valid]), context(Some(false), None));
-    assert_eq!(rt; read(&[valid, other]), Ok(zero));
-    assert_eq!(rt;
+    let unsampled = [
+        read(&[valid, invalid]),
+        read(&[invalid, valid]),
         read(&[other, invalid, valid, invalid]),
-        context(Some(false), None)
-    );
-    assert_eq!(rt; read(&[invalid]), Err(HeaderParseError::Invalid));
-    assert_eq!(rt; read(&[invalid, invalid]), Err(HeaderParseError::Invalid));
-    assert_eq!(rt; read(&[]), Err(HeaderParseError::Missing));
-    assert_eq!(rt;
+    ];
+    assert_eq!(rt; unsampled, [context(Some(false), None); 3]);
+    assert_eq!(rt; read(&[valid, other]), Ok(zero));
+    let unread = [read(&[invalid]), read(&[invalid, invalid])];
+    assert_eq!(rt; unread, [Err(HeaderParseError::Invalid); 2]);
+    let without = [
+        read(&[]),
         read(&[("baggage", "sentry-org_id=123")]),
-        Err(HeaderParseError::Missing)
-    );
-    assert_eq!(rt;
         read(&[("sentry-traces", UNSAMPLED), ("trace", UNSAMPLED)]),
-        Err(HeaderParseError::Missing)
-    );
+    ];
+    assert_eq!(rt; without, [Err(HeaderParseError::Missing); 3]);
     Ok(())
 }
 
@@ -195,18 +194,15 @@ fn the_last_valid_organization_counts(rt: HostRuntime) -> Result<(), Fail> {
     );
     let invalid = ("baggage", "sentry-org_id=not-an-org-id");
     let other = ("baggage", "sentry-org_id=7");
-    assert_eq!(rt; read(&[trace, valid]), context(Some(false), Some(123)));
-    assert_eq!(rt;
+    let first = [
+        read(&[trace, valid]),
         read(&[trace, valid, invalid]),
-        context(Some(false), Some(123))
-    );
+        read(&[other, valid, trace]),
+    ];
+    assert_eq!(rt; first, [context(Some(false), Some(123)); 3]);
     assert_eq!(rt;
         read(&[valid, trace, other, invalid]),
         context(Some(false), Some(7))
-    );
-    assert_eq!(rt;
-        read(&[other, valid, trace]),
-        context(Some(false), Some(123))
     );
     Ok(())
 }
@@ -254,8 +250,11 @@ fn a_trace_alone_leaves_the_organization_out(rt: HostRuntime) -> Result<(), Fail
         ("baggage", "sentry-org_id=123"),
     ];
     assert_eq!(rt; parse_headers(headers), Some(trace));
-    assert_eq!(rt; parse_headers([("sentry-trace", "zz")]), None);
-    assert_eq!(rt; parse_headers([("baggage", "sentry-org_id=123")]), None);
+    let without = [
+        parse_headers([("sentry-trace", "zz")]),
+        parse_headers([("baggage", "sentry-org_id=123")]),
+    ];
+    assert_eq!(rt; without, [None; 2]);
     assert_eq!(rt;
         Ok(TracePropagationContext::from(trace)),
         context(Some(false), None)

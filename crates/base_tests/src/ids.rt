@@ -1,5 +1,6 @@
 //! Ids as text.
 use sentry_base::protocol::{OrganizationId, SpanId, TraceId};
+use std::alloc::Global;
 use std::test::Fail;
 
 const TRACE: [u8; 16] = [
@@ -53,25 +54,45 @@ fn other_texts_are_no_ids(rt: HostRuntime) -> Result<(), Fail> {
     Ok(())
 }
 
+fn trace_prints_as(alloc: Global, trace: TraceId, printed: &str) -> Result<bool, Fail> {
+    Ok(trace.to_string(alloc)?.as_str() == printed)
+}
+
+fn span_prints_as(alloc: Global, span: SpanId, printed: &str) -> Result<bool, Fail> {
+    Ok(span.to_string(alloc)?.as_str() == printed)
+}
+
+fn organization_prints_as(alloc: Global, id: OrganizationId, printed: &str) -> Result<bool, Fail> {
+    Ok(id.to_string(alloc)?.as_str() == printed)
+}
+
 #[test]
 fn ids_print_in_lower_case(rt: HostRuntime) -> Result<(), Fail> {
     let alloc = rt.alloc();
-    let trace = TraceId::from(TRACE).to_string(alloc)?;
-    assert_eq!(rt; trace.as_str(), "09e04486820349518ac7b5d2adbf6ba5");
-    let span = SpanId::from(SPAN).to_string(alloc)?;
-    assert_eq!(rt; span.as_str(), "9cf635fa5b870b3a");
-    let organization = OrganizationId::from(42).to_string(alloc)?;
-    assert_eq!(rt; organization.as_str(), "42");
+    let trace = TraceId::from(TRACE);
+    assert!(rt; trace_prints_as(alloc, trace, "09e04486820349518ac7b5d2adbf6ba5")?);
+    let span = SpanId::from(SPAN);
+    assert!(rt; span_prints_as(alloc, span, "9cf635fa5b870b3a")?);
+    let organization = OrganizationId::from(42);
+    assert!(rt; organization_prints_as(alloc, organization, "42")?);
     Ok(())
 }
 
 #[test]
 fn organizations_are_decimal_digits(rt: HostRuntime) -> Result<(), Fail> {
-    assert_eq!(rt; OrganizationId::parse("123"), Some(OrganizationId(123)));
-    assert_eq!(rt; OrganizationId::parse("0"), Some(OrganizationId(0)));
-    assert_eq!(rt; OrganizationId::parse("007"), Some(OrganizationId(7)));
-    let greatest = OrganizationId::parse("18446744073709551615");
-    assert_eq!(rt; greatest, Some(OrganizationId(u64::MAX)));
+    let read = [
+        OrganizationId::parse("123"),
+        OrganizationId::parse("0"),
+        OrganizationId::parse("007"),
+        OrganizationId::parse("18446744073709551615"),
+    ];
+    let numbers = [
+        Some(OrganizationId(123)),
+        Some(OrganizationId(0)),
+        Some(OrganizationId(7)),
+        Some(OrganizationId(u64::MAX)),
+    ];
+    assert_eq!(rt; read, numbers);
     for text in [
         "18446744073709551616",
         "+1",

@@ -1,4 +1,5 @@
-//! Worked examples of plain values, records, ids, headers, DSNs and texts, a file a topic.
+//! Worked examples of plain values, records, ids, headers, DSNs and texts, a file a topic. An example
+//! asserts on plain values: a check is long where a value that must be dropped lives across an assertion.
 #![tactic(auto)]
 
 #[cfg(test)]

@@ -171,8 +171,9 @@ fn list_is_its_copy(alloc: Global) -> Result<bool, AllocError> {
     Ok(list.clone()? == list)
 }
 
-fn number_at(alloc: Global, index: usize) -> Result<Option<u64>, AllocError> {
-    Ok(one_to_four(alloc)?.get(index).copied())
+fn numbers_at(alloc: Global, one: usize, other: usize) -> Result<[Option<u64>; 2], AllocError> {
+    let list = one_to_four(alloc)?;
+    Ok([list.get(one).copied(), list.get(other).copied()])
 }
 
 /// The first number, the last, and whether the others are these.
@@ -195,8 +196,7 @@ fn lists_grow_and_shrink(rt: HostRuntime) -> Result<(), Fail> {
     assert!(rt; a_new_list_is_empty(alloc));
     assert!(rt; one_to_four_holds(alloc, &[1, 2, 3, 4])?);
     assert!(rt; list_is_its_copy(alloc)?);
-    assert_eq!(rt; number_at(alloc, 2)?, Some(3));
-    assert_eq!(rt; number_at(alloc, 4)?, None);
+    assert_eq!(rt; numbers_at(alloc, 2, 4)?, [Some(3), None]);
     let ends = ends_and_rest(alloc, &[2, 3])?;
     assert_eq!(rt; ends, Some((1, Some(4), true)));
     Ok(())
@@ -222,24 +222,30 @@ fn merged_numbers(alloc: Global) -> Result<TextMap<u64>, AllocError> {
     old_numbers(alloc)?.clone()?.merged(&wins)
 }
 
-fn merged_count(alloc: Global) -> Result<usize, AllocError> {
-    Ok(merged_numbers(alloc)?.len())
+fn numbers_held(map: &TextMap<u64>) -> [Option<u64>; 3] {
+    [
+        map.get("a").copied(),
+        map.get("b").copied(),
+        map.get("c").copied(),
+    ]
 }
 
-fn merged_number(alloc: Global, key: &str) -> Result<Option<u64>, AllocError> {
-    Ok(merged_numbers(alloc)?.get(key).copied())
+fn merged_count_and_numbers(alloc: Global) -> Result<(usize, [Option<u64>; 3]), AllocError> {
+    let map = merged_numbers(alloc)?;
+    Ok((map.len(), numbers_held(&map)))
 }
 
-fn joined_keys(alloc: Global, map: &TextMap<u64>) -> Result<String, AllocError> {
+fn are_keys(alloc: Global, map: &TextMap<u64>, joined: &str) -> Result<bool, AllocError> {
     let mut keys = String::new(alloc);
     for (key, _) in map.iter() {
         keys.push_str(key)?;
     }
-    Ok(keys)
+    Ok(keys.as_str() == joined)
 }
 
-fn merged_keys_are(alloc: Global, keys: &str) -> Result<bool, AllocError> {
-    Ok(joined_keys(alloc, &merged_numbers(alloc)?)?.as_str() == keys)
+fn merged_keys_are(alloc: Global, joined: &str) -> Result<bool, AllocError> {
+    let map = merged_numbers(alloc)?;
+    are_keys(alloc, &map, joined)
 }
 
 /// What is taken out at a key, what is taken out there again, and whether the rest is not the old map.
@@ -254,10 +260,8 @@ fn taken_twice(alloc: Global, key: &str) -> Result<(Option<u64>, Option<u64>, bo
 #[test]
 fn the_winning_map_has_its_way(rt: HostRuntime) -> Result<(), Fail> {
     let alloc = rt.alloc();
-    assert_eq!(rt; merged_count(alloc)?, 3);
-    assert_eq!(rt; merged_number(alloc, "a")?, Some(1));
-    assert_eq!(rt; merged_number(alloc, "b")?, Some(20));
-    assert_eq!(rt; merged_number(alloc, "c")?, Some(30));
+    let count_and_numbers = merged_count_and_numbers(alloc)?;
+    assert_eq!(rt; count_and_numbers, (3, [Some(1), Some(20), Some(30)]));
     assert!(rt; merged_keys_are(alloc, "abc")?);
     assert_eq!(rt; taken_twice(alloc, "c")?, (Some(30), None, true));
     Ok(())
@@ -282,16 +286,17 @@ fn table_length(alloc: Global) -> Result<usize, AllocError> {
     Ok(table_of_two(alloc)?.len())
 }
 
-fn numbers_in_order(alloc: Global, table: &Table<Text>) -> Result<Vec<u64>, AllocError> {
+fn are_numbers(alloc: Global, table: &Table<Text>, expected: &[u64]) -> Result<bool, AllocError> {
     let mut numbers = Vec::new(alloc);
     for (number, _) in table.iter() {
         numbers.push(*number)?;
     }
-    Ok(numbers)
+    Ok(numbers.as_slice() == expected)
 }
 
-fn table_numbers_are(alloc: Global, numbers: &[u64]) -> Result<bool, AllocError> {
-    Ok(numbers_in_order(alloc, &table_of_two(alloc)?)?.as_slice() == numbers)
+fn table_numbers_are(alloc: Global, expected: &[u64]) -> Result<bool, AllocError> {
+    let table = table_of_two(alloc)?;
+    are_numbers(alloc, &table, expected)
 }
 
 fn table_holds(alloc: Global, number: u64, held: &str) -> Result<Option<bool>, AllocError> {

@@ -148,15 +148,18 @@ fn level_time_and_count(event: &Event) -> (Level, u64, usize) {
     (event.level, event.timestamp, event.exception.len())
 }
 
-/// The level, the moment and the number of exceptions, and whether the first and the last are of these types and the last
-/// of this value.
-fn told(event: Event, first: &str, last: &str, value: &str) -> ((Level, u64, usize), [bool; 3]) {
-    let exceptions = event.exception.as_slice();
-    let are_expected = [
+fn are_expected(exceptions: &[Exception], first: &str, last: &str, value: &str) -> [bool; 3] {
+    [
         is_of_type(exceptions.first(), first),
         is_of_type(exceptions.last(), last),
         is_of_value(exceptions.last(), value),
-    ];
+    ]
+}
+
+/// What is told of an event, which is let go here alone: its level, moment and number of exceptions, and whether the first
+/// and the last are of these types and the last of this value.
+fn told(event: Event, first: &str, last: &str, value: &str) -> ((Level, u64, usize), [bool; 3]) {
+    let are_expected = are_expected(event.exception.as_slice(), first, last, value);
     (level_time_and_count(&event), are_expected)
 }
 
