@@ -1,19 +1,7 @@
 //! Reads commands from standard input, a line each, does each on an engine, and prints the envelopes.
 #![tactic(auto)]
 
-mod call;
-mod command;
-mod fault;
-mod lines;
-mod print;
-mod run;
-#[cfg(test)]
-mod tests;
-mod uncalled;
-mod word;
-
-use fault::ReplayFault;
-use run::run_replay;
+use replay_run::{ReplayFault, run_replay};
 use std::io::BufReader;
 use std::process::ExitCode;
 

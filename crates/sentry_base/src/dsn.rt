@@ -1,14 +1,14 @@
 //! Texts that name a project and where its events go.
-ghost use Rattle.std.specs.Prelude.{◌≡◌, ◌⊎◌, [], ◌≢◌, Ok, option_copied, length, ◌≤◌, ◌^◌, not};
+ghost use Rattle.std.specs.Prelude.{◌≡◌, ◌⊎◌, [], ◌≢◌, Some, Ok, IfOk, option_copied, length, ◌≤◌, ◌^◌, not};
 ghost use Rattle.url.specs.Parser.{parse_url};
-ghost use Rattle.sentry_base.specs.DsnTexts.{is_empty, project_of, scheme_of, default_port_of, organization_of_host, dsn_of, dsn_of_text, GivesDsn, IsRefusedAsTooLong, project_id_of};
+ghost use Rattle.sentry_base.specs.DsnTexts.{is_empty, project_of, scheme_of, default_port_of, organization_of_host, with_host, dsn_of, dsn_of_text, GivesDsn, IsRefusedAsTooLong, project_id_of};
 
 mod into_dsn;
 
 use crate::protocol::{OrganizationId, Refusal};
 pub use into_dsn::IntoDsn;
 use sentry_plain::Text;
-use std::alloc::Global;
+use std::alloc::{AllocError, Global};
 use std::fmt;
 use thiserror::Error;
 use url::{ParseError, Url};
@@ -172,13 +172,20 @@ impl Dsn {
         let Some(host) = url.host_str() else {
             return Err(Refusal::InvalidDsn(ParseDsnError::InvalidUrl));
         };
+        Ok(Dsn::with_host(alloc, url, scheme, host)?)
+    }
+
+    // Copies the texts. It stands apart from the checks, since a proof grows with all that a function may return from.
+    fn with_host(alloc: Global, url: &Url, scheme: Scheme, host: &str) -> Result<Dsn, AllocError>
+        ensures { IfOk result (λ dsn. with_host url.now scheme (Some host.now) ≡ Ok dsn) }
+    {
         Ok(Dsn {
             scheme,
             public_key: Text::new(alloc, url.username())?,
             host: Text::new(alloc, host)?,
             port: url.port().unwrap_or(scheme.default_port()),
             project_id: ProjectId {
-                text: Text::new(alloc, project)?,
+                text: Text::new(alloc, project_of(url.path()))?,
             },
             org_id: organization_of_host(host),
             text: Text::new(alloc, url.as_str())?,

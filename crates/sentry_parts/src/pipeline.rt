@@ -1,10 +1,10 @@
 //! What becomes of an event between its capture and its envelope.
-ghost use Rattle.std.specs.Prelude.{◌≡◌, IfOk};
+ghost use Rattle.std.specs.Prelude.{◌≡◌, Some, IfOk, OnOk};
 ghost use Rattle.std.specs.Option.{option_or};
 ghost use Rattle.sentry_parts.specs.Pipeline.{with_id, with_sdk, sdk_info, with_defaults, prepared};
 
 use sentry_base::protocol::{ClientSdkInfo, ClientSdkPackage, Event, Uuid};
-use sentry_plain::{Items, Text};
+use sentry_plain::{Items, Text, unless_failed};
 use sentry_state::callbacks::EventCallback;
 use sentry_state::clientoptions::{Callbacks, ClientOptions, PlainOptions};
 use sentry_state::constants::{PACKAGE_NAME, SDK_NAME, VERSION};
@@ -62,20 +62,21 @@ fn with_sdk<C: Callbacks>(alloc: Global, callbacks: &C, event: Event) -> Result<
     ensures { IfOk result (λ made. made ≡ with_sdk (sdk_info (C.meanings callbacks.now)) event) }
 {
     let mut event = event;
-    if event.sdk.is_none() {
-        event.sdk = Some(sdk_info(alloc, callbacks)?);
-    }
-    Ok(event)
+    let done = fill_in_sdk(alloc, callbacks, &mut event.sdk);
+    unless_failed(event, done)
 }
 
-// The text, or that of the options where there is none.
-fn or_option(text: Option<Text>, option: &Option<Text>) -> Result<Option<Text>, AllocError>
-    ensures { IfOk result (λ made. made ≡ option_or text option.now) }
+fn fill_in_sdk<C: Callbacks>(
+    alloc: Global,
+    callbacks: &C,
+    sdk: &mut Option<ClientSdkInfo>,
+) -> Result<(), AllocError>
+    ensures { OnOk result (sdk.new ≡ option_or sdk.old (Some (sdk_info (C.meanings callbacks.now)))) }
 {
-    match text {
-        Some(text) => Ok(Some(text)),
-        None => option.clone(),
+    if sdk.is_none() {
+        *sdk = Some(sdk_info(alloc, callbacks)?);
     }
+    Ok(())
 }
 
 // The event with the options in place of what it lacks.
@@ -83,13 +84,34 @@ fn with_defaults(alloc: Global, options: &PlainOptions, event: Event) -> Result<
     ensures { IfOk result (λ made. made ≡ with_defaults options.now event) }
 {
     let mut event = event;
-    event.release = or_option(event.release, &options.release)?;
-    event.environment = or_option(event.environment, &options.environment)?;
-    event.server_name = or_option(event.server_name, &options.server_name)?;
+    let done = fill_in_defaults(alloc, options, &mut event);
+    unless_failed(event, done)
+}
+
+fn fill_in_defaults(
+    alloc: Global,
+    options: &PlainOptions,
+    event: &mut Event,
+) -> Result<(), AllocError>
+    ensures { OnOk result (event.new ≡ with_defaults options.now event.old) }
+{
+    fill_in(&mut event.release, &options.release)?;
+    fill_in(&mut event.environment, &options.environment)?;
+    fill_in(&mut event.server_name, &options.server_name)?;
     if event.platform.as_str() == "other" {
         event.platform = Text::new(alloc, "native")?;
     }
-    Ok(event)
+    Ok(())
+}
+
+// Puts the option where the event has no text.
+fn fill_in(text: &mut Option<Text>, option: &Option<Text>) -> Result<(), AllocError>
+    ensures { OnOk result (text.new ≡ option_or text.old option.now) }
+{
+    if text.is_none() {
+        *text = option.clone()?;
+    }
+    Ok(())
 }
 
 /// The event as it is to be sent: with an id and the SDK, under the scope, after its processors and the integrations,

@@ -3,6 +3,7 @@
 #![tactic(auto)]
 
 mod items;
+mod outcome;
 mod plain_eq;
 mod shared;
 mod table;
@@ -11,6 +12,7 @@ mod text_map;
 mod value;
 
 pub use items::Items;
+pub use outcome::unless_failed;
 pub use plain_eq::{PlainEq, is_same};
 pub use shared::Shared;
 pub use table::Table;

@@ -38,10 +38,13 @@ impl<C: Clone + Drop> Clone for ClientOptions<C> {
     ghost is_clone = { λ old new. ((x y : C) → C.is_clone x y → y ≡ x) → new ≡ old };
 
     fn clone(&self) -> Result<ClientOptions<C>, AllocError> {
+        // What is large goes last: a proof is long where it may be dropped.
+        let callbacks = self.callbacks.clone()?;
+        let traces_sampling_strategy = self.traces_sampling_strategy.clone()?;
         Ok(ClientOptions {
             plain: self.plain.clone()?,
-            traces_sampling_strategy: self.traces_sampling_strategy.clone()?,
-            callbacks: self.callbacks.clone()?,
+            traces_sampling_strategy,
+            callbacks,
         })
     }
 }

@@ -1,6 +1,7 @@
 //! The calls on clients.
-ghost use Rattle.std.specs.Prelude.{◌≡◌, ◌≢◌, OnOk, OnErr, Ok, [], nat_lt};
+ghost use Rattle.std.specs.Prelude.{◌≡◌, ◌≢◌, IfOk, OnOk, OnErr, Ok, [], nat_lt};
 ghost use Rattle.sentry_plain.specs.Tables.{stored};
+ghost use Rattle.sentry_state.specs.Callbacks.{set_up_by};
 ghost use Rattle.sentry_engine.specs.Worlds.{World, ClientState, Stands, kept};
 ghost use Rattle.sentry_engine.specs.Outcomes.{Does};
 ghost use Rattle.sentry_engine.specs.Clients as call;
@@ -8,10 +9,22 @@ ghost use Rattle.sentry_engine.specs.Clients as call;
 use crate::engine::{Client, Engine, Out};
 use sentry_base::dsn::Dsn;
 use sentry_base::protocol::{ClientKey, Draw, Label, Refusal, SampleRate};
-use sentry_plain::Shared;
+use sentry_plain::{Shared, unless_failed};
 use sentry_state::callbacks::EventCallback;
 use sentry_state::clientoptions::{Callbacks, ClientOptions};
-use std::alloc::AllocError;
+use std::alloc::{AllocError, Global};
+
+// A share of the options, after the `setup` of their integrations.
+fn set_up<C: Callbacks>(
+    alloc: Global,
+    options: ClientOptions<C>,
+) -> Result<Shared<ClientOptions<C>>, AllocError>
+    ensures { IfOk result (λ made. made ≡ record options { plain = set_up_by (C.meanings options.callbacks).integrations options.plain }) }
+{
+    let mut options = options;
+    let done = options.callbacks.set_up(&mut options.plain);
+    Shared::new(alloc, unless_failed(options, done)?)
+}
 
 impl<P: EventCallback + Drop, C: Callbacks> Engine<P, C> {
     // Holds a client under a number.
@@ -42,17 +55,17 @@ impl<P: EventCallback + Drop, C: Callbacks> Engine<P, C> {
         ensures { Does self.old self.new result (call.add_client C.meanings options transport label) }
     {
         if label.tag != self.tag {
+            drop(options);
             return Err(Refusal::ForeignLosses);
         }
         if self.next.client == u64::MAX {
+            drop(options);
             return Err(Refusal::Full);
         }
         let number = self.next.client;
         let occupied = options.plain.dsn.is_some() && transport;
-        let mut options = options;
-        options.callbacks.set_up(&mut options.plain)?;
         let client = Client {
-            options: Shared::new(self.alloc, options)?,
+            options: set_up(self.alloc, options)?,
             label,
             occupied,
         };

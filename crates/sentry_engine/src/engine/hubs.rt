@@ -31,6 +31,7 @@ fn captured<P: EventCallback + Drop, C: Callbacks>(
     ensures { IfOk result (λ made. made ≡ captured P.gives C.meanings client.now scope.now fresh event) }
 {
     if !client.occupied {
+        drop(event);
         return Ok(None);
     }
     match prepare_event(alloc, client.options.get(), scope, fresh, event)? {
@@ -77,8 +78,9 @@ fn message_event(
 ) -> Result<Event, AllocError>
     ensures { IfOk result (λ event. event ≡ message_event message.now level id now) }
 {
+    let message = Text::new(alloc, message)?;
     let mut event = Event::new(alloc, id, now)?;
-    event.message = Some(Text::new(alloc, message)?);
+    event.message = Some(message);
     event.level = level;
     Ok(event)
 }
@@ -234,12 +236,15 @@ impl<P: EventCallback + Drop, C: Callbacks> Engine<P, C> {
         ensures { Does self.old self.new result (call.capture_event P.gives C.meanings hub event fresh) }
     {
         let Some(held) = self.hub_at(hub) else {
+            drop(event);
             return Err(Refusal::Stale);
         };
         let Some(key) = held.stack.top.client else {
+            drop(event);
             return Ok(self.out(Uuid::nil()));
         };
         let Some(client) = self.client_at(key) else {
+            drop(event);
             return Ok(self.out(Uuid::nil()));
         };
         let made = captured(self.alloc, client, &held.stack.top.scope, fresh.uuid, event)?;

@@ -1,5 +1,5 @@
 //! The builders of options. Each sets its own option and leaves every other as it was.
-ghost use Rattle.std.specs.Prelude.{◌≡◌, ◌⊎◌, ◌↔◌, ◌≤◌, ◌∷◌, ◌++◌, [], Some, max, map, option_map, option_copied, IfOk, IfErr, IsOk, IfSome, Option, Result};
+ghost use Rattle.std.specs.Prelude.{◌≡◌, ◌⊎◌, ◌↔◌, ◌≤◌, ◌∷◌, ◌++◌, [], Some, Ok, Err, MatchResult, max, map, option_map, option_copied, IfOk, IfErr, IsOk, IfSome, Option, Result};
 ghost use Rattle.std.specs.Result.{result_map_both};
 ghost use Rattle.std.specs.Int.NonZero.{non_zero_usize_get};
 ghost use Rattle.sentry_base.specs.declared.dsn.Dsn.{Dsn};
@@ -18,7 +18,7 @@ use crate::clientoptions::plain::PlainOptions;
 use crate::clientoptions::user_agent::UserAgent;
 use sentry_base::dsn::{Dsn, IntoDsn};
 use sentry_base::protocol::{OrganizationId, Refusal, SampleRate};
-use sentry_plain::{Items, Shared, Text};
+use sentry_plain::{Items, Shared, Text, unless_failed};
 use std::alloc::{AllocError, Global};
 use std::num::NonZeroUsize;
 
@@ -33,15 +33,33 @@ fn texts_of(alloc: Global, texts: &[&str]) -> Result<Items<Text>, AllocError>
     Ok(made)
 }
 
-// The values, each in a share of its own.
-fn shared<T: Drop>(alloc: Global, values: Vec<T>) -> Result<Items<Shared<T>>, AllocError>
-    ensures { IfOk result (λ made. made ≡ values.items) }
+// Sets a text that may be missing.
+fn set_text(alloc: Global, place: &mut Option<Text>, text: &str) -> Result<(), Refusal>
+    ensures { MatchResult result (λ _. place.new ≡ Some text.now) (λ refusal. refusal ≡ Refusal.OutOfMemory) }
 {
-    let mut made = Items::new(alloc);
-    for value in values {
-        made.push(Shared::new(alloc, value)?)?;
-    }
-    Ok(made)
+    *place = Some(Text::new(alloc, text)?);
+    Ok(())
+}
+
+fn set_texts(alloc: Global, place: &mut Items<Text>, texts: &[&str]) -> Result<(), Refusal>
+    ensures { MatchResult result (λ _. place.new ≡ map (λ text. text.now) texts.now) (λ refusal. refusal ≡ Refusal.OutOfMemory) }
+{
+    *place = texts_of(alloc, texts)?;
+    Ok(())
+}
+
+fn set_user_agent(alloc: Global, place: &mut UserAgent, text: &str) -> Result<(), Refusal>
+    ensures { MatchResult result (λ _. place.new ≡ text.now) (λ refusal. refusal ≡ Refusal.OutOfMemory) }
+{
+    *place = UserAgent::from_text(Text::new(alloc, text)?);
+    Ok(())
+}
+
+fn set_dsn(place: &mut Option<Dsn>, read: Result<Option<Dsn>, Refusal>) -> Result<(), Refusal>
+    ensures { MatchResult read (λ dsn. IsOk result × (place.new ≡ dsn)) (λ refusal. result ≡ Err refusal) }
+{
+    *place = read?;
+    Ok(())
 }
 
 // Options of any callbacks.
@@ -68,8 +86,12 @@ impl<C: Drop> ClientOptions<C> {
         ensures { GivesDsn result (result_map_both (λ read. with_dsn self (Some read)) (λ cause. cause) (dsn_of_text dsn.now)) ⊎ IsRefusedAsTooLong result dsn.now }
     {
         let mut options = self;
-        options.plain.dsn = Some(Dsn::parse(options.allocator(), dsn)?);
-        Ok(options)
+        let read = match Dsn::parse(options.allocator(), dsn) {
+            Ok(dsn) => Ok(Some(dsn)),
+            Err(refusal) => Err(refusal),
+        };
+        let set = set_dsn(&mut options.plain.dsn, read);
+        unless_failed(options, set)
     }
 
     /// Sets where events go, or that they go nowhere, by what can be read as a DSN or as none.
@@ -79,8 +101,9 @@ impl<C: Drop> ClientOptions<C> {
         ensures { (answer : Result (Option Dsn) Refusal) × D.into_dsn_gives dsn answer × (result ≡ with_dsn_read self answer) }
     {
         let mut options = self;
-        options.plain.dsn = dsn.into_dsn(options.allocator())?;
-        Ok(options)
+        let read = dsn.into_dsn(options.allocator());
+        let set = set_dsn(&mut options.plain.dsn, read);
+        unless_failed(options, set)
     }
 
     /// Sets whether the SDK is to tell what it does.
@@ -99,8 +122,9 @@ impl<C: Drop> ClientOptions<C> {
         ensures { Makes result (record self { plain = record self.plain { release = Some release.now } }) }
     {
         let mut options = self;
-        options.plain.release = Some(Text::new(options.allocator(), release)?);
-        Ok(options)
+        let alloc = options.allocator();
+        let set = set_text(alloc, &mut options.plain.release, release);
+        unless_failed(options, set)
     }
 
     /// Sets the version of the program, if there is one; otherwise nothing is changed.
@@ -122,8 +146,9 @@ impl<C: Drop> ClientOptions<C> {
         ensures { Makes result (record self { plain = record self.plain { environment = Some environment.now } }) }
     {
         let mut options = self;
-        options.plain.environment = Some(Text::new(options.allocator(), environment)?);
-        Ok(options)
+        let alloc = options.allocator();
+        let set = set_text(alloc, &mut options.plain.environment, environment);
+        unless_failed(options, set)
     }
 
     /// Sets the rate at which events are kept, in millionths.
@@ -132,10 +157,15 @@ impl<C: Drop> ClientOptions<C> {
     pub fn sample_rate(self, sample_rate: u32) -> Result<ClientOptions<C>, Refusal>
         ensures { result ≡ with_rate sample_rate (record self { plain = record self.plain { event_sampling_strategy = events.FixedRate sample_rate } }) }
     {
-        let rate = SampleRate::new(sample_rate)?;
         let mut options = self;
-        options.plain.event_sampling_strategy = EventSamplingStrategy::FixedRate(rate);
-        Ok(options)
+        let set = match SampleRate::new(sample_rate) {
+            Ok(rate) => {
+                options.plain.event_sampling_strategy = EventSamplingStrategy::FixedRate(rate);
+                Ok(())
+            }
+            Err(refusal) => Err(refusal),
+        };
+        unless_failed(options, set)
     }
 
     /// Sets the rate at which traces are kept, in millionths.
@@ -144,10 +174,15 @@ impl<C: Drop> ClientOptions<C> {
     pub fn traces_sample_rate(self, traces_sample_rate: u32) -> Result<ClientOptions<C>, Refusal>
         ensures { result ≡ with_rate traces_sample_rate (record self { traces_sampling_strategy = traces.FixedRate traces_sample_rate }) }
     {
-        let rate = SampleRate::new(traces_sample_rate)?;
         let mut options = self;
-        options.traces_sampling_strategy = TracesSamplingStrategy::FixedRate(rate);
-        Ok(options)
+        let set = match SampleRate::new(traces_sample_rate) {
+            Ok(rate) => {
+                options.traces_sampling_strategy = TracesSamplingStrategy::FixedRate(rate);
+                Ok(())
+            }
+            Err(refusal) => Err(refusal),
+        };
+        unless_failed(options, set)
     }
 
     /// Sets the organization by which incoming traces are judged, in place of the DSN's.
@@ -202,8 +237,9 @@ impl<C: Drop> ClientOptions<C> {
         ensures { Makes result (record self { plain = record self.plain { server_name = Some server_name.now } }) }
     {
         let mut options = self;
-        options.plain.server_name = Some(Text::new(options.allocator(), server_name)?);
-        Ok(options)
+        let alloc = options.allocator();
+        let set = set_text(alloc, &mut options.plain.server_name, server_name);
+        unless_failed(options, set)
     }
 
     /// Sets the prefixes of modules that count as the program's own, in place of those that were set.
@@ -213,8 +249,9 @@ impl<C: Drop> ClientOptions<C> {
         ensures { Makes result (record self { plain = record self.plain { in_app_include = map (λ text. text.now) in_app_include.now } }) }
     {
         let mut options = self;
-        options.plain.in_app_include = texts_of(options.allocator(), in_app_include)?;
-        Ok(options)
+        let alloc = options.allocator();
+        let set = set_texts(alloc, &mut options.plain.in_app_include, in_app_include);
+        unless_failed(options, set)
     }
 
     /// Sets the prefixes of modules that never count as the program's own, in place of those that were set.
@@ -224,8 +261,9 @@ impl<C: Drop> ClientOptions<C> {
         ensures { Makes result (record self { plain = record self.plain { in_app_exclude = map (λ text. text.now) in_app_exclude.now } }) }
     {
         let mut options = self;
-        options.plain.in_app_exclude = texts_of(options.allocator(), in_app_exclude)?;
-        Ok(options)
+        let alloc = options.allocator();
+        let set = set_texts(alloc, &mut options.plain.in_app_exclude, in_app_exclude);
+        unless_failed(options, set)
     }
 
     /// Sets whether the usual integrations are to be added.
@@ -244,8 +282,9 @@ impl<C: Drop> ClientOptions<C> {
         ensures { Makes result (record self { plain = record self.plain { http_proxy = Some http_proxy.now } }) }
     {
         let mut options = self;
-        options.plain.http_proxy = Some(Text::new(options.allocator(), http_proxy)?);
-        Ok(options)
+        let alloc = options.allocator();
+        let set = set_text(alloc, &mut options.plain.http_proxy, http_proxy);
+        unless_failed(options, set)
     }
 
     /// Sets the proxy for HTTPS.
@@ -255,8 +294,9 @@ impl<C: Drop> ClientOptions<C> {
         ensures { Makes result (record self { plain = record self.plain { https_proxy = Some https_proxy.now } }) }
     {
         let mut options = self;
-        options.plain.https_proxy = Some(Text::new(options.allocator(), https_proxy)?);
-        Ok(options)
+        let alloc = options.allocator();
+        let set = set_text(alloc, &mut options.plain.https_proxy, https_proxy);
+        unless_failed(options, set)
     }
 
     /// Sets how long a client may wait at its end for what is to be sent, in nanoseconds.
@@ -343,11 +383,43 @@ impl<C: Drop> ClientOptions<C> {
         ensures { Makes result (record self { plain = record self.plain { user_agent = user_agent.now } }) }
     {
         let mut options = self;
-        options.plain.user_agent = UserAgent::from_text(Text::new(
-            options.allocator(),
-            user_agent,
-        )?);
-        Ok(options)
+        let alloc = options.allocator();
+        let set = set_user_agent(alloc, &mut options.plain.user_agent, user_agent);
+        unless_failed(options, set)
+    }
+}
+
+// The values, each in a share of its own.
+fn shared<T: Drop>(alloc: Global, values: Vec<T>) -> Result<Items<Shared<T>>, AllocError>
+    ensures { IfOk result (λ made. made ≡ values.items) }
+{
+    let mut made = Items::new(alloc);
+    for value in values {
+        made.push(Shared::new(alloc, value)?)?;
+    }
+    Ok(made)
+}
+
+impl<E: Drop, I: Drop> ClientCallbacks<E, I> {
+    fn set_integrations(&mut self, alloc: Global, integrations: Vec<I>) -> Result<(), Refusal>
+        ensures { MatchResult result (λ _. self.new ≡ record self.old { integrations = integrations.items }) (λ refusal. refusal ≡ Refusal.OutOfMemory) }
+    {
+        self.integrations = shared(alloc, integrations)?;
+        Ok(())
+    }
+
+    fn add_integration(&mut self, alloc: Global, integration: I) -> Result<(), Refusal>
+        ensures { MatchResult result (λ _. self.new ≡ record self.old { integrations = self.old.integrations ++ integration ∷ [] }) (λ refusal. refusal ≡ Refusal.OutOfMemory) }
+    {
+        self.integrations.push(Shared::new(alloc, integration)?)?;
+        Ok(())
+    }
+
+    fn set_before_send(&mut self, alloc: Global, before_send: E) -> Result<(), Refusal>
+        ensures { MatchResult result (λ _. self.new ≡ record self.old { before_send = Some before_send }) (λ refusal. refusal ≡ Refusal.OutOfMemory) }
+    {
+        self.before_send = Some(Shared::new(alloc, before_send)?);
+        Ok(())
     }
 }
 
@@ -386,8 +458,9 @@ impl<E: Drop, I: Drop> ClientOptions<ClientCallbacks<E, I>> {
         ensures { Makes result (record self { callbacks = record self.callbacks { integrations = integrations.items } }) }
     {
         let mut options = self;
-        options.callbacks.integrations = shared(options.allocator(), integrations)?;
-        Ok(options)
+        let alloc = options.allocator();
+        let set = options.callbacks.set_integrations(alloc, integrations);
+        unless_failed(options, set)
     }
 
     /// Adds an integration, which goes last.
@@ -400,9 +473,9 @@ impl<E: Drop, I: Drop> ClientOptions<ClientCallbacks<E, I>> {
         ensures { Makes result (record self { callbacks = record self.callbacks { integrations = self.callbacks.integrations ++ integration ∷ [] } }) }
     {
         let mut options = self;
-        let integration = Shared::new(options.allocator(), integration)?;
-        options.callbacks.integrations.push(integration)?;
-        Ok(options)
+        let alloc = options.allocator();
+        let set = options.callbacks.add_integration(alloc, integration);
+        unless_failed(options, set)
     }
 
     /// Sets the callback that each event goes through at last, which may change or drop it.
@@ -415,7 +488,8 @@ impl<E: Drop, I: Drop> ClientOptions<ClientCallbacks<E, I>> {
         ensures { Makes result (record self { callbacks = record self.callbacks { before_send = Some before_send } }) }
     {
         let mut options = self;
-        options.callbacks.before_send = Some(Shared::new(options.allocator(), before_send)?);
-        Ok(options)
+        let alloc = options.allocator();
+        let set = options.callbacks.set_before_send(alloc, before_send);
+        unless_failed(options, set)
     }
 }

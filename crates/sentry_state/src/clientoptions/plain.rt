@@ -148,10 +148,10 @@ impl PlainOptions {
         }) }
     {
         Ok(Server {
-            dsn: self.dsn.clone()?,
             http_proxy: self.http_proxy.clone()?,
             https_proxy: self.https_proxy.clone()?,
             user_agent: self.user_agent.clone()?,
+            dsn: self.dsn.clone()?,
         })
     }
 }

@@ -1,9 +1,0 @@
--- The exit statuses of the program.
-use Rattle.std.specs.Prelude.{ℕ}
-use Rattle.replay.specs.declared.fault.ReplayFault.{ReplayFault}
-use Rattle.replay.specs.declared.fault.ReplayFault.TheVariants.{BadCommand, OutOfMemory, InputOutput}
-
-abbrev pub status_of : ReplayFault → ℕ
-status_of (BadCommand number) = 2
-status_of OutOfMemory = 4
-status_of InputOutput = 5

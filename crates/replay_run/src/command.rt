@@ -1,0 +1,117 @@
+//! Commands, and the lines that spell them.
+ghost use Rattle.std.specs.Prelude.{◌≡◌, IfOk, IfSome, IfNone};
+ghost use Rattle.replay_run.specs.Reading.{client_of, hub_of, tag_of, message_of, form_of, command_of};
+ghost use Rattle.replay_run.specs.Commands.{Spells};
+ghost use Rattle.replay_run.specs.declared.command.Command.{Command};
+ghost use Rattle.sentry_plain.specs.Texts.{Bytes};
+
+use crate::word::{cut, is_word, level, number};
+use sentry_base::protocol::Level;
+use sentry_plain::Text;
+use std::alloc::{AllocError, Global};
+
+/// What a line asks for. Clients and hubs are named by their numbers.
+#[derive(Drop)]
+pub enum Command {
+    /// A client, with this release or with none.
+    Client(Option<Text>),
+    /// A hub on the client of this number.
+    Hub(u64),
+    /// A tag on a hub.
+    Tag { hub: u64, key: Text, value: Text },
+    /// A message on a hub.
+    Message { hub: u64, level: Level, text: Text },
+}
+
+#[tactic(auto, unfolding(crate::specs::Reading::client_of))]
+fn client(alloc: Global, text: &str) -> Result<Option<Command>, AllocError>
+    ensures { IfOk result (λ found. found ≡ client_of text.now) }
+{
+    if text == "-" {
+        return Ok(Some(Command::Client(None)));
+    }
+    if !is_word(text) {
+        return Ok(None);
+    }
+    Ok(Some(Command::Client(Some(Text::new(alloc, text)?))))
+}
+
+#[tactic(auto, unfolding(crate::specs::Reading::hub_of))]
+fn hub(text: &str) -> Option<Command>
+    ensures { result ≡ hub_of text.now }
+{
+    Some(Command::Hub(number(text)?))
+}
+
+#[tactic(auto, unfolding(crate::specs::Reading::tag_of))]
+fn tag(alloc: Global, text: &str) -> Result<Option<Command>, AllocError>
+    ensures { IfOk result (λ found. found ≡ tag_of text.now) }
+{
+    let Some((hub, rest)) = cut(text) else {
+        return Ok(None);
+    };
+    let Some(hub) = number(hub) else {
+        return Ok(None);
+    };
+    let Some((key, value)) = cut(rest) else {
+        return Ok(None);
+    };
+    if key.is_empty() {
+        return Ok(None);
+    }
+    let key = Text::new(alloc, key)?;
+    let value = Text::new(alloc, value)?;
+    Ok(Some(Command::Tag { hub, key, value }))
+}
+
+#[tactic(auto, unfolding(crate::specs::Reading::message_of))]
+fn message(alloc: Global, text: &str) -> Result<Option<Command>, AllocError>
+    ensures { IfOk result (λ found. found ≡ message_of text.now) }
+{
+    let Some((hub, rest)) = cut(text) else {
+        return Ok(None);
+    };
+    let Some(hub) = number(hub) else {
+        return Ok(None);
+    };
+    let Some((word, rest)) = cut(rest) else {
+        return Ok(None);
+    };
+    let Some(level) = level(word) else {
+        return Ok(None);
+    };
+    let text = Text::new(alloc, rest)?;
+    Ok(Some(Command::Message { hub, level, text }))
+}
+
+#[tactic(auto, unfolding(crate::specs::Reading::form_of, crate::specs::Reading::command_of))]
+fn read(alloc: Global, line: &str) -> Result<Option<Command>, AllocError>
+    ensures { IfOk result (λ found. found ≡ command_of line.now) }
+{
+    let Some((word, rest)) = cut(line) else {
+        return Ok(None);
+    };
+    match word {
+        "client" => client(alloc, rest),
+        "hub" => Ok(hub(rest)),
+        "tag" => tag(alloc, rest),
+        "message" => message(alloc, rest),
+        _ => Ok(None),
+    }
+}
+
+/// A line spells one command at most.
+pub fn one_command()
+    ensures { (line : Bytes) (a b : Command) → Spells line a → Spells line b → a ≡ b }
+{}
+
+/// The command that a line spells, if it spells one.
+pub fn parse(alloc: Global, line: &[u8]) -> Result<Option<Command>, AllocError>
+    ensures found { IfOk result (λ found. IfSome found (λ command. Spells line.now command)) }
+    ensures none { IfOk result (λ found. IfNone found ((command : _) → Spells line.now command → ⊥)) }
+{
+    match str::from_utf8(line) {
+        Ok(line) => read(alloc, line),
+        Err(_) => Ok(None),
+    }
+}
