@@ -267,3 +267,21 @@ fn failed_reads_and_writes_end_the_run(rt: HostRuntime) -> Result<(), Fail> {
     assert!(rt; run_replay(alloc, &mut input, &mut Full) == Err(ReplayFault::InputOutput));
     Ok(())
 }
+
+fn is_told_as(alloc: Global, fault: ReplayFault, text: &str) -> Result<bool, AllocError> {
+    let told = format!(in alloc; "{fault}")?;
+    Ok(told.as_str() == text)
+}
+
+#[test]
+fn each_fault_has_its_status_and_its_text(rt: HostRuntime) -> Result<(), Fail> {
+    let alloc = rt.alloc();
+    for (fault, status, text) in [
+        (ReplayFault::BadCommand(2), 2, "line 2: bad command"),
+        (ReplayFault::OutOfMemory, 4, "out of memory"),
+        (ReplayFault::InputOutput, 5, "input or output failed"),
+    ] {
+        assert!(rt; fault.status() == status && is_told_as(alloc, fault, text)?);
+    }
+    Ok(())
+}
