@@ -127,7 +127,7 @@ fn organization_of_host(host: &str) -> Option<OrganizationId>
 }
 
 /// Where events go: a project, and the server and key by which it is reached.
-#[derive(Clone, Debug, Drop, PartialEq, Eq)]
+#[derive(Clone, Debug, PartialEq, Eq)]
 pub struct Dsn {
     scheme: Scheme,
     public_key: Text,
@@ -136,6 +136,20 @@ pub struct Dsn {
     project_id: ProjectId,
     org_id: Option<OrganizationId>,
     text: Text,
+}
+
+impl Drop for Dsn {
+    fn drop(self) {
+        let Dsn {
+            scheme: _,
+            public_key: _,
+            host: _,
+            port: _,
+            project_id: _,
+            org_id: _,
+            text: _,
+        } = self;
+    }
 }
 
 impl Dsn {

@@ -7,7 +7,7 @@ use sentry_plain::{Text, ValueMap};
 use std::alloc::{AllocError, Global};
 
 /// One step on the way to an event.
-#[derive(Drop, PartialEq)]
+#[derive(PartialEq)]
 pub struct Breadcrumb {
     /// Nanoseconds since the epoch.
     pub timestamp: u64,
@@ -18,6 +18,19 @@ pub struct Breadcrumb {
     pub level: Level,
     pub message: Option<Text>,
     pub data_: ValueMap,
+}
+
+impl Drop for Breadcrumb {
+    fn drop(self) {
+        let Breadcrumb {
+            timestamp: _,
+            ty: _,
+            category: _,
+            level: _,
+            message: _,
+            data_: _,
+        } = self;
+    }
 }
 
 impl Breadcrumb {

@@ -20,7 +20,7 @@ pub enum Context {
 }
 
 /// Where in a trace something happened.
-#[derive(Drop, PartialEq)]
+#[derive(PartialEq)]
 pub struct TraceContext {
     pub trace_id: TraceId,
     pub span_id: SpanId,
@@ -32,6 +32,21 @@ pub struct TraceContext {
     /// What made the span.
     pub origin: Option<Text>,
     pub data_: ValueMap,
+}
+
+impl Drop for TraceContext {
+    fn drop(self) {
+        let TraceContext {
+            trace_id: _,
+            span_id: _,
+            parent_span_id: _,
+            op: _,
+            description: _,
+            status: _,
+            origin: _,
+            data_: _,
+        } = self;
+    }
 }
 
 /// How a span or a transaction ended.

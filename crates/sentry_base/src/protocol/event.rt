@@ -14,7 +14,7 @@ use std::alloc::{AllocError, Global};
 use uuid::Uuid;
 
 /// What happened: a message or an error, with what is known around it.
-#[derive(Drop, PartialEq)]
+#[derive(PartialEq)]
 pub struct Event {
     /// Names the event; the nil id is replaced when the event is captured.
     pub event_id: Uuid,
@@ -41,6 +41,31 @@ pub struct Event {
     pub tags: TextMap<Text>,
     pub extra: ValueMap,
     pub sdk: Option<ClientSdkInfo>,
+}
+
+impl Drop for Event {
+    fn drop(self) {
+        let Event {
+            event_id: _,
+            level: _,
+            fingerprint: _,
+            message: _,
+            transaction: _,
+            platform: _,
+            timestamp: _,
+            server_name: _,
+            release: _,
+            environment: _,
+            user: _,
+            request: _,
+            contexts: _,
+            breadcrumbs: _,
+            exception: _,
+            tags: _,
+            extra: _,
+            sdk: _,
+        } = self;
+    }
 }
 
 impl Event {

@@ -5,7 +5,7 @@ use sentry_plain::Text;
 use std::alloc::AllocError;
 
 /// One error of a chain.
-#[derive(Drop, PartialEq)]
+#[derive(PartialEq)]
 pub struct Exception {
     /// The name of the error's type.
     pub ty: Text,
@@ -14,12 +14,28 @@ pub struct Exception {
     pub mechanism: Option<Mechanism>,
 }
 
+impl Drop for Exception {
+    fn drop(self) {
+        let Exception {
+            ty: _,
+            value: _,
+            mechanism: _,
+        } = self;
+    }
+}
+
 /// How an error came to be reported.
-#[derive(Drop, PartialEq)]
+#[derive(PartialEq)]
 pub struct Mechanism {
     pub ty: Text,
     /// Whether the program dealt with the error: false is a crash.
     pub handled: Option<bool>,
+}
+
+impl Drop for Mechanism {
+    fn drop(self) {
+        let Mechanism { ty: _, handled: _ } = self;
+    }
 }
 
 impl Clone for Exception {

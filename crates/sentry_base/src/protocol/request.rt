@@ -5,7 +5,7 @@ use sentry_plain::{Text, TextMap};
 use std::alloc::AllocError;
 
 /// The HTTP request that was being served.
-#[derive(Drop, PartialEq)]
+#[derive(PartialEq)]
 pub struct Request {
     pub method: Option<Text>,
     pub url: Option<Text>,
@@ -16,6 +16,20 @@ pub struct Request {
     pub headers: TextMap<Text>,
     /// Variables of the server's environment.
     pub env: TextMap<Text>,
+}
+
+impl Drop for Request {
+    fn drop(self) {
+        let Request {
+            method: _,
+            url: _,
+            data_: _,
+            query_string: _,
+            cookies: _,
+            headers: _,
+            env: _,
+        } = self;
+    }
 }
 
 impl Clone for Request {

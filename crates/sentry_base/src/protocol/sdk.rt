@@ -5,7 +5,7 @@ use sentry_plain::{Items, Text};
 use std::alloc::AllocError;
 
 /// The SDK that made an event.
-#[derive(Drop, PartialEq)]
+#[derive(PartialEq)]
 pub struct ClientSdkInfo {
     pub name: Text,
     pub version: Text,
@@ -14,11 +14,31 @@ pub struct ClientSdkInfo {
     pub integrations: Items<Text>,
 }
 
+impl Drop for ClientSdkInfo {
+    fn drop(self) {
+        let ClientSdkInfo {
+            name: _,
+            version: _,
+            packages: _,
+            integrations: _,
+        } = self;
+    }
+}
+
 /// A package that the SDK came in.
-#[derive(Drop, PartialEq)]
+#[derive(PartialEq)]
 pub struct ClientSdkPackage {
     pub name: Text,
     pub version: Text,
+}
+
+impl Drop for ClientSdkPackage {
+    fn drop(self) {
+        let ClientSdkPackage {
+            name: _,
+            version: _,
+        } = self;
+    }
 }
 
 impl Clone for ClientSdkInfo {

@@ -5,7 +5,7 @@ use sentry_plain::{Text, ValueMap};
 use std::alloc::AllocError;
 
 /// Who used the program.
-#[derive(Drop, PartialEq)]
+#[derive(PartialEq)]
 pub struct User {
     pub id: Option<Text>,
     pub email: Option<Text>,
@@ -13,6 +13,18 @@ pub struct User {
     /// An address as text; `{{auto}}` stands for the one that the server sees.
     pub ip_address: Option<Text>,
     pub data_: ValueMap,
+}
+
+impl Drop for User {
+    fn drop(self) {
+        let User {
+            id: _,
+            email: _,
+            username: _,
+            ip_address: _,
+            data_: _,
+        } = self;
+    }
 }
 
 impl Clone for User {

@@ -12,7 +12,6 @@ use std::num::NonZeroUsize;
 
 /// The options but for integrations, callbacks and the sampling of traces. An integration's `setup` may change any of
 /// them. `ClientOptions` has a builder for each.
-#[derive(Drop)]
 pub struct PlainOptions {
     /// Where events go. Without one, nothing is sent.
     pub dsn: Option<Dsn>,
@@ -64,6 +63,38 @@ pub struct PlainOptions {
     pub session_mode: SessionMode,
     /// What the transport tells the server of who sends.
     pub user_agent: UserAgent,
+}
+
+impl Drop for PlainOptions {
+    fn drop(self) {
+        let PlainOptions {
+            dsn: _,
+            debug: _,
+            release: _,
+            environment: _,
+            event_sampling_strategy: _,
+            org_id: _,
+            strict_trace_continuation: _,
+            max_breadcrumbs: _,
+            attach_stacktrace: _,
+            send_default_pii: _,
+            server_name: _,
+            in_app_include: _,
+            in_app_exclude: _,
+            default_integrations: _,
+            http_proxy: _,
+            https_proxy: _,
+            shutdown_timeout: _,
+            max_request_body_size: _,
+            transport_channel_capacity: _,
+            enable_logs: _,
+            enable_metrics: _,
+            accept_invalid_certs: _,
+            auto_session_tracking: _,
+            session_mode: _,
+            user_agent: _,
+        } = self;
+    }
 }
 
 impl PlainOptions {

@@ -8,6 +8,7 @@ use crate::scope::Scope;
 use sentry_base::protocol::{Context, Event, TraceContext};
 use sentry_plain::{Text, TextMap, ValueMap};
 use std::alloc::{AllocError, Global};
+use std::mem;
 
 impl<P: Drop> Scope<P> {
     // The context of an event that no span is active for.
@@ -43,13 +44,14 @@ impl<P: Drop> Scope<P> {
     fn fill(&self, event: Event) -> Result<Event, AllocError>
         ensures { IfOk result (λ made. made ≡ filled self.now event) }
     {
-        let event = event;
-        Ok(Event {
-            level: self.level.unwrap_or(event.level),
-            tags: event.tags.merged(&self.tags)?,
-            contexts: self.fill_trace(event.contexts)?,
-            ..event
-        })
+        let alloc = self.processors.allocator();
+        let mut event = event;
+        event.level = self.level.unwrap_or(event.level);
+        let tags = mem::replace(&mut event.tags, TextMap::new(alloc));
+        event.tags = tags.merged(&self.tags)?;
+        let contexts = mem::replace(&mut event.contexts, TextMap::new(alloc));
+        event.contexts = self.fill_trace(contexts)?;
+        Ok(event)
     }
 }
 
