@@ -90,7 +90,7 @@ fn truth(alloc: Global, value: Value) -> Result<ValueMap, AllocError> {
 /// The nested map, where a map with no truth has won.
 fn nested_without_truth(alloc: Global) -> Result<ValueMap, AllocError> {
     let wins = truth(alloc, Value::Null)?;
-    copy_of_nested(alloc)?.merged(&wins)
+    copy_of_nested(alloc)?.merge(&wins)
 }
 
 fn copy_of_nested(alloc: Global) -> Result<ValueMap, AllocError> {
@@ -219,7 +219,7 @@ fn old_numbers(alloc: Global) -> Result<TextMap<u64>, AllocError> {
 
 fn merged_numbers(alloc: Global) -> Result<TextMap<u64>, AllocError> {
     let wins = numbers(alloc, ("c", 30), ("b", 20))?;
-    old_numbers(alloc)?.clone()?.merged(&wins)
+    old_numbers(alloc)?.clone()?.merge(&wins)
 }
 
 fn numbers_held(map: &TextMap<u64>) -> [Option<u64>; 3] {

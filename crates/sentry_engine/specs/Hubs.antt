@@ -1,7 +1,7 @@
 -- What the calls on hubs answer, hand out and leave.
 use Rattle.std.specs.Prelude.{nat_lt, ◌-◌, ℕ, Option, Some, None, List, [], ◌∷◌, ◌+◌, ◌^◌, if◌then◌else◌}
 use Rattle.sentry_plain.specs.Texts.{Bytes}
-use Rattle.sentry_plain.specs.Tables.{stored}
+use Rattle.sentry_plain.specs.Tables.{put}
 use Rattle.sentry_base.specs.Events.{new_event, nil_id}
 use Rattle.sentry_base.specs.Envelopes.{empty_envelope, with_item}
 use Rattle.sentry_base.specs.declared.protocol.keys.ClientKey.{ClientKey}
@@ -14,15 +14,15 @@ use Rattle.sentry_base.specs.declared.protocol.fresh.Fresh.{Fresh}
 use Rattle.sentry_base.specs.declared.protocol.refusal.Refusal.TheVariants.{Stale, Full}
 use Rattle.sentry_state.specs.declared.scope.Scope.{Scope}
 use Rattle.sentry_state.specs.declared.scope.edit.ScopeEdit.{ScopeEdit}
-use Rattle.sentry_state.specs.Scopes.{edited_by}
+use Rattle.sentry_state.specs.Scopes.{edit_all}
 use Rattle.sentry_state.specs.Stacks.{one_layer}
 use Rattle.sentry_state.specs.Callbacks.{Partial, Meanings}
-use Rattle.sentry_parts.specs.Pipeline.{prepared}
+use Rattle.sentry_parts.specs.Pipeline.{prepare_event}
 use Rattle.sentry_parts.specs.declared.pipeline.Prepared.{Prepared}
 use Rattle.sentry_parts.specs.declared.pipeline.Prepared.TheVariants.{Kept, Dropped}
 use Rattle.sentry_engine.specs.declared.engine.Client.{Client}
 use Rattle.sentry_engine.specs.Worlds.{World}
-use Rattle.sentry_engine.specs.Outcomes.{Outcome, needs, or_else, unless, replied, hub_at, plain_client_at, is_held_or_none, with_hub, with_scope}
+use Rattle.sentry_engine.specs.Outcomes.{Outcome, require_some, let_some, require, reply_with, hub_at, plain_client_at, is_held_or_none, with_hub, with_scope}
 
 -- the event that was kept, if any
 abbrev pub kept_event : Prepared → Option Event
@@ -30,9 +30,9 @@ kept_event (Kept event) = Some event
 kept_event (Dropped place) = None
 
 -- the event that a client sends; on an empty slot nothing runs
-unfoldable pub captured : {P C : Type 0} → (P → Partial) → (C → Meanings) → Client C → Scope P → List ℕ → Event → Option Event
-captured gives meanings client scope fresh event =
-    if client.occupied then kept_event (prepared gives meanings client.options scope fresh event) else None
+unfoldable pub captured_event : {P C : Type 0} → (P → Partial) → (C → Meanings) → Client C → Scope P → List ℕ → Event → Option Event
+captured_event gives meanings client scope fresh event =
+    if client.occupied then kept_event (prepare_event gives meanings client.options scope fresh event) else None
 
 -- the id that a capture answers: that of the event that is sent, or the nil one
 abbrev pub captured_id : Option Event → List ℕ
@@ -52,31 +52,31 @@ module _ {P C : Type 0} where
   -- a hub with one layer, under the next number
   unfoldable pub new_hub : Option ClientKey → Scope P → World P C → Outcome P C HubKey
   new_hub client scope world =
-      unless Stale world (is_held_or_none world client)
-      (unless Full world (nat_lt world.next.hub (2 ^ 64 - 1))
-      (replied (record { tag = world.tag; number = world.next.hub }) [] (record world {
+      require Stale world (is_held_or_none world client)
+      (require Full world (nat_lt world.next.hub (2 ^ 64 - 1))
+      (reply_with (record { tag = world.tag; number = world.next.hub }) [] (record world {
         next = record world.next { hub = world.next.hub + 1 };
-        hubs = stored world.hubs world.next.hub (record { stack = one_layer client scope; last_event_id = None });
+        hubs = put world.hubs world.next.hub (record { stack = one_layer client scope; last_event_id = None });
       })))
 
   -- the edits are done to the top scope
   unfoldable pub configure : HubKey → List (ScopeEdit P) → World P C → Outcome P C (Unit {0})
   configure key edits world =
-      needs Stale world (hub_at world key) (λ hub.
-      replied tt [] (with_hub world key (with_scope hub (edited_by edits hub.stack.top.scope))))
+      require_some Stale world (hub_at world key) (λ hub.
+      reply_with tt [] (with_hub world key (with_scope hub (edit_all edits hub.stack.top.scope))))
 
   -- the last event id of a hub
   unfoldable pub last_event_id : HubKey → World P C → Outcome P C (Option (List ℕ))
-  last_event_id key world = needs Stale world (hub_at world key) (λ hub. replied hub.last_event_id [] world)
+  last_event_id key world = require_some Stale world (hub_at world key) (λ hub. reply_with hub.last_event_id [] world)
 
   -- an event on a hub, under the client of its top layer: without one nothing happens, and with one the answer becomes the last event id
   unfoldable pub capture_event : (P → Partial) → (C → Meanings) → HubKey → Event → Fresh → World P C → Outcome P C (List ℕ)
   capture_event gives meanings key event fresh world =
-      needs Stale world (hub_at world key) (λ hub.
-      or_else hub.stack.top.client (replied nil_id [] world) (λ client_key.
-      or_else (plain_client_at world client_key) (replied nil_id [] world) (λ client.
-      let made = captured gives meanings client hub.stack.top.scope fresh.uuid event in
-      replied (captured_id made) (captured_envelopes client_key made) (with_hub world key (record hub { last_event_id = Some (captured_id made) })))))
+      require_some Stale world (hub_at world key) (λ hub.
+      let_some hub.stack.top.client (reply_with nil_id [] world) (λ client_key.
+      let_some (plain_client_at world client_key) (reply_with nil_id [] world) (λ client.
+      let made = captured_event gives meanings client hub.stack.top.scope fresh.uuid event in
+      reply_with (captured_id made) (captured_envelopes client_key made) (with_hub world key (record hub { last_event_id = Some (captured_id made) })))))
 
   -- a message on a hub
   unfoldable pub capture_message : (P → Partial) → (C → Meanings) → HubKey → Bytes → Level → Fresh → World P C → Outcome P C (List ℕ)

@@ -1,7 +1,7 @@
 -- What a call comes to, and what it means that an engine did it.
 use Rattle.std.specs.Prelude.{is_ok, ◌≡◌, ℕ, Bool, true, false, Option, Some, None, Result, Ok, Err, List, ◌==◌, if◌then◌else◌}
 use Rattle.std.specs.Option.{option_map, is_some}
-use Rattle.sentry_plain.specs.Tables.{found, changed}
+use Rattle.sentry_plain.specs.Tables.{value_at, replace_at}
 use Rattle.sentry_base.specs.declared.protocol.keys.ClientKey.{ClientKey}
 use Rattle.sentry_base.specs.declared.protocol.keys.HubKey.{HubKey}
 use Rattle.sentry_base.specs.declared.protocol.envelope.Envelope.{Envelope}
@@ -12,7 +12,7 @@ use Rattle.sentry_engine.specs.declared.engine.Client.{Client}
 use Rattle.sentry_engine.specs.declared.engine.Hub.{Hub}
 use Rattle.sentry_engine.specs.declared.engine.Out.{Out}
 use Rattle.sentry_engine.specs.declared.engine.Engine.{Engine}
-use Rattle.sentry_engine.specs.Worlds.{World, ClientState, Stands, kept}
+use Rattle.sentry_engine.specs.Worlds.{World, ClientState, Stands, plain_client}
 
 -- an answer and the world after it
 pub record Outcome (P C T : Type 0) : Type 0 where
@@ -21,27 +21,27 @@ pub record Outcome (P C T : Type 0) : Type 0 where
 
 module _ {P C T : Type 0} where
   -- a refusal, which changes nothing
-  abbrev pub refused : Refusal → World P C → Outcome P C T
-  refused refusal world = record { answer = Err refusal; after = world }
+  abbrev pub refuse : Refusal → World P C → Outcome P C T
+  refuse refusal world = record { answer = Err refusal; after = world }
 
   -- a reply with these envelopes
-  abbrev pub replied : T → List (ClientKey × Envelope) → World P C → Outcome P C T
-  replied reply sent world = record { answer = Ok (record { reply = reply; sent = sent }); after = world }
+  abbrev pub reply_with : T → List (ClientKey × Envelope) → World P C → Outcome P C T
+  reply_with reply sent world = record { answer = Ok (record { reply = reply; sent = sent }); after = world }
 
   -- goes on with what is there, or refuses
-  abbrev pub needs : {X : Type 0} → Refusal → World P C → Option X → (X → Outcome P C T) → Outcome P C T
-  needs refusal world None go = refused refusal world
-  needs refusal world (Some x) go = go x
+  abbrev pub require_some : {X : Type 0} → Refusal → World P C → Option X → (X → Outcome P C T) → Outcome P C T
+  require_some refusal world None go = refuse refusal world
+  require_some refusal world (Some x) go = go x
 
   -- goes on with what is there, or ends so
-  abbrev pub or_else : {X : Type 0} → Option X → Outcome P C T → (X → Outcome P C T) → Outcome P C T
-  or_else None otherwise go = otherwise
-  or_else (Some x) otherwise go = go x
+  abbrev pub let_some : {X : Type 0} → Option X → Outcome P C T → (X → Outcome P C T) → Outcome P C T
+  let_some None otherwise go = otherwise
+  let_some (Some x) otherwise go = go x
 
   -- refuses unless the test holds
-  abbrev pub unless : Refusal → World P C → Bool → Outcome P C T → Outcome P C T
-  unless refusal world true go = go
-  unless refusal world false go = refused refusal world
+  abbrev pub require : Refusal → World P C → Bool → Outcome P C T → Outcome P C T
+  require refusal world true go = go
+  require refusal world false go = refuse refusal world
 
   -- the call did what the definition says, in every world that the engine stands for; a refused call left the engine as
   -- it was, and memory may be wanting only where the definition gives no refusal
@@ -51,8 +51,8 @@ module _ {P C T : Type 0} where
   Does old new (Err refusal) outcome = (new ≡ old) × ((world : World P C) → Stands old world → (outcome world).answer ≡ Err refusal)
 
 -- what stands under a key, where its tag is the engine's
-abbrev pub named : {X : Type 0} → ℕ → List (ℕ × X) → ℕ → ℕ → Option X
-named tag entries key_tag number = if key_tag == tag then found entries number else None
+abbrev pub value_under : {X : Type 0} → ℕ → List (ℕ × X) → ℕ → ℕ → Option X
+value_under tag entries key_tag number = if key_tag == tag then value_at entries number else None
 
 -- the hub with another scope on top
 abbrev pub with_scope : {P : Type 0} → Hub P → Scope P → Hub P
@@ -60,18 +60,18 @@ with_scope hub scope = record hub { stack = record hub.stack { top = record hub.
 
 module _ {P C : Type 0} where
   abbrev pub client_at : World P C → ClientKey → Option (ClientState C)
-  client_at world key = named world.tag world.clients key.tag key.number
+  client_at world key = value_under world.tag world.clients key.tag key.number
 
   -- the same as the engine keeps it
   abbrev pub plain_client_at : World P C → ClientKey → Option (Client C)
-  plain_client_at world key = option_map kept (client_at world key)
+  plain_client_at world key = option_map plain_client (client_at world key)
 
   abbrev pub hub_at : World P C → HubKey → Option (Hub P)
-  hub_at world key = named world.tag world.hubs key.tag key.number
+  hub_at world key = value_under world.tag world.hubs key.tag key.number
 
   -- the world with another hub under a key that it has
   abbrev pub with_hub : World P C → HubKey → Hub P → World P C
-  with_hub world key hub = record world { hubs = changed world.hubs key.number hub }
+  with_hub world key hub = record world { hubs = replace_at world.hubs key.number hub }
 
   -- no client is named, or one that is held
   abbrev pub is_held_or_none : World P C → Option ClientKey → Bool

@@ -19,22 +19,22 @@ module _ {C T : Type 0} where
   as_reply f (Ok out) = Ok (record { reply = f out.reply; sent = out.sent })
   as_reply f (Err refusal) = Err refusal
 
-  abbrev pub replying : {P : Type 0} → (T → Reply C) → Outcome P C T → Outcome P C (Reply C)
-  replying f outcome = record { answer = as_reply f outcome.answer; after = outcome.after }
+  abbrev pub map_reply : {P : Type 0} → (T → Reply C) → Outcome P C T → Outcome P C (Reply C)
+  map_reply f outcome = record { answer = as_reply f outcome.answer; after = outcome.after }
 
 module _ {P C : Type 0} (gives : P → Partial) (meanings : C → Meanings) where
   -- what a call answers, hands out and leaves
   unfoldable pub step : Call P C → World P C → Outcome P C (Reply C)
-  step (AddClient options transport label now) world = replying reply.Client (clients.add_client meanings options transport label world)
-  step (Options client) world = replying reply.Options (clients.options client world)
-  step (Dsn client) world = replying reply.Dsn (clients.dsn client world)
-  step (IsEnabled client) world = replying reply.Decision (clients.is_enabled client world)
-  step (SampleShouldSend rate draw) world = replying reply.Decision (clients.sample_should_send rate draw world)
-  step (NewHub client scope) world = replying reply.Hub (hubs.new_hub client scope world)
-  step (Configure hub edits now) world = replying (λ _. reply.Done) (hubs.configure hub edits world)
-  step (CaptureEvent hub event fresh) world = replying reply.Event (hubs.capture_event gives meanings hub event fresh world)
-  step (CaptureMessage hub message level fresh) world = replying reply.Event (hubs.capture_message gives meanings hub message level fresh world)
-  step (LastEventId hub) world = replying reply.LastEvent (hubs.last_event_id hub world)
+  step (AddClient options transport label now) world = map_reply reply.Client (clients.add_client meanings options transport label world)
+  step (Options client) world = map_reply reply.Options (clients.options client world)
+  step (Dsn client) world = map_reply reply.Dsn (clients.dsn client world)
+  step (IsEnabled client) world = map_reply reply.Decision (clients.is_enabled client world)
+  step (SampleShouldSend rate draw) world = map_reply reply.Decision (clients.sample_should_send rate draw world)
+  step (NewHub client scope) world = map_reply reply.Hub (hubs.new_hub client scope world)
+  step (Configure hub edits now) world = map_reply (λ _. reply.Done) (hubs.configure hub edits world)
+  step (CaptureEvent hub event fresh) world = map_reply reply.Event (hubs.capture_event gives meanings hub event fresh world)
+  step (CaptureMessage hub message level fresh) world = map_reply reply.Event (hubs.capture_message gives meanings hub message level fresh world)
+  step (LastEventId hub) world = map_reply reply.LastEvent (hubs.last_event_id hub world)
 
   -- the call may be answered so, and lead on to next: as the definition says, or by want of memory where that gives no refusal
   abbrev pub May : World P C → Call P C → Result (Out (Reply C)) Refusal → World P C → Type 0

@@ -21,17 +21,17 @@ pub record World (P C : Type 0) : Type 0 where
 
 module _ {C : Type 0} where
   -- what an engine keeps of a client
-  abbrev pub kept : ClientState C → Client C
-  kept client = record { options = client.options; label = client.label; occupied = client.occupied }
+  abbrev pub plain_client : ClientState C → Client C
+  plain_client client = record { options = client.options; label = client.label; occupied = client.occupied }
 
-  abbrev pub kept_all : List (ℕ × ClientState C) → List (ℕ × Client C)
-  kept_all clients = map (λ c. (c.0, kept c.1)) clients
+  abbrev pub plain_clients : List (ℕ × ClientState C) → List (ℕ × Client C)
+  plain_clients clients = map (λ c. (c.0, plain_client c.1)) clients
 
 -- the engine has all of the world, but of its clients only what is kept
 pub record Stands {P C : Type 0} (engine : Engine P C) (world : World P C) : Type 0 where
   pub tag : engine.tag ≡ world.tag
   pub next : engine.next ≡ world.next
-  pub clients : engine.clients ≡ kept_all world.clients
+  pub clients : engine.clients ≡ plain_clients world.clients
   pub hubs : engine.hubs ≡ world.hubs
 
 module _ {P C : Type 0} where

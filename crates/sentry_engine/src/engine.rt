@@ -1,6 +1,6 @@
 //! What an engine holds, and how its calls find and change it.
 ghost use Rattle.std.specs.Prelude.{◌≡◌, [], Some, option_copied};
-ghost use Rattle.sentry_plain.specs.Tables.{found};
+ghost use Rattle.sentry_plain.specs.Tables.{value_at};
 ghost use Rattle.sentry_engine.specs.Worlds.{World, Stands, first_world, starting_world};
 ghost use Rattle.sentry_engine.specs.Outcomes.{hub_at, plain_client_at, is_held_or_none};
 
@@ -83,7 +83,7 @@ impl<P: EventCallback + Drop, C: Callbacks> Engine<P, C> {
 
     fn hub_at(&self, key: HubKey) -> Option<&Hub<P>>
         ensures in_world { (world : World P C) → Stands self.now world → option_copied result ≡ hub_at world key }
-        ensures in_table { (hub : Hub P) → option_copied result ≡ Some hub → found self.now.hubs key.number ≡ Some hub }
+        ensures in_table { (hub : Hub P) → option_copied result ≡ Some hub → value_at self.now.hubs key.number ≡ Some hub }
     {
         if key.tag != self.tag {
             return None;

@@ -9,8 +9,8 @@ use Rattle.sentry_state.specs.declared.scope.Scope.{Scope}
 use Rattle.sentry_state.specs.declared.clientoptions.plain.PlainOptions.{PlainOptions}
 use Rattle.sentry_state.specs.declared.clientoptions.ClientOptions.{ClientOptions}
 use Rattle.sentry_state.specs.Constants.{sdk_name, sdk_version, sdk_package_name}
-use Rattle.sentry_state.specs.Callbacks.{Partial, Meanings, integrated_by, called}
-use Rattle.sentry_state.specs.Scopes.{applied}
+use Rattle.sentry_state.specs.Callbacks.{Partial, Meanings, process_by_all, call_if_any}
+use Rattle.sentry_state.specs.Scopes.{apply_to_event}
 use Rattle.sentry_parts.specs.declared.pipeline.Place.{Place}
 use Rattle.sentry_parts.specs.declared.pipeline.Place.TheVariants.{EventProcessor, Integration, BeforeSend}
 use Rattle.sentry_parts.specs.declared.pipeline.Prepared.{Prepared}
@@ -43,15 +43,15 @@ with_defaults options event = record event {
 }
 
 -- goes on with the event that is there, or was dropped at this place
-abbrev pub or_dropped : Place → Option Event → (Event → Prepared) → Prepared
-or_dropped place None go = Dropped place
-or_dropped place (Some event) go = go event
+abbrev pub kept_or_dropped : Place → Option Event → (Event → Prepared) → Prepared
+kept_or_dropped place None go = Dropped place
+kept_or_dropped place (Some event) go = go event
 
 -- the event as it is to be sent, or the place that dropped it
-unfoldable pub prepared : {P C : Type 0} → (P → Partial) → (C → Meanings) → ClientOptions C → Scope P → List ℕ → Event → Prepared
-prepared gives meanings options scope fresh event =
+unfoldable pub prepare_event : {P C : Type 0} → (P → Partial) → (C → Meanings) → ClientOptions C → Scope P → List ℕ → Event → Prepared
+prepare_event gives meanings options scope fresh event =
     let client = meanings options.callbacks in
-    or_dropped EventProcessor (applied gives scope (with_sdk (sdk_info client) (with_id fresh event))) (λ processed.
-    or_dropped Integration (integrated_by client.integrations options.plain processed) (λ integrated.
-    or_dropped BeforeSend (called client.before_send (with_defaults options.plain integrated)) (λ made.
+    kept_or_dropped EventProcessor (apply_to_event gives scope (with_sdk (sdk_info client) (with_id fresh event))) (λ processed.
+    kept_or_dropped Integration (process_by_all client.integrations options.plain processed) (λ integrated.
+    kept_or_dropped BeforeSend (call_if_any client.before_send (with_defaults options.plain integrated)) (λ made.
     Kept made)))

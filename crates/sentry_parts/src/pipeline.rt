@@ -1,7 +1,7 @@
 //! What becomes of an event between its capture and its envelope.
 ghost use Rattle.std.specs.Prelude.{◌≡◌, Some, IfOk, OnOk};
 ghost use Rattle.std.specs.Option.{option_or};
-ghost use Rattle.sentry_parts.specs.Pipeline.{with_id, with_sdk, sdk_info, with_defaults, prepared};
+ghost use Rattle.sentry_parts.specs.Pipeline.{with_id, with_sdk, sdk_info, with_defaults, prepare_event};
 
 use sentry_base::protocol::{ClientSdkInfo, ClientSdkPackage, Event, Uuid};
 use sentry_plain::{Items, Text, unless_failed};
@@ -116,7 +116,7 @@ fn fill_in(text: &mut Option<Text>, option: &Option<Text>) -> Result<(), AllocEr
 
 /// The event as it is to be sent: with an id and the SDK, under the scope, after its processors and the integrations,
 /// with the options' defaults, after `before_send`. The first of these that answers none drops it.
-#[tactic(auto, unfolding(crate::specs::Pipeline::prepared))]
+#[tactic(auto, unfolding(crate::specs::Pipeline::prepare_event))]
 pub fn prepare_event<P: EventCallback + Drop, C: Callbacks>(
     alloc: Global,
     options: &ClientOptions<C>,
@@ -124,7 +124,7 @@ pub fn prepare_event<P: EventCallback + Drop, C: Callbacks>(
     fresh: Uuid,
     event: Event,
 ) -> Result<Prepared, AllocError>
-    ensures { IfOk result (λ made. made ≡ prepared P.gives C.meanings options.now scope.now fresh event) }
+    ensures { IfOk result (λ made. made ≡ prepare_event P.gives C.meanings options.now scope.now fresh event) }
 {
     let callbacks = &options.callbacks;
     let identified = with_sdk(alloc, callbacks, with_id(fresh, event))?;

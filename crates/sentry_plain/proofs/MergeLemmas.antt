@@ -9,7 +9,7 @@ use Rattle.std.specs.List.{AllByRecursion}
 use Rattle.std.specs.List.Sorted.{IsStrictlySortedBy}
 use Rattle.std.specs.Map.{keys_of}
 use Rattle.std.specs.BTreeMap.{is_at}
-use Rattle.sentry_plain.specs.Texts.{Bytes, text_cmp, put, value_at, merged, by_bytes}
+use Rattle.sentry_plain.specs.Texts.{Bytes, text_cmp, put, value_at, merge, by_bytes}
 
 is_equal : (o : Ordering) → is_eq o ≡ true → o ≡ Equal
 is_equal Less h = cc
@@ -71,11 +71,11 @@ module _ {Z X Y : Type 0} (f : X → Y) where
       ap (λ o. cond (is_eq o) (Some (f e.1)) (value_at (by_bytes f es) k)) above ∙ none_below k first es is h.1
 
   -- at each key what the winning map has there, else what the other has
-  pub value_at-merged : (es : List (String Z × X)) (m : List (Bytes × Y)) (k : Bytes) → IsStrictlySortedBy string_cmp (keys_of es)
-      → value_at (merged (by_bytes f es) m) k ≡ option_or (value_at (by_bytes f es) k) (value_at m k)
+  pub value_at-merge : (es : List (String Z × X)) (m : List (Bytes × Y)) (k : Bytes) → IsStrictlySortedBy string_cmp (keys_of es)
+      → value_at (merge (by_bytes f es) m) k ≡ option_or (value_at (by_bytes f es) k) (value_at m k)
   unfolding IsStrictlySortedBy
-  value_at-merged [] m k h = refl
-  value_at-merged (e ∷ es) m k h =
-      value_at-merged es (put m (string_bytes e.0) (f e.1)) k h.1
+  value_at-merge [] m k h = refl
+  value_at-merge (e ∷ es) m k h =
+      value_at-merge es (put m (string_bytes e.0) (f e.1)) k h.1
       ∙ ap (option_or (value_at (by_bytes f es) k)) (value_at-put m (string_bytes e.0) (f e.1) k)
       ∙ merge_here (is_at (text_cmp k) (string_bytes e.0)) (f e.1) _ _ (λ p. none_below k e.0 es (same_key k (string_bytes e.0) p) h.0)

@@ -3,7 +3,7 @@ ghost use Rattle.std.specs.Prelude.{◌≡◌, ◌==◌, ◌↔◌, IsTrue, ℕ,
 ghost use Rattle.std.specs.Map.Iter.{ShowsInOrder, deref_pair};
 ghost use Rattle.std.specs.Borrow.{sem};
 ghost use Rattle.std.specs.Option.{option_copied_mut};
-ghost use Rattle.sentry_plain.specs.Tables.{found, stored, changed, removed};
+ghost use Rattle.sentry_plain.specs.Tables.{value_at, put, replace_at, without};
 ghost use Rattle.sentry_plain.specs.Lending.{lends_value};
 ghost use Rattle.std.specs.Cmp.Lexicographic.{pointwise, lists_per, lists_equiv};
 ghost use Rattle.sentry_plain.specs.Equality.{IsExact, same_row, per_row, equiv_row};
@@ -39,7 +39,7 @@ impl<T> Table<T> {
 
     /// The value under a number.
     pub fn get(&self, number: u64) -> Option<&T>
-        ensures { option_copied result ≡ found self.now number }
+        ensures { option_copied result ≡ value_at self.now number }
     {
         self.entries.get(&number)
     }
@@ -69,7 +69,7 @@ impl<T> Table<T> {
     /// The value under a number, to be written: the table then has what was last written there.
     pub fn get_mut(&mut self, number: u64) -> Option<&mut T>
         ensures* writes_back { sem 𝓛 (lends_value T.row self.entry number result) }
-        ensures value { option_copied_mut result ≡ found self.old number }
+        ensures value { option_copied_mut result ≡ value_at self.old number }
     {
         self.entries.get_mut(&number)
     }
@@ -78,7 +78,7 @@ impl<T> Table<T> {
 impl<T: Drop> Table<T> {
     /// Puts a value under a number.
     pub fn insert(&mut self, number: u64, value: T) -> Result<(), AllocError>
-        ensures ok { OnOk result (self.new ≡ stored self.old number value) }
+        ensures ok { OnOk result (self.new ≡ put self.old number value) }
         ensures err { OnErr result (self.new ≡ self.old) }
     {
         self.entries.insert(number, value)?;
@@ -87,8 +87,8 @@ impl<T: Drop> Table<T> {
 
     /// Writes over the value of a number that is there.
     pub fn set(&mut self, number: u64, value: T)
-        requires { IsSome (found self.old number) }
-        ensures { self.new ≡ changed self.old number value }
+        requires { IsSome (value_at self.old number) }
+        ensures { self.new ≡ replace_at self.old number value }
     {
         let Some(place) = self.get_mut(number) else {
             return;
@@ -98,8 +98,8 @@ impl<T: Drop> Table<T> {
 
     /// Takes the value under a number out.
     pub fn remove(&mut self, number: u64) -> Option<T>
-        ensures value { result ≡ found self.old number }
-        ensures rest { self.new ≡ removed self.old number }
+        ensures value { result ≡ value_at self.old number }
+        ensures rest { self.new ≡ without self.old number }
     {
         self.entries.remove(&number)
     }

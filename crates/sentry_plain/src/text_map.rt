@@ -3,7 +3,7 @@ ghost use Rattle.std.specs.Prelude.{◌≡◌, ◌≢◌, ◌==◌, Some, ◌↔
 ghost use Rattle.std.specs.Global.{Global};
 ghost use Rattle.std.specs.Map.Iter.{ShowsInOrder, deref_pair};
 ghost use Rattle.std.specs.Option.{option_or};
-ghost use Rattle.sentry_plain.specs.Texts.{Bytes, put, without, value_at, by_bytes, merged};
+ghost use Rattle.sentry_plain.specs.Texts.{Bytes, put, without, value_at, by_bytes, merge};
 ghost use Rattle.std.specs.Cmp.Lexicographic.{pointwise, lists_per, lists_equiv};
 ghost use Rattle.sentry_plain.specs.Equality.{IsExact, same_entry, per_entry, equiv_entry};
 
@@ -102,8 +102,8 @@ impl<V: Clone> Clone for TextMap<V> {
 
 impl<V: Clone + Drop> TextMap<V> {
     /// This map with the entries of `wins` put in, which have their way at each of their keys.
-    pub fn merged(self, wins: &TextMap<V>) -> Result<TextMap<V>, AllocError>
-        ensures made { IfOk result (λ made. ((x y : V) → V.is_clone x y → y ≡ x) → made ≡ merged wins.now self) }
+    pub fn merge(self, wins: &TextMap<V>) -> Result<TextMap<V>, AllocError>
+        ensures made { IfOk result (λ made. ((x y : V) → V.is_clone x y → y ≡ x) → made ≡ merge wins.now self) }
         ensures at_each_key { IfOk result (λ made. ((x y : V) → V.is_clone x y → y ≡ x)
             → (key : Bytes) → value_at made key ≡ option_or (value_at wins.now key) (value_at self key)) }
     {

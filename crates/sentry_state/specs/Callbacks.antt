@@ -11,9 +11,9 @@ Partial = Event → Option Event
 
 module _ {P : Type 0} (gives : P → Partial) where
   -- the event after each processor in turn, up to the first that drops it
-  abbrev pub processed_by : List P → Partial
-  processed_by [] event = Some event
-  processed_by (processor ∷ processors) event = option_and_then (processed_by processors) (gives processor event)
+  abbrev pub process_all : List P → Partial
+  process_all [] event = Some event
+  process_all (processor ∷ processors) event = option_and_then (process_all processors) (gives processor event)
 
 -- an integration: its name, what it makes of options, and the function on events
 pub record IntegrationMeaning : Type 0 where
@@ -27,16 +27,16 @@ pub record Meanings : Type 0 where
   pub before_send : Option Partial
 
 -- the options after the `setup` of each integration in turn
-abbrev pub set_up_by : List IntegrationMeaning → PlainOptions → PlainOptions
-set_up_by [] options = options
-set_up_by (integration ∷ integrations) options = set_up_by integrations (integration.setup options)
+abbrev pub set_up_all : List IntegrationMeaning → PlainOptions → PlainOptions
+set_up_all [] options = options
+set_up_all (integration ∷ integrations) options = set_up_all integrations (integration.setup options)
 
 -- the event after each integration in turn, up to the first that drops it
-abbrev pub integrated_by : List IntegrationMeaning → PlainOptions → Partial
-integrated_by [] options event = Some event
-integrated_by (integration ∷ integrations) options event = option_and_then (integrated_by integrations options) (integration.process_event options event)
+abbrev pub process_by_all : List IntegrationMeaning → PlainOptions → Partial
+process_by_all [] options event = Some event
+process_by_all (integration ∷ integrations) options event = option_and_then (process_by_all integrations options) (integration.process_event options event)
 
 -- the event after a callback, if there is one
-abbrev pub called : Option Partial → Partial
-called None event = Some event
-called (Some callback) event = callback event
+abbrev pub call_if_any : Option Partial → Partial
+call_if_any None event = Some event
+call_if_any (Some callback) event = callback event

@@ -1,6 +1,6 @@
 -- Scopes: what an edit makes of one, and what one makes of an event.
 use Rattle.std.specs.Prelude.{None, List, [], ◌∷◌, ◌++◌, codes, unwrap_or}
-use Rattle.sentry_plain.specs.Texts.{put, without, merged}
+use Rattle.sentry_plain.specs.Texts.{put, without, merge}
 use Rattle.sentry_plain.specs.Defaults.{with_default}
 use Rattle.sentry_base.specs.declared.protocol.event.Event.{Event}
 use Rattle.sentry_base.specs.declared.protocol.context.Context.{Context}
@@ -10,7 +10,7 @@ use Rattle.sentry_base.specs.declared.protocol.ids.SpanId.{SpanId}
 use Rattle.sentry_state.specs.declared.scope.Scope.{Scope}
 use Rattle.sentry_state.specs.declared.scope.edit.ScopeEdit.{ScopeEdit}
 use Rattle.sentry_state.specs.declared.scope.edit.ScopeEdit.TheVariants.{SetLevel, SetTag, RemoveTag, AddEventProcessor}
-use Rattle.sentry_state.specs.Callbacks.{Partial, processed_by}
+use Rattle.sentry_state.specs.Callbacks.{Partial, process_all}
 
 module _ {P : Type 0} where
   -- a scope that sets nothing
@@ -18,16 +18,16 @@ module _ {P : Type 0} where
   new_scope trace_id span_id = record { level = None; tags = []; trace_id = trace_id; span_id = span_id; processors = [] }
 
   -- the scope after one edit
-  abbrev pub edited : ScopeEdit P → Scope P → Scope P
-  edited (SetLevel level) scope = record scope { level = level }
-  edited (SetTag key value) scope = record scope { tags = put scope.tags key value }
-  edited (RemoveTag key) scope = record scope { tags = without scope.tags key }
-  edited (AddEventProcessor processor) scope = record scope { processors = scope.processors ++ processor ∷ [] }
+  abbrev pub edit : ScopeEdit P → Scope P → Scope P
+  edit (SetLevel level) scope = record scope { level = level }
+  edit (SetTag key value) scope = record scope { tags = put scope.tags key value }
+  edit (RemoveTag key) scope = record scope { tags = without scope.tags key }
+  edit (AddEventProcessor processor) scope = record scope { processors = scope.processors ++ processor ∷ [] }
 
   -- the scope after each edit in turn
-  abbrev pub edited_by : List (ScopeEdit P) → Scope P → Scope P
-  edited_by [] scope = scope
-  edited_by (edit ∷ edits) scope = edited_by edits (edited edit scope)
+  abbrev pub edit_all : List (ScopeEdit P) → Scope P → Scope P
+  edit_all [] scope = scope
+  edit_all (first ∷ rest) scope = edit_all rest (edit first scope)
 
   -- the trace of an event that no span is active for
   abbrev pub trace_of : Scope P → Context
@@ -43,13 +43,13 @@ module _ {P : Type 0} where
   })
 
   -- the event under the scope: a level that is set overrides, the scope's tags win, the trace is filled in if absent
-  abbrev pub filled : Scope P → Event → Event
-  filled scope event = record event {
+  abbrev pub fill : Scope P → Event → Event
+  fill scope event = record event {
     level = unwrap_or scope.level event.level;
-    tags = merged scope.tags event.tags;
+    tags = merge scope.tags event.tags;
     contexts = with_default (codes "trace") (trace_of scope) event.contexts;
   }
 
   -- the same, and then each processor of the scope in turn
-  abbrev pub applied : (P → Partial) → Scope P → Partial
-  applied gives scope event = processed_by gives scope.processors (filled scope event)
+  abbrev pub apply_to_event : (P → Partial) → Scope P → Partial
+  apply_to_event gives scope event = process_all gives scope.processors (fill scope event)

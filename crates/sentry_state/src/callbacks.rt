@@ -1,6 +1,6 @@
 //! What the caller hands in to be called: callbacks on events, and integrations.
 ghost use Rattle.std.specs.Prelude.{◌≡◌, IfOk, OnOk};
-ghost use Rattle.sentry_state.specs.Callbacks.{Partial, IntegrationMeaning, processed_by};
+ghost use Rattle.sentry_state.specs.Callbacks.{Partial, IntegrationMeaning, process_all};
 
 mod boxed;
 
@@ -56,7 +56,7 @@ pub fn process<P: EventCallback>(
     processors: &[Shared<P>],
     event: Event,
 ) -> Result<Option<Event>, AllocError>
-    ensures { IfOk result (λ made. made ≡ processed_by P.gives processors.now event) }
+    ensures { IfOk result (λ made. made ≡ process_all P.gives processors.now event) }
 {
     let mut event = event;
     for processor in processors {

@@ -1,8 +1,8 @@
 //! The calls on clients.
 ghost use Rattle.std.specs.Prelude.{◌≡◌, ◌≢◌, IfOk, OnOk, OnErr, Ok, [], nat_lt};
-ghost use Rattle.sentry_plain.specs.Tables.{stored};
-ghost use Rattle.sentry_state.specs.Callbacks.{set_up_by};
-ghost use Rattle.sentry_engine.specs.Worlds.{World, ClientState, Stands, kept};
+ghost use Rattle.sentry_plain.specs.Tables.{put};
+ghost use Rattle.sentry_state.specs.Callbacks.{set_up_all};
+ghost use Rattle.sentry_engine.specs.Worlds.{World, ClientState, Stands, plain_client};
 ghost use Rattle.sentry_engine.specs.Outcomes.{Does};
 ghost use Rattle.sentry_engine.specs.Clients as call;
 
@@ -19,7 +19,7 @@ fn set_up<C: Callbacks>(
     alloc: Global,
     options: ClientOptions<C>,
 ) -> Result<Shared<ClientOptions<C>>, AllocError>
-    ensures { IfOk result (λ made. made ≡ record options { plain = set_up_by (C.meanings options.callbacks).integrations options.plain }) }
+    ensures { IfOk result (λ made. made ≡ record options { plain = set_up_all (C.meanings options.callbacks).integrations options.plain }) }
 {
     let mut options = options;
     let done = options.callbacks.set_up(&mut options.plain);
@@ -30,8 +30,8 @@ impl<P: EventCallback + Drop, C: Callbacks> Engine<P, C> {
     // Holds a client under a number.
     #[tactic(auto, using(crate::proofs::Keeping::stored_in_world))]
     fn insert_client(&mut self, number: u64, client: Client<C>) -> Result<(), AllocError>
-        ensures in_world { OnOk result ((world : World P C) (state : ClientState C) → Stands self.old world → client ≡ kept state →
-            Stands self.new (record world { clients = stored world.clients number state })) }
+        ensures in_world { OnOk result ((world : World P C) (state : ClientState C) → Stands self.old world → client ≡ plain_client state →
+            Stands self.new (record world { clients = put world.clients number state })) }
         ensures rest { OnOk result ((self.new.tag ≡ self.old.tag) × (self.new.next ≡ self.old.next)) }
         ensures err { OnErr result (self.new ≡ self.old) }
     {

@@ -1,11 +1,11 @@
 //! The calls on hubs.
 ghost use Rattle.std.specs.Prelude.{◌≡◌, ◌≢◌, IfOk, IfErr, OnOk, OnErr, Some, [], ◌∷◌};
-ghost use Rattle.sentry_plain.specs.Tables.{found, changed};
-ghost use Rattle.sentry_state.specs.Scopes.{edited};
+ghost use Rattle.sentry_plain.specs.Tables.{value_at, replace_at};
+ghost use Rattle.sentry_state.specs.Scopes.{edit};
 ghost use Rattle.sentry_engine.specs.declared.engine.Hub.{Hub};
 ghost use Rattle.sentry_engine.specs.Worlds.{World, Stands};
 ghost use Rattle.sentry_engine.specs.Outcomes.{Does, with_scope};
-ghost use Rattle.sentry_engine.specs.Hubs.{captured, captured_id, captured_envelopes, message_event};
+ghost use Rattle.sentry_engine.specs.Hubs.{captured_event, captured_id, captured_envelopes, message_event};
 ghost use Rattle.sentry_engine.specs.Hubs as call;
 
 use crate::engine::{Client, Engine, Hub, Out};
@@ -20,15 +20,15 @@ use sentry_state::scope::{Scope, ScopeEdit, Stack};
 use std::alloc::{AllocError, Global};
 
 // The event that a client sends, if any.
-#[tactic(auto, unfolding(crate::specs::Hubs::captured))]
-fn captured<P: EventCallback + Drop, C: Callbacks>(
+#[tactic(auto, unfolding(crate::specs::Hubs::captured_event))]
+fn captured_event<P: EventCallback + Drop, C: Callbacks>(
     alloc: Global,
     client: &Client<C>,
     scope: &Scope<P>,
     fresh: Uuid,
     event: Event,
 ) -> Result<Option<Event>, AllocError>
-    ensures { IfOk result (λ made. made ≡ captured P.gives C.meanings client.now scope.now fresh event) }
+    ensures { IfOk result (λ made. made ≡ captured_event P.gives C.meanings client.now scope.now fresh event) }
 {
     if !client.occupied {
         drop(event);
@@ -100,21 +100,21 @@ fn only<T: Drop>(items: Vec<T>) -> Result<T, Vec<T>>
 impl<P: EventCallback + Drop, C: Callbacks> Engine<P, C> {
     // Does one edit in place. Where memory is wanting for it, nothing has changed.
     #[tactic(auto, using(crate::proofs::Keeping::changed_same))]
-    fn edit_scope(&mut self, number: u64, edit: ScopeEdit<P>) -> Result<(), AllocError>
-        ensures in_world { OnOk result ((world : World P C) (hub : Hub P) → Stands self.old world → found self.old.hubs number ≡ Some hub →
-            Stands self.new (record world { hubs = changed world.hubs number (with_scope hub (edited edit hub.stack.top.scope)) })) }
+    fn edit_scope(&mut self, number: u64, setter: ScopeEdit<P>) -> Result<(), AllocError>
+        ensures in_world { OnOk result ((world : World P C) (hub : Hub P) → Stands self.old world → value_at self.old.hubs number ≡ Some hub →
+            Stands self.new (record world { hubs = replace_at world.hubs number (with_scope hub (edit setter hub.stack.top.scope)) })) }
         ensures err { OnErr result (self.new ≡ self.old) }
     {
         let Some(hub) = self.hubs.get_mut(number) else {
             return Ok(());
         };
-        hub.stack.top.scope.edit(edit)
+        hub.stack.top.scope.edit(setter)
     }
 
     // Writes the top scope of a hub that is held.
     fn set_scope(&mut self, number: u64, scope: Scope<P>)
-        ensures in_world { (world : World P C) (hub : Hub P) → Stands self.old world → found self.old.hubs number ≡ Some hub →
-            Stands self.new (record world { hubs = changed world.hubs number (with_scope hub scope) }) }
+        ensures in_world { (world : World P C) (hub : Hub P) → Stands self.old world → value_at self.old.hubs number ≡ Some hub →
+            Stands self.new (record world { hubs = replace_at world.hubs number (with_scope hub scope) }) }
     {
         let Some(hub) = self.hubs.get_mut(number) else {
             return;
@@ -124,8 +124,8 @@ impl<P: EventCallback + Drop, C: Callbacks> Engine<P, C> {
 
     // Notes the last event of a hub that is held.
     fn set_last_event_id(&mut self, number: u64, id: Uuid)
-        ensures in_world { (world : World P C) (hub : Hub P) → Stands self.old world → found self.old.hubs number ≡ Some hub →
-            Stands self.new (record world { hubs = changed world.hubs number (record hub { last_event_id = Some id }) }) }
+        ensures in_world { (world : World P C) (hub : Hub P) → Stands self.old world → value_at self.old.hubs number ≡ Some hub →
+            Stands self.new (record world { hubs = replace_at world.hubs number (record hub { last_event_id = Some id }) }) }
     {
         let Some(hub) = self.hubs.get_mut(number) else {
             return;
@@ -247,7 +247,7 @@ impl<P: EventCallback + Drop, C: Callbacks> Engine<P, C> {
             drop(event);
             return Ok(self.out(Uuid::nil()));
         };
-        let made = captured(self.alloc, client, &held.stack.top.scope, fresh.uuid, event)?;
+        let made = captured_event(self.alloc, client, &held.stack.top.scope, fresh.uuid, event)?;
         let reply = captured_id(&made);
         let sent = captured_envelopes(self.alloc, key, made)?;
         self.set_last_event_id(hub.number, reply);

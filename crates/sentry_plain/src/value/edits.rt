@@ -3,7 +3,7 @@ ghost use Rattle.std.specs.Prelude.{◌≡◌, ◌≢◌, ◌==◌, Some, ◌∷
 ghost use Rattle.std.specs.Global.{Global};
 ghost use Rattle.std.specs.Map.Iter.{ShowsInOrder, deref_pair};
 ghost use Rattle.std.specs.Option.{option_or};
-ghost use Rattle.sentry_plain.specs.Texts.{Bytes, put, value_at, without, merged, by_bytes};
+ghost use Rattle.sentry_plain.specs.Texts.{Bytes, put, value_at, without, merge, by_bytes};
 ghost use Rattle.sentry_plain.specs.declared.value.Value.{Value as Shown};
 ghost use Rattle.sentry_plain.specs.ValueView.{data_of};
 
@@ -128,8 +128,8 @@ impl ValueMap {
     }
 
     /// This map with the entries of `wins` put in, which have their way at each of their keys.
-    pub fn merged(self, wins: &ValueMap) -> Result<ValueMap, AllocError>
-        ensures made { IfOk result (λ made. made ≡ merged wins.now self) }
+    pub fn merge(self, wins: &ValueMap) -> Result<ValueMap, AllocError>
+        ensures made { IfOk result (λ made. made ≡ merge wins.now self) }
         ensures at_each_key { IfOk result (λ made. (key : Bytes) → value_at made key ≡ option_or (value_at wins.now key) (value_at self key)) }
     {
         let mut made = self;

@@ -1,6 +1,6 @@
 //! A client's callbacks.
 ghost use Rattle.std.specs.Prelude.{◌≡◌, ◌∷◌, ◌++◌, [], IfOk, OnOk, Some, map, option_map};
-ghost use Rattle.sentry_state.specs.Callbacks.{Meanings, set_up_by, integrated_by, called};
+ghost use Rattle.sentry_state.specs.Callbacks.{Meanings, set_up_all, process_by_all, call_if_any};
 ghost use Rattle.sentry_plain.specs.Texts.{Bytes};
 
 use crate::callbacks::{EventCallback, Integration};
@@ -20,7 +20,7 @@ pub trait Callbacks: Drop {
 
     /// Each integration's `setup` in turn. Where memory was wanting, some of them ran.
     fn set_up(&self, options: &mut PlainOptions) -> Result<(), AllocError>
-        ensures { OnOk result (options.new ≡ set_up_by (meanings self.now).integrations options.old) };
+        ensures { OnOk result (options.new ≡ set_up_all (meanings self.now).integrations options.old) };
 
     /// The event after each integration in turn, up to the first that drops it.
     fn process_event(
@@ -28,11 +28,11 @@ pub trait Callbacks: Drop {
         event: Event,
         options: &PlainOptions,
     ) -> Result<Option<Event>, AllocError>
-        ensures { IfOk result (λ made. made ≡ integrated_by (meanings self.now).integrations options.now event) };
+        ensures { IfOk result (λ made. made ≡ process_by_all (meanings self.now).integrations options.now event) };
 
     /// The event after `before_send`, if that is set.
     fn before_send(&self, event: Event) -> Result<Option<Event>, AllocError>
-        ensures { IfOk result (λ made. made ≡ called (meanings self.now).before_send event) };
+        ensures { IfOk result (λ made. made ≡ call_if_any (meanings self.now).before_send event) };
 }
 
 /// The callbacks of a client, each kind of one type: boxes, where the kinds are to mix.
@@ -107,7 +107,7 @@ fn set_up_all<I: Integration>(
     integrations: &[Shared<I>],
     options: &mut PlainOptions,
 ) -> Result<(), AllocError>
-    ensures { OnOk result (options.new ≡ set_up_by (map I.meaning integrations.now) options.old) }
+    ensures { OnOk result (options.new ≡ set_up_all (map I.meaning integrations.now) options.old) }
 {
     for integration in integrations {
         set_up_one(integration.get(), options)?;
@@ -130,7 +130,7 @@ fn process_by_all<I: Integration>(
     event: Event,
     options: &PlainOptions,
 ) -> Result<Option<Event>, AllocError>
-    ensures { IfOk result (λ made. made ≡ integrated_by (map I.meaning integrations.now) options.now event) }
+    ensures { IfOk result (λ made. made ≡ process_by_all (map I.meaning integrations.now) options.now event) }
 {
     let mut event = event;
     for integration in integrations {

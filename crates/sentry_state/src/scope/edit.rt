@@ -1,7 +1,7 @@
 //! The setters of a scope, and their calls as values.
 ghost use Rattle.std.specs.Prelude.{◌≡◌, OnOk, OnErr};
 ghost use Rattle.sentry_state.specs.declared.scope.edit.ScopeEdit.TheVariants.{SetLevel, SetTag, RemoveTag, AddEventProcessor};
-ghost use Rattle.sentry_state.specs.Scopes.{edited, edited_by};
+ghost use Rattle.sentry_state.specs.Scopes.{edit, edit_all};
 
 use crate::scope::Scope;
 use sentry_base::protocol::Level;
@@ -24,14 +24,14 @@ pub enum ScopeEdit<P> {
 impl<P: Drop> Scope<P> {
     /// Overrides the level of events, or no longer does.
     pub fn set_level(&mut self, level: Option<Level>)
-        ensures { self.new ≡ edited (SetLevel level) self.old }
+        ensures { self.new ≡ edit (SetLevel level) self.old }
     {
         self.level = level;
     }
 
     /// Sets a tag, in place of one with the same key.
     pub fn set_tag(&mut self, key: &str, value: &str) -> Result<(), AllocError>
-        ensures ok { OnOk result (self.new ≡ edited (SetTag key.now value.now) self.old) }
+        ensures ok { OnOk result (self.new ≡ edit (SetTag key.now value.now) self.old) }
         ensures err { OnErr result (self.new ≡ self.old) }
     {
         let alloc = self.allocator();
@@ -42,26 +42,26 @@ impl<P: Drop> Scope<P> {
 
     /// Removes a tag, if it is there.
     pub fn remove_tag(&mut self, key: &str)
-        ensures { self.new ≡ edited (RemoveTag key.now) self.old }
+        ensures { self.new ≡ edit (RemoveTag key.now) self.old }
     {
         self.tags.remove(key);
     }
 
     /// Puts a processor last.
     pub fn add_event_processor(&mut self, processor: P) -> Result<(), AllocError>
-        ensures ok { OnOk result (self.new ≡ edited (AddEventProcessor processor) self.old) }
+        ensures ok { OnOk result (self.new ≡ edit (AddEventProcessor processor) self.old) }
         ensures err { OnErr result (self.new ≡ self.old) }
     {
         let share = Shared::new(self.allocator(), processor)?;
         self.processors.push(share)
     }
 
-    /// Does the call that the edit stands for.
-    pub fn edit(&mut self, edit: ScopeEdit<P>) -> Result<(), AllocError>
-        ensures ok { OnOk result (self.new ≡ edited edit self.old) }
+    /// Makes the call that the edit stands for.
+    pub fn edit(&mut self, setter: ScopeEdit<P>) -> Result<(), AllocError>
+        ensures ok { OnOk result (self.new ≡ edit setter self.old) }
         ensures err { OnErr result (self.new ≡ self.old) }
     {
-        match edit {
+        match setter {
             ScopeEdit::SetLevel(level) => {
                 self.set_level(level);
                 Ok(())
@@ -77,7 +77,7 @@ impl<P: Drop> Scope<P> {
 
     /// Does the calls in turn. Where memory was wanting, some of them are done.
     pub fn edit_all(&mut self, edits: Vec<ScopeEdit<P>>) -> Result<(), AllocError>
-        ensures { OnOk result (self.new ≡ edited_by edits.items self.old) }
+        ensures { OnOk result (self.new ≡ edit_all edits.items self.old) }
     {
         for edit in edits {
             self.edit(edit)?;

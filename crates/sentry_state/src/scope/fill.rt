@@ -1,7 +1,7 @@
 //! What a scope makes of an event.
 ghost use Rattle.std.specs.Prelude.{◌≡◌, IfOk, codes};
 ghost use Rattle.sentry_plain.specs.Defaults.{with_default};
-ghost use Rattle.sentry_state.specs.Scopes.{filled, applied, trace_of};
+ghost use Rattle.sentry_state.specs.Scopes.{fill, apply_to_event, trace_of};
 
 use crate::callbacks::{EventCallback, process};
 use crate::scope::Scope;
@@ -42,13 +42,13 @@ impl<P: Drop> Scope<P> {
 
     // The event under the scope, before the processors.
     fn fill(&self, event: Event) -> Result<Event, AllocError>
-        ensures { IfOk result (λ made. made ≡ filled self.now event) }
+        ensures { IfOk result (λ made. made ≡ fill self.now event) }
     {
         let alloc = self.processors.allocator();
         let mut event = event;
         event.level = self.level.unwrap_or(event.level);
         let tags = mem::replace(&mut event.tags, TextMap::new(alloc));
-        event.tags = tags.merged(&self.tags)?;
+        event.tags = tags.merge(&self.tags)?;
         let contexts = mem::replace(&mut event.contexts, TextMap::new(alloc));
         event.contexts = self.fill_trace(contexts)?;
         Ok(event)
@@ -59,7 +59,7 @@ impl<P: EventCallback + Drop> Scope<P> {
     /// The event under this scope: a level that is set overrides the event's, the scope's tags win, the trace is
     /// filled in if absent, and the processors run in order. None is answered where one of them drops the event.
     pub fn apply_to_event(&self, event: Event) -> Result<Option<Event>, AllocError>
-        ensures { IfOk result (λ made. made ≡ applied P.gives self.now event) }
+        ensures { IfOk result (λ made. made ≡ apply_to_event P.gives self.now event) }
     {
         let filled = self.fill(event)?;
         process(self.processors.as_slice(), filled)
