@@ -22,7 +22,6 @@ pub struct Out<T> {
 }
 
 /// What an engine keeps of a client.
-#[derive(Drop)]
 pub struct Client<C> {
     pub options: Shared<ClientOptions<C>>,
     /// Names the table of losses that it records into.
@@ -31,11 +30,29 @@ pub struct Client<C> {
     pub occupied: bool,
 }
 
+impl<C: Drop> Drop for Client<C> {
+    fn drop(self) {
+        let Client {
+            options: _,
+            label: _,
+            occupied: _,
+        } = self;
+    }
+}
+
 /// What an engine keeps of a hub.
-#[derive(Drop)]
 pub struct Hub<P> {
     pub stack: Stack<P>,
     pub last_event_id: Option<Uuid>,
+}
+
+impl<P: Drop> Drop for Hub<P> {
+    fn drop(self) {
+        let Hub {
+            stack: _,
+            last_event_id: _,
+        } = self;
+    }
 }
 
 /// The next number of each kind of key.
@@ -47,13 +64,24 @@ pub struct NextNumbers {
 
 /// Holds clients and hubs by key, and does every call on them. `P` is the type of a scope's processors, `C` that of a
 /// client's callbacks. A call that is refused changed nothing.
-#[derive(Drop)]
 pub struct Engine<P, C> {
     pub tag: u64,
     pub next: NextNumbers,
     pub clients: Table<Client<C>>,
     pub hubs: Table<Hub<P>>,
     alloc: Global,
+}
+
+impl<P: Drop, C: Drop> Drop for Engine<P, C> {
+    fn drop(self) {
+        let Engine {
+            tag: _,
+            next: _,
+            clients: _,
+            hubs: _,
+            alloc: _,
+        } = self;
+    }
 }
 
 impl<P: EventCallback + Drop, C: Callbacks> Engine<P, C> {
