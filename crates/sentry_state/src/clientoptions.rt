@@ -15,12 +15,21 @@ use std::ops::Deref;
 pub use user_agent::UserAgent;
 
 /// The options of a client: the plain ones, which are read as its own fields, how traces are sampled, and its callbacks.
-#[derive(Drop)]
 pub struct ClientOptions<C> {
     pub plain: PlainOptions,
     /// Which traces are kept.
     pub traces_sampling_strategy: TracesSamplingStrategy,
     pub callbacks: C,
+}
+
+impl<C: Drop> Drop for ClientOptions<C> {
+    fn drop(self) {
+        let ClientOptions {
+            plain: _,
+            traces_sampling_strategy: _,
+            callbacks: _,
+        } = self;
+    }
 }
 
 impl<C> Deref for ClientOptions<C> {

@@ -14,7 +14,6 @@ pub use stack::{Stack, StackLayer};
 use std::alloc::{AllocError, Global};
 
 /// What is known around the events that are captured while it stands on top of a hub.
-#[derive(Drop)]
 pub struct Scope<P> {
     /// Overrides the level of each event.
     pub level: Option<Level>,
@@ -25,6 +24,18 @@ pub struct Scope<P> {
     pub span_id: SpanId,
     /// Called on each event in order; the first that answers none drops it.
     pub processors: Items<Shared<P>>,
+}
+
+impl<P: Drop> Drop for Scope<P> {
+    fn drop(self) {
+        let Scope {
+            level: _,
+            tags: _,
+            trace_id: _,
+            span_id: _,
+            processors: _,
+        } = self;
+    }
 }
 
 impl<P> Scope<P> {
