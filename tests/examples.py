@@ -56,6 +56,17 @@ def stop_on_strays(inputs):
         sys.exit(f"examples/: no input, or more than one, for {', '.join(sorted(shared | strays))}")
 
 
+def stop_without_programs(found):
+    """Stops where a program that the examples are for isn't there."""
+    for program in sorted({it.program for it in found}):
+        path = program_path(program)
+        if not os.access(path, os.X_OK):
+            count = sum(1 for it in found if it.program == program)
+            print(f"{path} is not there: rt ci, or rt run in crates/{program}, makes it")
+            print(f"0 passed, {count} failed")
+            sys.exit(1)
+
+
 def find(names):
     """The examples, by name; those with these names alone, if there are any."""
     endings = [f".{program}{kind}" for program in PROGRAMS for kind in ("", ".bad")]
@@ -69,6 +80,7 @@ def find(names):
     unknown = sorted(set(names) - {it.name.partition(".")[0] for it in found})
     if unknown:
         sys.exit(f"examples/: there is no example {', '.join(unknown)}")
+    stop_without_programs(found)
     return found
 
 
