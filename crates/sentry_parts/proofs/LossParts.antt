@@ -1,5 +1,6 @@
 -- Views cut in two and put together.
-use Rattle.std.proofs.Common.{◌≡◌, ℕ, zero, suc, ◌+◌, ◌<◌, true, false, true≢false, List, [], ◌∷◌, ◌++◌, length, get_or, set, replicate, refl, sym, ap, ◌∙◌, subst, arith}
+use Rattle.std.proofs.Common.{◌≡◌, ℕ, zero, suc, ◌+◌, ◌<◌, true, false, true≢false, cond, List, [], ◌∷◌, ◌++◌, length, get_or, set, replicate, refl, sym, ap, ◌∙◌, subst, arith, eq-eqb, ne_eqb, length-append}
+use Rattle.std.proofs.lemmas.List.{get_or_append_left, get_or-append-add, get_or-replicate}
 use mathlib.Core.Logic.{dite}
 use mathlib.Core.Option.{some, some-injective, some-ne-none}
 use native.Mathlib.Decide.{ℕ_discrete}
@@ -11,7 +12,7 @@ use Rattle.sentry_parts.specs.declared.client_reports.step.LossStep.TheVariants.
 use Rattle.sentry_parts.specs.LossViews.{total, added, took, owes}
 use Rattle.sentry_parts.specs.LossWords.{IsClosed, Kept, Quiet, the_flag, the_counters, the_flags, the_words}
 use Rattle.sentry_parts.proofs.LossSteps.{total_append, total_set, at_place, elsewhere}
-use Rattle.sentry_parts.proofs.LossRuns.{rest_keeps, zero_at}
+use Rattle.sentry_parts.proofs.LossRuns.{rest_keeps}
 use Rattle.sentry_parts.proofs.LossAllowed.{Rule}
 
 pub opens : Kept (replicate the_words 0) ([] ∷ [])
@@ -85,19 +86,49 @@ mirrored_took i (Raise f ∷ v) = let r = mirrored_took i v in omega arith
 mirrored_took i (Lower f up ∷ v) = let r = mirrored_took i v in omega arith
 mirrored_took i (Take j q ∷ v) = let r = mirrored_took i v in omega arith
 
--- counters in which nothing stands, beside a view that took all that the first recorded
-pub nothing_stands : (mine : List LossStep) → IsClosed mine (replicate 63 0)
-nothing_stands mine = record {
-  words = replicate the_words 0;
-  views = mine ∷ mirrored mine ∷ [];
-  kept = record {
-    wide = refl;
-    laws = record {
-      balance = λ i less. let a = mirrored_added i mine in let b = mirrored_took i mine in let z = zero_at the_words i in omega arith;
-      flag_law = λ i less stands low. absurd (stands (zero_at the_words i));
-    };
-  };
-  seat = 0;
-  there = refl;
-  left = λ i less. zero_at 63 i ∙ sym (zero_at the_words i);
-}
+-- a view that recorded the quantities qs, at the counters from i on
+abbrev adding : ℕ → List ℕ → List LossStep
+adding i [] = []
+adding i (q ∷ qs) = Add i q ∷ adding (i + 1) qs
+
+added_before : (j i : ℕ) (qs : List ℕ) → j < i → total (added j) (adding i qs) ≡ 0
+added_before j i [] below = refl
+added_before j i (q ∷ qs) below =
+    let here : added j (Add i q) ≡ 0 = ap (λ b. cond b q 0) (ne_eqb j i (λ e. omega arith)) in
+    let rest = added_before j (i + 1) qs (omega arith) in omega arith
+
+added_at : (j i k : ℕ) (qs : List ℕ) → j ≡ i + k → total (added j) (adding i qs) ≡ get_or qs k 0
+added_at j i k [] place = refl
+added_at j i zero (q ∷ qs) place =
+    let here : added j (Add i q) ≡ q = ap (λ b. cond b q 0) (eq-eqb j i (omega arith)) in
+    let rest = added_before j (i + 1) qs (omega arith) in omega arith
+added_at j i (suc k) (q ∷ qs) place =
+    let here : added j (Add i q) ≡ 0 = ap (λ b. cond b q 0) (ne_eqb j i (λ e. omega arith)) in
+    let rest = added_at j (i + 1) k qs (omega arith) in omega arith
+
+adding_took : (j i : ℕ) (qs : List ℕ) → total (took j) (adding i qs) ≡ 0
+adding_took j i [] = refl
+adding_took j i (q ∷ qs) = let rest = adding_took j (i + 1) qs in omega arith
+
+-- any quantities are the counters of some words, beside a view that took all that the first recorded, and one that
+-- recorded these quantities: so `IsClosed` alone doesn't say what stood in the real words
+pub any_counters : (mine : List LossStep) (qs : List ℕ) → length qs ≡ the_counters → IsClosed mine qs
+any_counters mine qs long =
+    let words : List ℕ = qs ++ replicate the_flags 1 in
+    let counter : (i : ℕ) → i < the_counters → get_or words i 0 ≡ get_or qs i 0 = λ i less. get_or_append_left qs (replicate the_flags 1) 0 i (omega arith) in
+    let flag : (f : ℕ) → f < the_flags → get_or words (the_counters + f) 0 ≡ 1 =
+    λ f less. ap (λ n. get_or words (n + f) 0) (sym long) ∙ (get_or-append-add qs (replicate the_flags 1) f 0 ∙ get_or-replicate the_flags f 1 0 less) in
+    record {
+      words = words;
+      views = mine ∷ mirrored mine ∷ adding 0 qs ∷ [];
+      kept = record {
+        wide = length-append qs (replicate the_flags 1) ∙ ap (λ n. n + the_flags) long;
+        laws = record {
+          balance = λ i less. let a = mirrored_added i mine in let b = mirrored_took i mine in let c = added_at i 0 i qs (omega arith) in let d = adding_took i 0 qs in let e = counter i less in omega arith;
+          flag_law = λ i less stands low. let up = flag (the_flag i) (omega arith) in absurd (omega arith);
+        };
+      };
+      seat = 0;
+      there = refl;
+      left = λ i less. sym (counter i less);
+    }

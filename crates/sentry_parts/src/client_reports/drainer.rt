@@ -41,6 +41,20 @@ impl Model for Drained {
 }
 
 impl Drained {
+    /// The label of the words.
+    pub fn label(&self) -> Label
+        ensures { result ≡ self.now.0 }
+    {
+        self.label
+    }
+
+    /// What was taken.
+    pub fn losses(&self) -> &Losses
+        ensures { result.now ≡ self.now.1 }
+    {
+        &self.losses
+    }
+
     /// The label of the words, and what was taken.
     pub fn into_parts(self) -> (Label, Losses)
         ensures { result ≡ self }

@@ -17,6 +17,17 @@ fn take_counters(part: &mut Part, flag: usize, taken: &mut [u64; COUNTERS])
     }
 }
 
+// Takes each counter of each flag, whether the flag is up or not.
+pub(crate) fn take_all(part: &mut Part) -> [u64; COUNTERS]
+    ensures { part.new.seat.table_id ≡ part.old.seat.table_id }
+{
+    let mut taken = [0; COUNTERS];
+    for flag in 0..FLAGS {
+        take_counters(part, flag, &mut taken);
+    }
+    taken
+}
+
 // Lowers the flag, and takes its counters if it was up.
 fn drain_flag(part: &mut Part, flag: usize, taken: &mut [u64; COUNTERS]) -> bool
     requires inside { flag < the_flags }
