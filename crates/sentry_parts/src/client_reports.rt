@@ -18,7 +18,7 @@ mod tests;
 pub use book::LossBook;
 pub use drainer::{Drained, Drainer};
 pub use loss_words::LossWords;
-pub use machine::{machine_keeps, wrong_steps_break};
+pub use machine::{machine_keeps, machine_moves, wrong_steps_break};
 pub use reason::TransportLossReason;
 pub use recorder::Recorder;
 pub use step::{LossStep, View};

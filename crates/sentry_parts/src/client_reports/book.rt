@@ -1,7 +1,7 @@
 //! The book from which reports are made.
 ghost use Rattle.std.specs.Prelude.{◌≡◌, ◌<◌, [], ◌∷◌, ◌++◌, List, OnOk, OnErr, IfOk, IfErr};
 ghost use Rattle.sentry_base.specs.declared.protocol.refusal.Refusal.TheVariants.{OutOfMemory};
-ghost use Rattle.sentry_parts.specs.LossBooks.{Book, LossEntry, kept, recorded, absorbed, report_point, report_one, report_items, report_of};
+ghost use Rattle.sentry_parts.specs.LossBooks.{Book, LossEntry, book_of, engine_losses, drained_losses, report_point, report_items_at, report_items, report_of};
 
 use sentry_base::protocol::{
     Category, ClientReport, ClientReportItem, LOSS_QUANTITIES, Losses, REASONS, Reason, Refusal,
@@ -28,8 +28,8 @@ fn list_one(
     index: usize,
     quantity: u64,
 ) -> Result<(), AllocError>
-    requires { index < 63 }
-    ensures { OnOk result (items.new ≡ items.old ++ report_one index quantity) }
+    requires { index < LOSS_QUANTITIES }
+    ensures { OnOk result (items.new ≡ items.old ++ report_items_at index quantity) }
 {
     if quantity == 0 {
         return Ok(());
@@ -66,7 +66,7 @@ fn report_of(items: Items<ClientReportItem>) -> Option<ClientReport>
 impl LossBook {
     /// The book in which nothing came yet.
     pub fn new() -> LossBook
-        ensures { result ≡ kept [] }
+        ensures { result ≡ book_of [] }
     {
         LossBook {
             pending: Losses::none(),
@@ -75,14 +75,16 @@ impl LossBook {
 
     /// Counts losses.
     pub fn record(&mut self, losses: &Losses)
-        ensures { (history : List LossEntry) → self.old ≡ kept history → self.new ≡ kept (recorded losses.now.quantities ∷ history) }
+        ensures { (history : List LossEntry) → self.old ≡ book_of history
+            → self.new ≡ book_of (engine_losses losses.now.quantities ∷ history) }
     {
         self.pending.add(losses);
     }
 
     /// Takes drained losses over.
     pub fn absorb(&mut self, drained: &Losses)
-        ensures { (history : List LossEntry) → self.old ≡ kept history → self.new ≡ kept (absorbed drained.now.quantities ∷ history) }
+        ensures { (history : List LossEntry) → self.old ≡ book_of history
+            → self.new ≡ book_of (drained_losses drained.now.quantities ∷ history) }
     {
         self.pending.add(drained);
     }
@@ -91,7 +93,8 @@ impl LossBook {
     /// memory the book is as it was.
     pub fn take_report(&mut self, alloc: Global) -> Result<Option<ClientReport>, Refusal>
         ensures report { IfOk result (λ report. report ≡ report_of (report_items self.old.pending)) }
-        ensures point { OnOk result ((history : List LossEntry) → self.old ≡ kept history → self.new ≡ kept (report_point ∷ history)) }
+        ensures point { OnOk result ((history : List LossEntry) → self.old ≡ book_of history
+            → self.new ≡ book_of (report_point ∷ history)) }
         ensures refused { IfErr result (λ refusal. refusal ≡ OutOfMemory) }
         ensures unchanged { OnErr result (self.new ≡ self.old) }
     {

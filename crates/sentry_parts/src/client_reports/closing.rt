@@ -1,6 +1,6 @@
 //! The end of the words.
 ghost use Rattle.std.specs.Prelude.{◌≡◌, ◌++◌, IfOk, IfErr};
-ghost use Rattle.sentry_parts.specs.LossWords.{Quiet, IsClosed, the_words};
+ghost use Rattle.sentry_parts.specs.LossWords.{IsQuiet, IsClosed, the_words};
 
 use crate::client_reports::draining::take_all;
 use crate::client_reports::part::{COUNTERS, Part, Words};
@@ -48,7 +48,7 @@ fn close_or_take(part: Part) -> [u64; COUNTERS]
 // The counters of the words, where no third part of them is left.
 pub(crate) fn close_both(mut first: Part, second: Part) -> Result<[u64; COUNTERS], (Part, Part)>
     requires same { second.seat.table_id ≡ first.seat.table_id }
-    requires quiet { Quiet first.seat.me.0 × Quiet second.seat.me.0 }
+    requires quiet { IsQuiet first.seat.me.0 × IsQuiet second.seat.me.0 }
     ensures closed { IfOk result (λ counters. IsClosed (first.seat.me.0 ++ second.seat.me.0) counters) }
     ensures back { IfErr result (λ parts. (parts.0 ≡ first) × (parts.1 ≡ second)) }
 {

@@ -1,7 +1,7 @@
 //! Drainers of losses.
 ghost use Rattle.std.specs.Prelude.{◌≡◌, ◌++◌, [], IfOk, IfErr};
 ghost use Rattle.sentry_base.specs.declared.protocol.refusal.Refusal.TheVariants.{OutOfMemory};
-ghost use Rattle.sentry_parts.specs.LossWords.{LossPart, loss_part, Quiet, IsDrain, the_flags};
+ghost use Rattle.sentry_parts.specs.LossWords.{LossPart, loss_part, IsQuiet, IsDrain, the_flags};
 
 use crate::client_reports::draining::drain_all;
 use crate::client_reports::part::Part;
@@ -21,7 +21,7 @@ impl Model for Drainer {
 
     ghost view = { λ r. loss_part r.part.seat.table_id r.label r.part.seat.me.0 };
 
-    ghost invariant = { λ r. Quiet r.part.seat.me.0 };
+    ghost invariant = { λ r. IsQuiet r.part.seat.me.0 };
 }
 
 /// What a drain took, and the label of its words. It has no `Drop`, so that no losses are dropped unseen: it is spent
@@ -73,7 +73,7 @@ impl Drainer {
         ensures label { self.new.label ≡ self.old.label }
         ensures drained_label { result.0 ≡ self.old.label }
         ensures steps { IsDrain the_flags self.old.steps self.new.steps result.1.quantities }
-        ensures quiet { Quiet self.new.steps }
+        ensures quiet { IsQuiet self.new.steps }
     {
         let quantities = drain_all(&mut self.part);
         Drained {

@@ -2,7 +2,7 @@
 ghost use Rattle.std.specs.Prelude.{◌≡◌, ◌+◌, ◌-◌, ◌<◌, ◌==◌, not, [], ◌∷◌, ◌++◌, length, replicate, IfOk, IfErr};
 ghost use Rattle.std.specs.Arc.{arc_value};
 ghost use Rattle.atomic_table.specs.Seated.{TableId};
-ghost use Rattle.sentry_parts.specs.LossWords.{Kept, Quiet, IsClosed, the_counters, the_words, the_flags};
+ghost use Rattle.sentry_parts.specs.LossWords.{KeepsLaws, IsQuiet, IsClosed, the_counters, the_words, the_flags};
 ghost use Rattle.sentry_parts.specs.declared.client_reports.step.LossStep.TheVariants.{Add, Raise, Lower, Take};
 
 use crate::client_reports::step::View;
@@ -22,7 +22,7 @@ pub(crate) const PER_FLAG: usize = 63;
 pub struct LossRule;
 
 impl TableRule<(), View, ()> for LossRule {
-    ghost holds = { λ _ s. Kept s.words s.views };
+    ghost holds = { λ _ s. KeepsLaws s.words s.views };
 
     ghost first = { λ _. [] };
 }
@@ -104,10 +104,10 @@ impl Part {
     // Takes the steps of another part over.
     pub(crate) fn join(&mut self, other: Part)
         requires same { other.seat.table_id ≡ self.old.seat.table_id }
-        requires quiet { Quiet self.old.seat.me.0 × Quiet other.seat.me.0 }
+        requires quiet { IsQuiet self.old.seat.me.0 × IsQuiet other.seat.me.0 }
         ensures words { self.new.seat.table_id ≡ self.old.seat.table_id }
         ensures steps { self.new.seat.me.0 ≡ self.old.seat.me.0 ++ other.seat.me.0 }
-        ensures quiet { Quiet self.new.seat.me.0 }
+        ensures quiet { IsQuiet self.new.seat.me.0 }
     {
         let Part { words: _, seat } = other;
         self.words.shared.join_seat::<Both>(&mut self.seat, seat);

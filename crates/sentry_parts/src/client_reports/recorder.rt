@@ -2,7 +2,7 @@
 ghost use Rattle.std.specs.Prelude.{◌≡◌, ◌++◌, [], IfOk, IfErr};
 ghost use Rattle.sentry_base.specs.declared.protocol.refusal.Refusal.TheVariants.{OutOfMemory};
 ghost use Rattle.sentry_parts.specs.Reasons.{reason_of};
-ghost use Rattle.sentry_parts.specs.LossWords.{LossPart, loss_part, Quiet, recording};
+ghost use Rattle.sentry_parts.specs.LossWords.{LossPart, loss_part, IsQuiet, steps_to_record};
 
 use crate::client_reports::part::Part;
 use crate::client_reports::reason::TransportLossReason;
@@ -23,7 +23,7 @@ impl Model for Recorder {
 
     ghost view = { λ r. loss_part r.part.seat.table_id r.label r.part.seat.me.0 };
 
-    ghost invariant = { λ r. Quiet r.part.seat.me.0 };
+    ghost invariant = { λ r. IsQuiet r.part.seat.me.0 };
 }
 
 impl Recorder {
@@ -33,8 +33,9 @@ impl Recorder {
     pub fn record_lost_data<L: LossSource>(&mut self, source: &L, reason: TransportLossReason)
         ensures words { self.new.words ≡ self.old.words }
         ensures label { self.new.label ≡ self.old.label }
-        ensures steps { self.new.steps ≡ self.old.steps ++ recording (L.losses_under source.now (reason_of reason)) }
-        ensures quiet { Quiet self.new.steps }
+        ensures steps { self.new.steps
+            ≡ self.old.steps ++ steps_to_record (L.losses_under source.now (reason_of reason)) }
+        ensures quiet { IsQuiet self.new.steps }
     {
         let losses = source.losses(reason.into_reason());
         record_all(&mut self.part, &losses.quantities);
