@@ -1,5 +1,5 @@
-//! What is lost on the way to a server: counters that threads add to and drain without a lock, and the book from
-//! which reports are made.
+//! Counts of what is lost on the way to a server: counters that threads add to and drain without a lock, and the book
+//! from which client reports are made.
 
 mod book;
 mod closing;

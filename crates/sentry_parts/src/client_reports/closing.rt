@@ -1,4 +1,4 @@
-//! The end of the words.
+//! How the loss words end.
 ghost use Rattle.std.specs.Prelude.{◌≡◌, ◌++◌, IfOk, IfErr};
 ghost use Rattle.sentry_parts.specs.LossWords.{IsQuiet, IsClosed, the_words};
 
@@ -8,6 +8,7 @@ use crate::client_reports::step::View;
 use atomic_table::Seat;
 use std::sync::Arc;
 
+// Closes the table and reads its counters.
 fn close_table(table: Words, seat: Seat<(), View>) -> [u64; COUNTERS]
     requires same { seat.table_id ≡ table.shared.table_id }
     requires size { (table.shared.table_id.words ≡ the_words) × (table.shared.table_id.slots ≡ 0) }
@@ -22,7 +23,7 @@ fn close_table(table: Words, seat: Seat<(), View>) -> [u64; COUNTERS]
     left
 }
 
-// The counters of the words, where no other part of them is left.
+// The counters, if there is no other part of the words. Otherwise the part comes back.
 pub(crate) fn close_one(part: Part) -> Result<[u64; COUNTERS], Part>
     ensures closed { IfOk result (λ counters. IsClosed part.seat.me.0 counters) }
     ensures back { IfErr result (λ p. (p.seat.table_id ≡ part.seat.table_id) × (p.seat.me.0 ≡ part.seat.me.0)) }
@@ -34,8 +35,8 @@ pub(crate) fn close_one(part: Part) -> Result<[u64; COUNTERS], Part>
     }
 }
 
-// The counters of the words of the only part. If another part is left after all, each counter is taken as a drain takes
-// it, so that no quantity is lost or invented.
+// The counters of the words of the only part. If there is another part after all, takes each counter as a drain does, so
+// that no quantity is lost or invented.
 fn close_or_take(part: Part) -> [u64; COUNTERS]
     ensures { IsClosed part.seat.me.0 result }
 {
@@ -45,14 +46,14 @@ fn close_or_take(part: Part) -> [u64; COUNTERS]
     }
 }
 
-// The counters of the words, where no third part of them is left.
+// The counters, if there is no third part of the words. Otherwise both parts come back.
 pub(crate) fn close_both(mut first: Part, second: Part) -> Result<[u64; COUNTERS], (Part, Part)>
     requires same { second.seat.table_id ≡ first.seat.table_id }
     requires quiet { IsQuiet first.seat.me.0 × IsQuiet second.seat.me.0 }
     ensures closed { IfOk result (λ counters. IsClosed (first.seat.me.0 ++ second.seat.me.0) counters) }
     ensures back { IfErr result (λ parts. (parts.0 ≡ first) × (parts.1 ≡ second)) }
 {
-    // If the count is 2, these two parts have all the handles, so nobody can clone one meanwhile.
+    // If the count is 2, these two parts own every handle, so no other thread can clone one meanwhile.
     if Arc::strong_count(&first.words) != 2 {
         return Err((first, second));
     }

@@ -1,6 +1,6 @@
 //! The steps of a drain.
-ghost use Rattle.std.specs.Prelude.{◌≡◌, ◌≢◌, ℕ, false, ◌+◌, ◌*◌, ◌<◌, ◌++◌, length, slice_index};
-ghost use Rattle.sentry_parts.specs.LossWords.{IsQuiet, the_counters, the_flags, per_flag, the_flag, steps_to_take, steps_to_drain_flag, IsDrain};
+ghost use Rattle.std.specs.Prelude.{◌≡◌, ◌≢◌, ℕ, false, ◌+◌, ◌*◌, ◌<◌, ◌++◌, slice_index};
+ghost use Rattle.sentry_parts.specs.LossWords.{IsQuiet, the_flags, per_flag, the_flag, steps_to_take, steps_to_drain_flag, IsDrain};
 
 use crate::client_reports::part::{COUNTERS, FLAGS, PER_FLAG, Part};
 
@@ -45,6 +45,7 @@ fn drain_flag(part: &mut Part, flag: usize, taken: &mut [u64; COUNTERS]) -> bool
     up
 }
 
+// Lowers each flag in turn, and takes the counters of those that were up.
 pub(crate) fn drain_all(part: &mut Part) -> [u64; COUNTERS]
     requires { IsQuiet part.old.seat.me.0 }
     ensures words { part.new.seat.table_id ≡ part.old.seat.table_id }

@@ -1,11 +1,11 @@
 //! The steps that record losses.
-ghost use Rattle.std.specs.Prelude.{◌≡◌, ℕ, ◌+◌, ◌<◌, ◌≤◌, true, ◌++◌, length, drop, slice_index};
+ghost use Rattle.std.specs.Prelude.{◌≡◌, ℕ, ◌+◌, ◌<◌, ◌≤◌, true, ◌++◌, drop, slice_index};
 ghost use Rattle.sentry_parts.specs.LossWords.{IsQuiet, the_counters, steps_to_record_one, steps_to_record_from, steps_to_record};
 
 use crate::client_reports::part::{COUNTERS, PER_FLAG, Part};
 use sentry_base::protocol::{CATEGORIES, REASONS};
 
-// One add and one raise, if there is anything to add.
+// Adds the quantity to its counter and raises the flag, unless the quantity is 0.
 fn record_one(part: &mut Part, counter: usize, quantity: u64)
     requires inside { counter < the_counters }
     requires quiet { IsQuiet part.old.seat.me.0 }
@@ -19,7 +19,7 @@ fn record_one(part: &mut Part, counter: usize, quantity: u64)
     }
 }
 
-// Whether nothing is lost under any of nine indexes, without a branch for each.
+// Whether nothing is lost under any reason of one category, without a branch for each reason.
 fn is_lossless(quantities: &[u64; COUNTERS], first: usize) -> bool
     requires { first + REASONS ≤ the_counters }
     ensures { result ≡ true → (k : ℕ) → k < REASONS → slice_index quantities.now (first + k) ≡ 0 }
@@ -35,7 +35,7 @@ fn is_lossless(quantities: &[u64; COUNTERS], first: usize) -> bool
         & (quantities[first + 8] == 0)
 }
 
-// The quantities of one category, which stand side by side.
+// Records the quantities of one category, which stand side by side from `first` on.
 fn record_category(part: &mut Part, quantities: &[u64; COUNTERS], first: usize)
     requires inside { first + REASONS ≤ the_counters }
     requires quiet { IsQuiet part.old.seat.me.0 }
@@ -52,6 +52,7 @@ fn record_category(part: &mut Part, quantities: &[u64; COUNTERS], first: usize)
     }
 }
 
+// Records all quantities, in index order.
 pub(crate) fn record_all(part: &mut Part, quantities: &[u64; COUNTERS])
     requires { IsQuiet part.old.seat.me.0 }
     ensures words { part.new.seat.table_id ≡ part.old.seat.table_id }
