@@ -1,7 +1,7 @@
 //! The engine over boxed callbacks.
 use crate::boxed::ClientCallbacks;
 pub use sentry_engine::call::run;
-pub use sentry_engine::engine::{Client, NextNumbers, Out};
+pub use sentry_engine::engine::Out;
 use sentry_state::callbacks::BoxedEventCallback;
 
 /// An engine.
