@@ -1,5 +1,5 @@
 //! A first program: a client with a `before_send` and an integration, a hub with a tag, a message, and the envelope that
-//! is to be sent, printed.
+//! comes of it, printed.
 #![tactic(auto)]
 
 mod callbacks;
