@@ -7,7 +7,7 @@ use Rattle.sentry_plain.specs.Texts.{Bytes}
 
 -- ---- headers
 
--- the headers that can carry what is private to a user, in capitals and with `_` between words
+-- the headers that may carry private data of a user, in capitals and with `_` between words
 abbrev pub sensitive_headers : List Bytes
 sensitive_headers =
     codes "AUTHORIZATION" ∷ codes "PROXY_AUTHORIZATION" ∷ codes "COOKIE" ∷ codes "SET_COOKIE"
