@@ -1,7 +1,8 @@
 //! Helpers for integrations: sensitive headers, URLs with credentials, and the type names in debug texts.
-ghost use Rattle.std.specs.Prelude.{◌≡◌, ◌==◌, bytes_eq, map, position};
+ghost use Rattle.std.specs.Prelude.{◌≡◌, ◌==◌, IfErr, IfOk, bytes_eq, map, position};
 ghost use Rattle.std.specs.List.{list_all, zip};
-ghost use Rattle.sentry_base.specs.UtilityTexts.{header_letter, is_sensitive, ends_type, type_of_debug};
+ghost use Rattle.sentry_base.specs.UtilityTexts.{ends_type, header_letter, is_sensitive, type_of_debug};
+ghost use Rattle.sentry_base.specs.UtilityTexts.{ignore_unless_out_of_memory, scrub_pii_from_url};
 
 mod error_event;
 
@@ -52,7 +53,10 @@ fn header_letter(byte: u8) -> u8
 }
 
 /// Replaces the user name and the password of a URL, if it has them, by `[Filtered]` in percent-encoding.
-pub fn scrub_pii_from_url(mut url: Url) -> Result<Url, Refusal> {
+pub fn scrub_pii_from_url(mut url: Url) -> Result<Url, Refusal>
+    ensures ok { IfOk result (λ scrubbed. scrubbed ≡ scrub_pii_from_url url) }
+    ensures err { IfErr result (λ refusal. refusal ≡ Refusal.OutOfMemory) }
+{
     if !url.username().is_empty() {
         ignore_unless_out_of_memory(url.set_username(PII_REPLACEMENT))?;
     }
@@ -63,7 +67,9 @@ pub fn scrub_pii_from_url(mut url: Url) -> Result<Url, Refusal> {
 }
 
 // Ignores that a URL of this kind can't have a user name or a password.
-fn ignore_unless_out_of_memory(set: ParseResult<()>) -> Result<(), Refusal> {
+fn ignore_unless_out_of_memory(set: ParseResult<()>) -> Result<(), Refusal>
+    ensures { result ≡ ignore_unless_out_of_memory set }
+{
     match set {
         Err(ParseError::OutOfMemory | ParseError::Overflow) => Err(Refusal::OutOfMemory),
         _ => Ok(()),
