@@ -1,5 +1,5 @@
 -- The callbacks of a scenario, as partial functions on events.
-use Rattle.std.specs.Prelude.{Bool, ◌==◌, Some, None, Option, if◌then◌else◌, codes, unwrap_or}
+use Rattle.std.specs.Prelude.{Bool, ◌==◌, Some, None, [], if◌then◌else◌, codes, unwrap_or}
 use Rattle.std.specs.List.{starts_with}
 use Rattle.sentry_plain.specs.Texts.{Bytes, put}
 use Rattle.sentry_plain.specs.Defaults.{with_default}

@@ -86,7 +86,7 @@ fn exception_event(
 
 impl Scenario {
     /// Captures what a line asks for.
-    pub fn capture<'a>(&mut self, command: CaptureCommand<'_>) -> Result<Answer<'a>, Failure> {
+    pub fn capture<'a>(&mut self, command: &CaptureCommand<'_>) -> Result<Answer<'a>, Failure> {
         let hub = hub_key(command.hub);
         let fresh = self.fresh();
         let text = command.text;

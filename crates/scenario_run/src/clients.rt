@@ -48,12 +48,12 @@ impl Scenario {
     /// Does a command on clients or sampling.
     pub fn perform_on_client<'a>(
         &mut self,
-        command: ClientCommand<'_>,
+        command: &ClientCommand<'_>,
     ) -> Result<Answer<'a>, Failure> {
         match command {
-            ClientCommand::Add { release, options } => Ok(self.add_client(release, options)?),
-            ClientCommand::IsEnabled(client) => Ok(self.is_enabled(client)?),
-            ClientCommand::Sample { millionths, draw } => Ok(self.sample(millionths, draw)?),
+            ClientCommand::Add { release, options } => Ok(self.add_client(*release, *options)?),
+            ClientCommand::IsEnabled(client) => Ok(self.is_enabled(*client)?),
+            ClientCommand::Sample { millionths, draw } => Ok(self.sample(*millionths, *draw)?),
         }
     }
 

@@ -4,7 +4,7 @@ use std::alloc::AllocError;
 use thiserror::Error;
 
 /// Why a run ended before the end of its input. What was printed before stays.
-#[derive(Clone, Copy, Debug, Error, PartialEq, Eq)]
+#[derive(Clone, Copy, Debug, Error)]
 pub enum ScenarioFault {
     /// The line of this number, from 1, fits no form.
     #[error("line {0}: bad command")]
@@ -33,7 +33,7 @@ impl From<AllocError> for ScenarioFault {
 }
 
 /// Why a command has no answer.
-#[derive(Clone, Copy, Debug, PartialEq, Eq)]
+#[derive(Clone, Copy)]
 pub enum Failure {
     /// The line fits no form after all.
     BadCommand,

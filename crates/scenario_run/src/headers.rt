@@ -44,7 +44,7 @@ impl Scenario {
     /// Keeps a header, or reads those that are kept.
     pub fn perform_on_headers<'a>(
         &mut self,
-        command: HeaderCommand<'_>,
+        command: &HeaderCommand<'_>,
     ) -> Result<Answer<'a>, Failure> {
         let reply = match command {
             HeaderCommand::Keep { name, value } => {

@@ -20,25 +20,18 @@ fn read(line: &[u8]) -> Option<Command<'_>> {
     }
 }
 
-/// Does a command, and does it once more where memory is refused, since nothing has changed then.
-fn perform<'a>(
-    scenario: &mut Scenario,
-    number: u64,
-    command: Command<'a>,
-) -> Result<Answer<'a>, Failure> {
-    match scenario.perform(number, command) {
-        Err(Failure::Refused(Refusal::OutOfMemory)) => scenario.perform(number, command),
-        performed => performed,
-    }
-}
-
-/// What a command comes to, a refusal among the answers.
+/// Does a command, and does it once more where memory is refused, since nothing has changed then. A refusal for another
+/// cause is an answer.
 fn answer<'a>(
     scenario: &mut Scenario,
     number: u64,
-    command: Command<'a>,
+    command: &Command<'a>,
 ) -> Result<Answer<'a>, ScenarioFault> {
-    match perform(scenario, number, command) {
+    let performed = match scenario.perform(number, command) {
+        Err(Failure::Refused(Refusal::OutOfMemory)) => scenario.perform(number, command),
+        performed => performed,
+    };
+    match performed {
         Ok(answer) => Ok(answer),
         Err(Failure::BadCommand) => Err(ScenarioFault::BadCommand(number)),
         Err(Failure::Refused(Refusal::OutOfMemory)) => Err(ScenarioFault::OutOfMemory),
@@ -64,7 +57,7 @@ fn play(
     let Some(command) = read(line) else {
         return Err(ScenarioFault::BadCommand(number));
     };
-    let answer = answer(scenario, number, command)?;
+    let answer = answer(scenario, number, &command)?;
     match print(text, &answer) {
         Ok(()) => Ok(()),
         Err(_) => Ok(print(text, &answer)?),

@@ -86,12 +86,12 @@ impl Scenario {
 
     /// Does a command on the line of this number. Where memory is refused nothing has changed, so that the command may
     /// be done once more.
-    pub fn perform<'a>(&mut self, line: u64, command: Command<'a>) -> Result<Answer<'a>, Failure> {
+    pub fn perform<'a>(&mut self, line: u64, command: &Command<'a>) -> Result<Answer<'a>, Failure> {
         self.line = line;
         match command {
-            Command::Setting(setting) => Ok(self.set(setting)),
+            Command::Setting(setting) => Ok(self.set(*setting)),
             Command::Client(command) => self.perform_on_client(command),
-            Command::Hub(command) => self.perform_on_hub(command),
+            Command::Hub(command) => self.perform_on_hub(*command),
             Command::Scope(command) => self.configure(command),
             Command::Capture(command) => self.capture(command),
             Command::Header(command) => self.perform_on_headers(command),

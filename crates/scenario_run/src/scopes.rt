@@ -54,14 +54,14 @@ impl<'a> ScopeCommand<'a> {
     }
 }
 
-fn edit(alloc: Global, change: ScopeChange<'_>) -> Result<ScopeEdit<Handler>, AllocError> {
+fn edit(alloc: Global, change: &ScopeChange<'_>) -> Result<ScopeEdit<Handler>, AllocError> {
     match change {
         ScopeChange::SetTag { key, value } => Ok(ScopeEdit::SetTag(
             Text::new(alloc, key)?,
             Text::new(alloc, value)?,
         )),
         ScopeChange::RemoveTag(key) => Ok(ScopeEdit::RemoveTag(Text::new(alloc, key)?)),
-        ScopeChange::SetLevel(level) => Ok(ScopeEdit::SetLevel(level)),
+        ScopeChange::SetLevel(level) => Ok(ScopeEdit::SetLevel(*level)),
         ScopeChange::AddDropper(prefix) => {
             let prefix = Text::new(alloc, prefix)?;
             Ok(ScopeEdit::AddEventProcessor(Handler::Drop(prefix)))
@@ -76,9 +76,9 @@ fn edit(alloc: Global, change: ScopeChange<'_>) -> Result<ScopeEdit<Handler>, Al
 
 impl Scenario {
     /// Edits the top scope of a hub.
-    pub fn configure<'a>(&mut self, command: ScopeCommand<'_>) -> Result<Answer<'a>, Failure> {
+    pub fn configure<'a>(&mut self, command: &ScopeCommand<'_>) -> Result<Answer<'a>, Failure> {
         let mut edits = Items::new(self.alloc);
-        edits.push(edit(self.alloc, command.change)?)?;
+        edits.push(edit(self.alloc, &command.change)?)?;
         let hub = hub_key(command.hub);
         let now = self.moment();
         let out = self.engine.configure(hub, edits.into_vec(), now)?;

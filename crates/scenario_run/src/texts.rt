@@ -57,7 +57,7 @@ fn scrub<'a>(alloc: Global, text: &str) -> Result<Reply<'a>, Failure> {
 
 impl Scenario {
     /// Answers what a line asks of a text.
-    pub fn read_text<'a>(&self, command: TextCommand<'a>) -> Result<Answer<'a>, Failure> {
+    pub fn read_text<'a>(&self, command: &TextCommand<'a>) -> Result<Answer<'a>, Failure> {
         let reply = match command {
             TextCommand::Dsn(text) => read_dsn(self.alloc, text)?,
             TextCommand::DebugType(text) => Reply::DebugType(parse_type_from_debug(text)),

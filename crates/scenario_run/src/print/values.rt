@@ -1,7 +1,7 @@
 //! Values: a text as it is, any other as compact JSON.
 use crate::print::Shown;
 use crate::print::lists::{PLAIN, push_entries};
-use sentry_plain::{Value, ValueMap};
+use sentry_plain::{Value, ValueMap, Values};
 use std::alloc::AllocError;
 
 impl Shown for Value {
@@ -26,33 +26,39 @@ fn push_json(text: &mut String, value: &Value) -> Result<(), AllocError> {
         Value::Bool(truth) => write!(text, "{truth}"),
         Value::Int(number) => write!(text, "{number}"),
         Value::Text(value) => push_quoted(text, value.as_str()),
-        Value::List(values) => push_json_list(text, values.as_slice()),
+        Value::List(values) => push_json_list(text, values),
         Value::Map(map) => push_json_map(text, map),
     }
 }
 
 #[cycle(json)]
-fn push_json_list(text: &mut String, values: &[Value]) -> Result<(), AllocError> {
-    let mut before = "[";
-    for value in values {
-        text.push_str(before)?;
+fn push_json_list(text: &mut String, values: &Values) -> Result<(), AllocError> {
+    text.push_str("[")?;
+    let mut is_first = true;
+    for value in values.as_slice() {
+        if !is_first {
+            text.push_str(",")?;
+        }
         push_json(text, value)?;
-        before = ",";
+        is_first = false;
     }
-    text.push_str(if values.is_empty() { "[]" } else { "]" })
+    text.push_str("]")
 }
 
 #[cycle(json)]
 fn push_json_map(text: &mut String, map: &ValueMap) -> Result<(), AllocError> {
-    let mut before = "{";
+    text.push_str("{")?;
+    let mut is_first = true;
     for (key, value) in map.iter() {
-        text.push_str(before)?;
+        if !is_first {
+            text.push_str(",")?;
+        }
         push_quoted(text, key.as_str())?;
         text.push_str(":")?;
         push_json(text, value)?;
-        before = ",";
+        is_first = false;
     }
-    text.push_str(if map.is_empty() { "{}" } else { "}" })
+    text.push_str("}")
 }
 
 fn push_quoted(text: &mut String, value: &str) -> Result<(), AllocError> {
