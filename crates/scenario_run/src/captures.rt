@@ -8,23 +8,31 @@ use sentry_base::protocol::{Event, Exception, Fresh, Level, Mechanism};
 use sentry_plain::Text;
 use std::alloc::{AllocError, Global};
 
-/// What a line captures on a hub, at this level and with this text.
+/// What a line captures on a hub.
 #[derive(Clone, Copy)]
 pub struct CaptureCommand<'a> {
     hub: u64,
-    level: Level,
-    text: &'a str,
-    kind: CaptureKind,
+    capture: Capture<'a>,
 }
 
 #[derive(Clone, Copy)]
-enum CaptureKind {
+enum Capture<'a> {
     /// `message H LEVEL REST`
-    Message,
+    Message {
+        level: Level,
+        message: &'a str,
+    },
     /// `exception H LEVEL HANDLED REST`
-    Exception { handled: Option<bool> },
+    Exception {
+        level: Level,
+        handled: Option<bool>,
+        value: &'a str,
+    },
     /// `rich H LEVEL REST`
-    Rich,
+    Rich {
+        level: Level,
+        message: &'a str,
+    },
 }
 
 impl<'a> CaptureCommand<'a> {
@@ -32,22 +40,23 @@ impl<'a> CaptureCommand<'a> {
     pub fn read(name: &str, words: Words<'a>) -> Option<CaptureCommand<'a>> {
         let mut words = words;
         let hub = words.number()?;
-        let level = words.level()?;
-        let kind = match name {
-            "message" => CaptureKind::Message,
-            "exception" => CaptureKind::Exception {
-                handled: handled(words.word()?)?,
+        let capture = match name {
+            "message" => Capture::Message {
+                level: words.level()?,
+                message: words.rest()?,
             },
-            "rich" => CaptureKind::Rich,
+            "exception" => Capture::Exception {
+                level: words.level()?,
+                handled: handled(words.word()?)?,
+                value: words.rest()?,
+            },
+            "rich" => Capture::Rich {
+                level: words.level()?,
+                message: words.rest()?,
+            },
             _ => return None,
         };
-        let text = words.rest()?;
-        Some(CaptureCommand {
-            hub,
-            level,
-            text,
-            kind,
-        })
+        Some(CaptureCommand { hub, capture })
     }
 }
 
@@ -63,6 +72,7 @@ fn handled(word: &str) -> Option<Option<bool>> {
 /// An event without a message, of one exception. It has a mechanism where it is known whether it was handled.
 fn exception_event(
     alloc: Global,
+    level: Level,
     handled: Option<bool>,
     value: &str,
     fresh: Fresh,
@@ -80,6 +90,7 @@ fn exception_event(
         mechanism,
     };
     let mut event = Event::new(alloc, fresh.uuid, fresh.now)?;
+    event.level = level;
     event.exception.push(exception)?;
     Ok(event)
 }
@@ -89,20 +100,18 @@ impl Scenario {
     pub fn capture<'a>(&mut self, command: &CaptureCommand<'_>) -> Result<Answer<'a>, Failure> {
         let hub = hub_key(command.hub);
         let fresh = self.fresh();
-        let text = command.text;
-        let mut event = match command.kind {
-            CaptureKind::Message => {
-                let out = self
-                    .engine
-                    .capture_message(hub, text, command.level, fresh)?;
+        let event = match command.capture {
+            Capture::Message { level, message } => {
+                let out = self.engine.capture_message(hub, message, level, fresh)?;
                 return Ok(Answer::of_sent(out));
             }
-            CaptureKind::Exception { handled } => {
-                exception_event(self.alloc, handled, text, fresh)?
-            }
-            CaptureKind::Rich => rich_event(self.alloc, text, fresh)?,
+            Capture::Exception {
+                level,
+                handled,
+                value,
+            } => exception_event(self.alloc, level, handled, value, fresh)?,
+            Capture::Rich { level, message } => rich_event(self.alloc, level, message, fresh)?,
         };
-        event.level = command.level;
         Ok(Answer::of_sent(self.engine.capture_event(hub, event, fresh)?))
     }
 }

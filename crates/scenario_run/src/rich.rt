@@ -1,6 +1,6 @@
 //! The event of a `rich` line, which has something of everything that clients and scopes fill in.
 use sentry_base::protocol::{
-    Breadcrumb, ClientSdkInfo, Context, Event, Fresh, User, Value, ValueMap,
+    Breadcrumb, ClientSdkInfo, Context, Event, Fresh, Level, User, Value, ValueMap,
 };
 use sentry_plain::{Items, Text};
 use std::alloc::{AllocError, Global};
@@ -73,8 +73,14 @@ fn set_details(alloc: Global, event: &mut Event, now: u64) -> Result<(), AllocEr
 }
 
 /// An event with this message, and with parts of its own for all that is filled in where it is absent.
-pub fn rich_event(alloc: Global, message: &str, fresh: Fresh) -> Result<Event, AllocError> {
+pub fn rich_event(
+    alloc: Global,
+    level: Level,
+    message: &str,
+    fresh: Fresh,
+) -> Result<Event, AllocError> {
     let mut event = Event::new(alloc, fresh.uuid, fresh.now)?;
+    event.level = level;
     event.message = Some(Text::new(alloc, message)?);
     set_names(alloc, &mut event)?;
     set_details(alloc, &mut event, fresh.now)?;

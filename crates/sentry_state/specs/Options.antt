@@ -1,6 +1,6 @@
 -- A client's options: their defaults, and the limits on the bodies of requests.
 use Rattle.std.specs.Prelude.{◌≡◌, ℕ, Bool, true, false, nat_le, Option, Some, None, Result, Ok, Err, [], if◌then◌else◌}
-use Rattle.sentry_base.specs.declared.dsn.Dsn.{Dsn}
+use Rattle.sentry_base.specs.DsnParts.{DsnParts}
 use Rattle.sentry_base.specs.declared.protocol.refusal.Refusal.{Refusal}
 use Rattle.sentry_base.specs.declared.protocol.refusal.Refusal.TheVariants.{OutOfMemory, InvalidRate}
 use Rattle.sentry_plain.specs.Texts.{Bytes}
@@ -74,11 +74,11 @@ Makes (Err refusal) expected = refusal ≡ OutOfMemory
 
 module _ {C : Type 0} where
   -- the options with this DSN, or none
-  abbrev pub with_dsn : ClientOptions C → Option Dsn → ClientOptions C
+  abbrev pub with_dsn : ClientOptions C → Option DsnParts → ClientOptions C
   with_dsn options dsn = record options { plain = record options.plain { dsn = dsn } }
 
   -- the options with what was read as a DSN, or the refusal of the reading
-  abbrev pub with_dsn_read : ClientOptions C → Result (Option Dsn) Refusal → Result (ClientOptions C) Refusal
+  abbrev pub with_dsn_read : ClientOptions C → Result (Option DsnParts) Refusal → Result (ClientOptions C) Refusal
   with_dsn_read options (Ok dsn) = Ok (with_dsn options dsn)
   with_dsn_read options (Err refusal) = Err refusal
 
