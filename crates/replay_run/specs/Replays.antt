@@ -8,7 +8,7 @@ use Rattle.sentry_base.specs.declared.protocol.fresh.Fresh.{Fresh}
 use Rattle.sentry_base.specs.declared.protocol.refusal.Refusal.{Refusal}
 use Rattle.sentry_base.specs.declared.protocol.refusal.Refusal.TheVariants as refusal
 use Rattle.sentry_base.specs.DsnTexts.{dsn_of_text}
-use Rattle.sentry_base.specs.declared.dsn.Dsn.{Dsn}
+use Rattle.sentry_base.specs.DsnParts.{DsnParts}
 use Rattle.sentry_state.specs.Options.{default_plain_options, default_options_with}
 use Rattle.sentry_state.specs.declared.clientoptions.ClientOptions.{ClientOptions}
 use Rattle.sentry_state.specs.Scopes.{new_scope}
@@ -50,7 +50,7 @@ fresh_of number = record {
 }
 
 -- the DSN that a text spells, if it spells one
-unfoldable pub spelled_dsn : Bytes → Option Dsn
+unfoldable pub spelled_dsn : Bytes → Option DsnParts
 spelled_dsn text = result_ok (dsn_of_text text)
 
 -- the options of a client: its release and where its events go
