@@ -87,10 +87,11 @@ fn truth(alloc: Global, value: Value) -> Result<ValueMap, AllocError> {
     Ok(map)
 }
 
-/// The nested map, where a map with no truth has won.
+/// The nested map, where a map with no truth overrides it.
 fn nested_without_truth(alloc: Global) -> Result<ValueMap, AllocError> {
-    let wins = truth(alloc, Value::Null)?;
-    copy_of_nested(alloc)?.merge(&wins)
+    let mut map = copy_of_nested(alloc)?;
+    map.merge(&truth(alloc, Value::Null)?)?;
+    Ok(map)
 }
 
 fn copy_of_nested(alloc: Global) -> Result<ValueMap, AllocError> {
@@ -218,8 +219,9 @@ fn old_numbers(alloc: Global) -> Result<TextMap<u64>, AllocError> {
 }
 
 fn merged_numbers(alloc: Global) -> Result<TextMap<u64>, AllocError> {
-    let wins = numbers(alloc, ("c", 30), ("b", 20))?;
-    old_numbers(alloc)?.clone()?.merge(&wins)
+    let mut map = old_numbers(alloc)?.clone()?;
+    map.merge(&numbers(alloc, ("c", 30), ("b", 20))?)?;
+    Ok(map)
 }
 
 fn numbers_held(map: &TextMap<u64>) -> [Option<u64>; 3] {

@@ -61,7 +61,7 @@ appends_kept (Some x) (Some y) None first a k = absurd k
 appends_kept (Some x) (Some y) (Some z) first a k = k ∙ a
 
 -- a line that isn't empty, and the answer to its command
-pub leads : (world next : World NoProcessor NoCallbacks) (number : ℕ) (line : Bytes) (command : Command) (answer : Result (Out (Reply NoCallbacks)) Refusal) → line ≢ [] → Spells line command → Answers world (call_of number command) answer next → Leads world number line (answer_text answer) next
+pub leads : (world next : World NoProcessor NoCallbacks) (number : ℕ) (line : Bytes) (command : Command) (answer : Result (Out (Reply NoProcessor NoCallbacks)) Refusal) → line ≢ [] → Spells line command → Answers world (call_of number command) answer next → Leads world number line (answer_text answer) next
 leads world next number [] command answer some spells answers = absurd (some refl)
 leads world next number (b ∷ bs) command answer some spells answers = (command, answer, spells, answers, refl)
 

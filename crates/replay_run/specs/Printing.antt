@@ -17,6 +17,7 @@ use Rattle.sentry_base.specs.declared.protocol.keys.ClientKey.{ClientKey}
 use Rattle.sentry_base.specs.declared.protocol.refusal.Refusal.{Refusal}
 use Rattle.sentry_engine.specs.declared.engine.Out.{Out}
 use Rattle.sentry_engine.specs.declared.call.Reply.{Reply}
+use Rattle.replay_run.specs.declared.uncalled.NoProcessor.{NoProcessor}
 use Rattle.replay_run.specs.declared.uncalled.NoCallbacks.{NoCallbacks}
 use Rattle.replay_run.specs.Commands.{level_word}
 
@@ -53,6 +54,6 @@ abbrev pub envelope_line : ClientKey → Envelope → Bytes
 envelope_line client envelope = codes "envelope " ++ decimal client.number ++ codes " " ++ join_by item_text (codes " | ") envelope.items ++ 10 ∷ []
 
 -- a line for each envelope that was handed out, or one for the refusal
-abbrev pub answer_text : Result (Out (Reply NoCallbacks)) Refusal → Bytes
+abbrev pub answer_text : Result (Out (Reply NoProcessor NoCallbacks)) Refusal → Bytes
 answer_text (Ok out) = flat_map (λ sent. envelope_line sent.0 sent.1) out.sent
 answer_text (Err refusal) = codes "refused E" ++ decimal (refusal_number refusal) ++ 10 ∷ []

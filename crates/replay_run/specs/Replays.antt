@@ -8,7 +8,7 @@ use Rattle.sentry_base.specs.declared.protocol.fresh.Fresh.{Fresh}
 use Rattle.sentry_base.specs.declared.protocol.refusal.Refusal.{Refusal}
 use Rattle.sentry_base.specs.declared.protocol.refusal.Refusal.TheVariants as refusal
 use Rattle.sentry_base.specs.DsnTexts.{dsn_of_text}
-use Rattle.sentry_base.specs.declared.dsn.Dsn.{Dsn}
+use Rattle.sentry_base.specs.DsnParts.{DsnParts}
 use Rattle.sentry_state.specs.Options.{default_plain_options, default_options_with}
 use Rattle.sentry_state.specs.declared.clientoptions.ClientOptions.{ClientOptions}
 use Rattle.sentry_state.specs.Scopes.{new_scope}
@@ -50,7 +50,7 @@ fresh_of number = record {
 }
 
 -- the DSN that a text spells, if it spells one
-unfoldable pub spelled_dsn : Bytes → Option Dsn
+unfoldable pub spelled_dsn : Bytes → Option DsnParts
 spelled_dsn text = result_ok (dsn_of_text text)
 
 -- the options of a client: its release and where its events go
@@ -67,20 +67,20 @@ call_of number (Tag hub key value) = call.Configure (record { tag = 0; number = 
 call_of number (Message hub level text) = call.CaptureMessage (record { tag = 0; number = hub }) text level (fresh_of number)
 
 -- the answer is want of memory
-abbrev pub wants_memory : Result (Out (Reply NoCallbacks)) Refusal → Bool
+abbrev pub wants_memory : Result (Out (Reply NoProcessor NoCallbacks)) Refusal → Bool
 wants_memory (Ok out) = false
 wants_memory (Err refusal.OutOfMemory) = true
 wants_memory (Err cause) = false
 
 -- the engine may answer a call so, and not by want of memory
-abbrev pub Answers : World NoProcessor NoCallbacks → Call NoProcessor NoCallbacks → Result (Out (Reply NoCallbacks)) Refusal → World NoProcessor NoCallbacks → Type 0
+abbrev pub Answers : World NoProcessor NoCallbacks → Call NoProcessor NoCallbacks → Result (Out (Reply NoProcessor NoCallbacks)) Refusal → World NoProcessor NoCallbacks → Type 0
 Answers world asked answer next = May unprocessed no_callbacks world asked answer next × (wants_memory answer ≡ false)
 
 -- the line of this number may lead from a world to the next, and print this, which is the engine's answer to its
 -- command; an empty one does nothing
 abbrev pub Leads : World NoProcessor NoCallbacks → ℕ → Bytes → Bytes → World NoProcessor NoCallbacks → Type 0
 Leads world number [] printed next = (printed ≡ []) × (next ≡ world)
-Leads world number (b ∷ bs) printed next = (command : Command) × (answer : Result (Out (Reply NoCallbacks)) Refusal) × Spells (b ∷ bs) command × Answers world (call_of number command) answer next × (printed ≡ answer_text answer)
+Leads world number (b ∷ bs) printed next = (command : Command) × (answer : Result (Out (Reply NoProcessor NoCallbacks)) Refusal) × Spells (b ∷ bs) command × Answers world (call_of number command) answer next × (printed ≡ answer_text answer)
 
 -- the line isn't empty and spells no command
 pub record IsBad (line : Bytes) : Type 0 where

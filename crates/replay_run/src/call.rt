@@ -59,11 +59,9 @@ fn dsn(alloc: Global, text: &str) -> Result<Option<Dsn>, AllocError>
 fn options(alloc: Global, release: Option<Text>) -> Result<ClientOptions<NoCallbacks>, AllocError>
     ensures { IfOk result (λ options. options ≡ client_options release) }
 {
-    let plain = PlainOptions {
-        dsn: dsn(alloc, DSN)?,
-        release,
-        ..PlainOptions::new(alloc)
-    };
+    let mut plain = PlainOptions::new(alloc);
+    plain.dsn = dsn(alloc, DSN)?;
+    plain.release = release;
     Ok(ClientOptions {
         plain,
         traces_sampling_strategy: TracesSamplingStrategy::Disabled,
@@ -85,7 +83,12 @@ pub fn call(
         Command::Client(release) => {
             let options = options(alloc, release)?;
             let label = Label { tag: TAG, number };
-            Ok(Call::AddClient(options, true, label, now))
+            Ok(Call::AddClient {
+                options,
+                transport: true,
+                label,
+                now,
+            })
         }
         Command::Hub(client) => {
             let client = ClientKey {
@@ -93,7 +96,10 @@ pub fn call(
                 number: client,
             };
             let scope = Scope::new(alloc, fresh.trace_id, fresh.span_id);
-            Ok(Call::NewHub(Some(client), scope))
+            Ok(Call::NewHub {
+                client: Some(client),
+                scope,
+            })
         }
         Command::Tag { hub, key, value } => {
             let mut edits = Items::new(alloc);
@@ -102,14 +108,19 @@ pub fn call(
                 tag: TAG,
                 number: hub,
             };
-            Ok(Call::Configure(hub, edits, now))
+            Ok(Call::Configure { hub, edits, now })
         }
         Command::Message { hub, level, text } => {
             let hub = HubKey {
                 tag: TAG,
                 number: hub,
             };
-            Ok(Call::CaptureMessage(hub, text, level, fresh))
+            Ok(Call::CaptureMessage {
+                hub,
+                message: text,
+                level,
+                fresh,
+            })
         }
     }
 }

@@ -5,7 +5,7 @@ ghost use Rattle.std.specs.List.{join_by};
 ghost use Rattle.replay_run.specs.Commands.{level_word};
 ghost use Rattle.replay_run.specs.Printing.{tag_text, tags_text, event_text, attachment_text, loss_text, report_text, item_text, envelope_line, answer_text};
 
-use crate::uncalled::NoCallbacks;
+use crate::uncalled::{NoCallbacks, NoProcessor};
 use sentry_base::protocol::{
     Attachment, ClientKey, ClientReport, ClientReportItem, Envelope, EnvelopeItem, Event, Level,
 };
@@ -165,7 +165,7 @@ fn push_envelopes(text: &mut String, sent: &[(ClientKey, Envelope)]) -> Result<(
 }
 
 /// Appends what is printed of an answer: a line for each envelope, or one for the refusal.
-pub fn push_answer(text: &mut String, answer: &Answer<NoCallbacks>) -> Result<(), AllocError>
+pub fn push_answer(text: &mut String, answer: &Answer<NoProcessor, NoCallbacks>) -> Result<(), AllocError>
     ensures { OnOk result (string_bytes text.new ≡ string_bytes text.old ++ answer_text answer.now) }
 {
     match answer {

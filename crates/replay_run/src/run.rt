@@ -16,7 +16,7 @@ use std::alloc::{AllocError, Global};
 use std::io::{BufRead, Write};
 
 /// Whether memory was wanting.
-fn wants_memory(answer: &Answer<NoCallbacks>) -> bool
+fn wants_memory(answer: &Answer<NoProcessor, NoCallbacks>) -> bool
     ensures { result ≡ wants_memory answer.now }
 {
     match answer {
@@ -31,7 +31,7 @@ fn answer(
     engine: &mut Engine<NoProcessor, NoCallbacks>,
     number: u64,
     command: Command,
-) -> Result<Answer<NoCallbacks>, AllocError>
+) -> Result<Answer<NoProcessor, NoCallbacks>, AllocError>
     ensures { IfOk result (λ answer. (world : World NoProcessor NoCallbacks) → Stands engine.old world →
         (next : World NoProcessor NoCallbacks) × Answers world (call_of number command) answer next × Stands engine.new next) }
 {

@@ -2,7 +2,7 @@
 use crate::fault::ReplayFault;
 use crate::print::push_answer;
 use crate::run::run_replay;
-use crate::uncalled::NoCallbacks;
+use crate::uncalled::{NoCallbacks, NoProcessor};
 use sentry_base::protocol::{
     Attachment, Category, ClientKey, ClientReport, ClientReportItem, Envelope, EnvelopeHeaders,
     EnvelopeItem, Event, Reason, Uuid,
@@ -194,7 +194,7 @@ fn report(alloc: Global) -> Result<EnvelopeItem, AllocError> {
     Ok(EnvelopeItem::ClientReport(ClientReport { items }))
 }
 
-fn answer(alloc: Global, items: Items<EnvelopeItem>) -> Result<Answer<NoCallbacks>, AllocError> {
+fn answer(alloc: Global, items: Items<EnvelopeItem>) -> Result<Answer<NoProcessor, NoCallbacks>, AllocError> {
     let header = EnvelopeHeaders {
         event_id: None,
         trace: None,

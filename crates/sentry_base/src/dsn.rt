@@ -1,7 +1,9 @@
 //! Texts that name a project and where its events go.
-ghost use Rattle.std.specs.Prelude.{◌≡◌, ◌⊎◌, [], ◌≢◌, Some, Ok, IfOk, option_copied, length, ◌≤◌, ◌^◌, not};
-ghost use Rattle.url.specs.Parser.{parse_url};
-ghost use Rattle.sentry_base.specs.DsnTexts.{is_empty, project_of, scheme_of, default_port_of, organization_of_host, with_host, dsn_of, dsn_of_text, GivesDsn, IsRefusedAsTooLong, project_id_of};
+ghost use Rattle.std.specs.Prelude.{◌≡◌, ◌⊎◌, Err, IfOk, IsOk, Ok, Some, not};
+ghost use Rattle.sentry_base.specs.DsnTexts.{GivesDsn, HostNames, IsRefusedAsTooLong};
+ghost use Rattle.sentry_base.specs.DsnTexts.{default_port_of, dsn_of, dsn_of_text, is_empty, organization_of_host};
+ghost use Rattle.sentry_base.specs.DsnTexts.{project_id_of, project_of, scheme_of, with_host};
+ghost use Rattle.sentry_base.specs.Readings.{IsReading};
 
 mod into_dsn;
 
@@ -10,6 +12,7 @@ pub use into_dsn::IntoDsn;
 use sentry_plain::Text;
 use std::alloc::{AllocError, Global};
 use std::fmt;
+use std::marker::Model;
 use thiserror::Error;
 use url::{ParseError, Url};
 
@@ -76,34 +79,56 @@ impl fmt::Display for Scheme {
     }
 }
 
-/// Names a project.
-#[derive(Clone, Debug, Drop, PartialEq, Eq)]
+/// Names a project. Contracts see the name.
+#[derive(Debug, Drop, PartialEq, Eq)]
 pub struct ProjectId {
-    text: Text,
+    name: Text,
+}
+
+impl Model for ProjectId {
+    ghost use Rattle.sentry_plain.specs.Texts.{Bytes};
+
+    ghost Value = { Bytes };
+
+    ghost view = { λ project. project.name };
+
+    ghost inverse = { λ name. record { name = name } };
+}
+
+impl Clone for ProjectId {
+    ghost is_clone = { λ old new. new ≡ old };
+
+    fn clone(&self) -> Result<ProjectId, AllocError> {
+        Ok(ProjectId {
+            name: self.name.clone()?,
+        })
+    }
 }
 
 impl ProjectId {
     /// The project of this name. The empty text is refused as `InvalidProjectId`.
     pub fn new(alloc: Global, name: &str) -> Result<ProjectId, Refusal>
-        ensures { GivesDsn result (project_id_of name.now) }
+        ensures answer { GivesDsn result (project_id_of name.now) }
+        // A refusal takes no memory.
+        ensures memory { result ≡ Err Refusal.OutOfMemory → IsOk (project_id_of name.now) }
     {
         if name.is_empty() {
             return Err(Refusal::InvalidDsn(ParseDsnError::InvalidProjectId));
         }
         Ok(ProjectId {
-            text: Text::new(alloc, name)?,
+            name: Text::new(alloc, name)?,
         })
     }
 
     /// The name.
     pub fn value(&self) -> &str
-        ensures { result.now ≡ self.now.text }
+        ensures { result.now ≡ self.now }
     {
-        self.text.as_str()
+        self.name.as_str()
     }
 }
 
-/// The last segment of a path that isn't empty, or the empty text.
+// The last segment of a path that isn't empty, or the empty text.
 fn project_of(path: &str) -> &str
     ensures { result.now ≡ project_of path.now }
 {
@@ -117,17 +142,18 @@ fn project_of(path: &str) -> &str
         .unwrap_or("")
 }
 
-/// The organization that a host names at its front, as `o42.example.com` does.
+// The organization that a host names at its front, as `o42.example.com` does.
 fn organization_of_host(host: &str) -> Option<OrganizationId>
-    ensures { result ≡ organization_of_host host.now }
+    ensures value { result ≡ organization_of_host host.now }
+    ensures names { IsReading HostNames host.now result }
 {
     let (label, _) = host.split_once('.')?;
     let digits = label.strip_prefix('o')?;
     OrganizationId::parse(digits)
 }
 
-/// Where events go: a project, and the server and key by which it is reached.
-#[derive(Clone, Debug, PartialEq, Eq)]
+/// Where events go: a project, and the server and key by which it is reached. Contracts see these parts.
+#[derive(Debug, PartialEq, Eq)]
 pub struct Dsn {
     scheme: Scheme,
     public_key: Text,
@@ -136,6 +162,32 @@ pub struct Dsn {
     project_id: ProjectId,
     org_id: Option<OrganizationId>,
     text: Text,
+}
+
+impl Model for Dsn {
+    ghost use Rattle.sentry_base.specs.DsnParts.{DsnParts};
+
+    ghost Value = { DsnParts };
+
+    ghost view = { λ dsn. record {
+      scheme = dsn.scheme;
+      public_key = dsn.public_key;
+      host = dsn.host;
+      port = dsn.port;
+      project = dsn.project_id;
+      organization = dsn.org_id;
+      text = dsn.text;
+    } };
+
+    ghost inverse = { λ parts. record {
+      scheme = parts.scheme;
+      public_key = parts.public_key;
+      host = parts.host;
+      port = parts.port;
+      project_id = parts.project;
+      org_id = parts.organization;
+      text = parts.text;
+    } };
 }
 
 impl Drop for Dsn {
@@ -152,13 +204,31 @@ impl Drop for Dsn {
     }
 }
 
+impl Clone for Dsn {
+    ghost is_clone = { λ old new. new ≡ old };
+
+    fn clone(&self) -> Result<Dsn, AllocError> {
+        Ok(Dsn {
+            scheme: self.scheme,
+            public_key: self.public_key.clone()?,
+            host: self.host.clone()?,
+            port: self.port,
+            project_id: self.project_id.clone()?,
+            org_id: self.org_id,
+            text: self.text.clone()?,
+        })
+    }
+}
+
 impl Dsn {
     /// From this length on, a text may be refused as too long for `url`, whose texts stay below 4 GB.
     const LONG_TEXT: usize = 1 << 24;
 
-    /// Reads a DSN. It is refused as `InvalidUrl` where it is no URL or has no host, `NoProjectId` where its path has no
-    /// name between slashes, `NoUsername`, and `InvalidScheme` at another scheme than `http` and `https`: of several, as
-    /// the first in the order no URL, no project, no user name, scheme, no host.
+    /// Reads a DSN.
+    ///
+    /// The text is refused with the first cause that applies: `InvalidUrl` if it is no URL, `NoProjectId` if its path
+    /// names no project, `NoUsername`, `InvalidScheme` if the scheme is neither `http` nor `https`, and `InvalidUrl` if
+    /// it has no host.
     pub fn parse(alloc: Global, text: &str) -> Result<Dsn, Refusal>
         ensures { GivesDsn result (dsn_of_text text.now) ⊎ IsRefusedAsTooLong result text.now }
     {
@@ -170,8 +240,11 @@ impl Dsn {
         }
     }
 
+    // The DSN that a URL is.
     fn from_url(alloc: Global, url: &Url) -> Result<Dsn, Refusal>
-        ensures { GivesDsn result (dsn_of url.now) }
+        ensures answer { GivesDsn result (dsn_of url.now) }
+        // A refusal takes no memory.
+        ensures memory { result ≡ Err Refusal.OutOfMemory → IsOk (dsn_of url.now) }
     {
         let project = project_of(url.path());
         if project.is_empty() {
@@ -199,7 +272,7 @@ impl Dsn {
             host: Text::new(alloc, host)?,
             port: url.port().unwrap_or(scheme.default_port()),
             project_id: ProjectId {
-                text: Text::new(alloc, project_of(url.path()))?,
+                name: Text::new(alloc, project_of(url.path()))?,
             },
             org_id: organization_of_host(host),
             text: Text::new(alloc, url.as_str())?,
@@ -236,14 +309,14 @@ impl Dsn {
 
     /// The project.
     pub fn project_id(&self) -> &ProjectId
-        ensures { result.now ≡ self.now.project_id }
+        ensures { result.now ≡ self.now.project }
     {
         &self.project_id
     }
 
     /// The organization, where the host begins with `o`, its digits and `.`.
     pub fn org_id(&self) -> Option<OrganizationId>
-        ensures { result ≡ self.now.org_id }
+        ensures { result ≡ self.now.organization }
     {
         self.org_id
     }

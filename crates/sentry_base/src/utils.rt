@@ -51,8 +51,7 @@ fn header_letter(byte: u8) -> u8
 
 /// The URL with `[Filtered]`, percent-encoded, in place of a user name that isn't empty and of a password. A URL that can
 /// have neither stays as it is.
-pub fn scrub_pii_from_url(url: Url) -> Result<Url, Refusal> {
-    let mut url = url;
+pub fn scrub_pii_from_url(mut url: Url) -> Result<Url, Refusal> {
     if !url.username().is_empty() {
         unless_out_of_room(url.set_username(PII_REPLACEMENT))?;
     }

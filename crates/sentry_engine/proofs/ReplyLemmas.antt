@@ -1,5 +1,5 @@
 -- A call whose reply is put into the one type of replies.
-use Rattle.std.proofs.Common.{◌≡◌, ap, true}
+use Rattle.std.proofs.Common.{◌≡◌, Bool, true, ap, subst, sym}
 use Rattle.std.specs.Prelude.{Result, Ok, Err, is_ok}
 use Rattle.sentry_base.specs.declared.protocol.refusal.Refusal.{Refusal}
 use Rattle.sentry_base.specs.declared.protocol.refusal.Refusal.TheVariants.{OutOfMemory, Stale, OutOfOrder, StillNamed, ScopesOpen, InvalidDsn, InvalidRate, ForeignLosses, Full}
@@ -7,25 +7,45 @@ use Rattle.sentry_engine.specs.declared.engine.Out.{Out}
 use Rattle.sentry_engine.specs.declared.engine.Engine.{Engine}
 use Rattle.sentry_engine.specs.declared.call.Reply.{Reply}
 use Rattle.sentry_engine.specs.Worlds.{World}
-use Rattle.sentry_engine.specs.Outcomes.{Outcome, Does}
-use Rattle.sentry_engine.specs.Runs.{as_reply, map_reply}
-
-module _ {C T : Type 0} where
-  still_ok : (f : T → Reply C) (answer : Result (Out T) Refusal) → is_ok answer ≡ true → is_ok (as_reply f answer) ≡ true
-  still_ok f (Ok out) e = e
-  still_ok f (Err refusal) e = e
+use Rattle.sentry_engine.specs.Outcomes.{Outcome, IsAnswer, DoesWith}
+use Rattle.sentry_engine.specs.Replies.{IsMapped}
+use Rattle.sentry_engine.specs.Runs.{map_answer, map_reply}
 
 module _ {P C T : Type 0} where
+  is_ok-map_answer : (f : T → Reply P C) (answer : Result (Out T) Refusal) → is_ok answer ≡ true → is_ok (map_answer f answer) ≡ true
+  is_ok-map_answer f (Ok out) e = e
+  is_ok-map_answer f (Err refusal) e = e
+
+  IsAnswer-map_answer : (b : Bool) (f : T → Reply P C) (expected answer : Result (Out T) Refusal)
+      → IsAnswer b expected answer → IsAnswer b (map_answer f expected) (map_answer f answer)
+  IsAnswer-map_answer b f expected (Ok out) h = ap (map_answer f) h
+  IsAnswer-map_answer b f expected (Err OutOfMemory) h = (h.0, is_ok-map_answer f expected h.1)
+  IsAnswer-map_answer b f expected (Err Stale) h = ap (map_answer f) h
+  IsAnswer-map_answer b f expected (Err OutOfOrder) h = ap (map_answer f) h
+  IsAnswer-map_answer b f expected (Err StillNamed) h = ap (map_answer f) h
+  IsAnswer-map_answer b f expected (Err ScopesOpen) h = ap (map_answer f) h
+  IsAnswer-map_answer b f expected (Err (InvalidDsn cause)) h = ap (map_answer f) h
+  IsAnswer-map_answer b f expected (Err InvalidRate) h = ap (map_answer f) h
+  IsAnswer-map_answer b f expected (Err ForeignLosses) h = ap (map_answer f) h
+  IsAnswer-map_answer b f expected (Err Full) h = ap (map_answer f) h
+
+  mapped : (f : T → Reply P C) (gives : T → Reply P C → Type 0) → ((x : T) (y : Reply P C) → gives x y → y ≡ f x)
+      → (answer : Result (Out T) Refusal) (result : Result (Out (Reply P C)) Refusal) → IsMapped gives answer result → map_answer f answer ≡ result
+  mapped f gives given (Ok out) (Ok result) h =
+      let reply : result.reply ≡ f out.reply = given out.reply result.reply h.0 in
+      λ i. Ok (record { reply = sym reply i; sent = sym h.1 i })
+  mapped f gives given (Err refusal) (Err same) h = ap Err (sym h)
+  mapped f gives given (Ok out) (Err refusal) h = absurd h
+  mapped f gives given (Err refusal) (Ok out) h = absurd h
+
+  does_mapped : (b : Bool) (f : T → Reply P C) (old new : Engine P C) (answer : Result (Out T) Refusal) (outcome : World P C → Outcome P C T)
+      → DoesWith b old new answer outcome → DoesWith b old new (map_answer f answer) (λ world. map_reply f (outcome world))
+  does_mapped b f old new (Ok out) outcome d = λ world s. (IsAnswer-map_answer b f (outcome world).answer (Ok out) (d world s).0, (d world s).1)
+  does_mapped b f old new (Err refusal) outcome d = (d.0, λ world s. IsAnswer-map_answer b f (outcome world).answer (Err refusal) (d.1 world s))
+
   -- a call did the same with its reply put into the one type of replies
-  pub does_replying : (f : T → Reply C) (old new : Engine P C) (answer : Result (Out T) Refusal) (outcome : World P C → Outcome P C T) → Does old new answer outcome
-      → Does old new (as_reply f answer) (λ world. map_reply f (outcome world))
-  does_replying f old new (Ok out) outcome d = λ world s. (ap (as_reply f) (d world s).0, (d world s).1)
-  does_replying f old new (Err OutOfMemory) outcome d = (d.0, λ world s. still_ok f (outcome world).answer (d.1 world s))
-  does_replying f old new (Err Stale) outcome d = (d.0, λ world s. ap (as_reply f) (d.1 world s))
-  does_replying f old new (Err OutOfOrder) outcome d = (d.0, λ world s. ap (as_reply f) (d.1 world s))
-  does_replying f old new (Err StillNamed) outcome d = (d.0, λ world s. ap (as_reply f) (d.1 world s))
-  does_replying f old new (Err ScopesOpen) outcome d = (d.0, λ world s. ap (as_reply f) (d.1 world s))
-  does_replying f old new (Err (InvalidDsn cause)) outcome d = (d.0, λ world s. ap (as_reply f) (d.1 world s))
-  does_replying f old new (Err InvalidRate) outcome d = (d.0, λ world s. ap (as_reply f) (d.1 world s))
-  does_replying f old new (Err ForeignLosses) outcome d = (d.0, λ world s. ap (as_reply f) (d.1 world s))
-  does_replying f old new (Err Full) outcome d = (d.0, λ world s. ap (as_reply f) (d.1 world s))
+  pub does_replying : (b : Bool) (f : T → Reply P C) (gives : T → Reply P C → Type 0) (given : (x : T) (y : Reply P C) → gives x y → y ≡ f x)
+      (old new : Engine P C) (answer : Result (Out T) Refusal) (result : Result (Out (Reply P C)) Refusal) (outcome : World P C → Outcome P C T)
+      → DoesWith b old new answer outcome → IsMapped gives answer result → DoesWith b old new result (λ world. map_reply f (outcome world))
+  does_replying b f gives given old new answer result outcome d h =
+      subst (λ r. DoesWith b old new r (λ world. map_reply f (outcome world))) (mapped f gives given answer result h) (does_mapped b f old new answer outcome d)

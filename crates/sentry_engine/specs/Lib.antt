@@ -1,5 +1,6 @@
 pub mod Worlds
 pub mod Outcomes
+pub mod Replies
 pub mod Clients
 pub mod Hubs
 pub mod Runs

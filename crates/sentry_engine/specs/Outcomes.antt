@@ -14,10 +14,15 @@ use Rattle.sentry_engine.specs.declared.engine.Out.{Out}
 use Rattle.sentry_engine.specs.declared.engine.Engine.{Engine}
 use Rattle.sentry_engine.specs.Worlds.{World, ClientState, Stands, plain_client}
 
--- an answer and the world after it
+-- what a call comes to: its answer, and the world after it
 pub record Outcome (P C T : Type 0) : Type 0 where
   pub answer : Result (Out T) Refusal
   pub after : World P C
+
+-- the answer is the one that is expected; or out of memory in place of a reply, unless the call takes no memory
+abbrev pub IsAnswer : {T : Type 0} → Bool → Result (Out T) Refusal → Result (Out T) Refusal → Type 0
+IsAnswer takes_no_memory expected (Err OutOfMemory) = (takes_no_memory ≡ false) × (is_ok expected ≡ true)
+IsAnswer takes_no_memory expected answer = expected ≡ answer
 
 module _ {P C T : Type 0} where
   -- a refusal, which changes nothing
@@ -28,27 +33,37 @@ module _ {P C T : Type 0} where
   abbrev pub reply_with : T → List (ClientKey × Envelope) → World P C → Outcome P C T
   reply_with reply sent world = record { answer = Ok (record { reply = reply; sent = sent }); after = world }
 
-  -- goes on with what is there, or refuses
+  -- goes on with the value that is there, or refuses
   abbrev pub require_some : {X : Type 0} → Refusal → World P C → Option X → (X → Outcome P C T) → Outcome P C T
   require_some refusal world None go = refuse refusal world
   require_some refusal world (Some x) go = go x
 
-  -- goes on with what is there, or ends so
+  -- goes on with the value that is there, or ends otherwise
   abbrev pub let_some : {X : Type 0} → Option X → Outcome P C T → (X → Outcome P C T) → Outcome P C T
   let_some None otherwise go = otherwise
   let_some (Some x) otherwise go = go x
 
-  -- refuses unless the test holds
+  -- goes on where the test holds, or refuses
   abbrev pub require : Refusal → World P C → Bool → Outcome P C T → Outcome P C T
   require refusal world true go = go
   require refusal world false go = refuse refusal world
 
-  -- the call did what the definition says, in every world that the engine stands for; a refused call left the engine as
-  -- it was, and memory may be wanting only where the definition gives no refusal
+  -- the call did what its definition says, in every world that the engine stood for; where it was refused, the engine is
+  -- the engine before
+  abbrev pub DoesWith : Bool → Engine P C → Engine P C → Result (Out T) Refusal → (World P C → Outcome P C T) → Type 0
+  DoesWith takes_no_memory old new (Ok out) outcome =
+      (world : World P C) → Stands old world
+      → IsAnswer takes_no_memory (outcome world).answer (Ok out) × Stands new (outcome world).after
+  DoesWith takes_no_memory old new (Err refusal) outcome =
+      (new ≡ old) × ((world : World P C) → Stands old world → IsAnswer takes_no_memory (outcome world).answer (Err refusal))
+
+  -- the same of a call that may need memory
   abbrev pub Does : Engine P C → Engine P C → Result (Out T) Refusal → (World P C → Outcome P C T) → Type 0
-  Does old new (Ok out) outcome = (world : World P C) → Stands old world → ((outcome world).answer ≡ Ok out) × Stands new (outcome world).after
-  Does old new (Err OutOfMemory) outcome = (new ≡ old) × ((world : World P C) → Stands old world → is_ok (outcome world).answer ≡ true)
-  Does old new (Err refusal) outcome = (new ≡ old) × ((world : World P C) → Stands old world → (outcome world).answer ≡ Err refusal)
+  Does old new answer outcome = DoesWith false old new answer outcome
+
+  -- the same of a call that takes no memory, and so never answers out of memory
+  abbrev pub DoesWithoutMemory : Engine P C → Engine P C → Result (Out T) Refusal → (World P C → Outcome P C T) → Type 0
+  DoesWithoutMemory old new answer outcome = DoesWith true old new answer outcome
 
 -- what stands under a key, where its tag is the engine's
 abbrev pub value_under : {X : Type 0} → ℕ → List (ℕ × X) → ℕ → ℕ → Option X

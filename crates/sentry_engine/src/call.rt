@@ -1,9 +1,13 @@
 //! Calls as values, one call, and a list of calls.
-ghost use Rattle.std.specs.Prelude.{◌≡◌, IfOk};
+ghost use Rattle.std.specs.Prelude.{◌≡◌, IfOk, IfErr};
+ghost use Rattle.sentry_base.specs.declared.protocol.refusal.Refusal.TheVariants.{OutOfMemory};
 ghost use Rattle.sentry_engine.specs.Worlds.{World, Stands, first_world};
-ghost use Rattle.sentry_engine.specs.Outcomes.{Does};
+ghost use Rattle.sentry_engine.specs.Outcomes.{Does, DoesWith};
 ghost use Rattle.sentry_engine.specs.Hubs as call;
-ghost use Rattle.sentry_engine.specs.Runs.{step, as_reply, Run};
+ghost use Rattle.sentry_engine.specs.Replies.{IsMapped};
+ghost use Rattle.sentry_engine.specs.Runs.{step, takes_no_memory, Run};
+
+mod replies;
 
 use crate::engine::{Engine, Out};
 use sentry_base::dsn::Dsn;
@@ -14,192 +18,135 @@ use sentry_plain::{Items, Shared, Text};
 use sentry_state::callbacks::EventCallback;
 use sentry_state::clientoptions::{Callbacks, ClientOptions};
 use sentry_state::scope::{Scope, ScopeEdit};
-use std::alloc::{AllocError, Global};
+use std::alloc::Global;
 
-/// A call of an engine, with its arguments.
+/// A call of an engine, with its arguments: each variant stands for the method of its name.
 #[derive(Drop)]
 pub enum Call<P, C> {
-    /// `add_client`, of the options, whether there is a transport, the label and the moment
-    AddClient(ClientOptions<C>, bool, Label, u64),
-    /// `options`
+    AddClient {
+        options: ClientOptions<C>,
+        /// Whether the client has a transport.
+        transport: bool,
+        label: Label,
+        /// The moment in nanoseconds since the epoch.
+        now: u64,
+    },
     Options(ClientKey),
-    /// `dsn`
     Dsn(ClientKey),
-    /// `is_enabled`
     IsEnabled(ClientKey),
-    /// `sample_should_send`
-    SampleShouldSend(SampleRate, Draw),
-    /// `new_hub`
-    NewHub(Option<ClientKey>, Scope<P>),
-    /// `configure`
-    Configure(HubKey, Items<ScopeEdit<P>>, u64),
-    /// `capture_event`
-    CaptureEvent(HubKey, Event, Fresh),
-    /// `capture_message`
-    CaptureMessage(HubKey, Text, Level, Fresh),
-    /// `last_event_id`
+    SampleShouldSend {
+        rate: SampleRate,
+        draw: Draw,
+    },
+    NewHub {
+        client: Option<ClientKey>,
+        scope: Scope<P>,
+    },
+    Configure {
+        hub: HubKey,
+        edits: Items<ScopeEdit<P>>,
+        /// The moment in nanoseconds since the epoch.
+        now: u64,
+    },
+    CaptureEvent {
+        hub: HubKey,
+        event: Event,
+        fresh: Fresh,
+    },
+    CaptureMessage {
+        hub: HubKey,
+        message: Text,
+        level: Level,
+        fresh: Fresh,
+    },
     LastEventId(HubKey),
 }
 
-/// What a call replies.
+/// What a call replies. `P` is for replies that hold a scope.
 #[derive(Drop)]
-pub enum Reply<C> {
+pub enum Reply<P, C> {
     Client(ClientKey),
     Options(Shared<ClientOptions<C>>),
     Dsn(Option<Dsn>),
-    /// What `is_enabled` or `sample_should_send` answers.
+    /// The reply of `is_enabled` and `sample_should_send`.
     Decision(bool),
     Hub(HubKey),
     Done,
     Event(Uuid),
     LastEvent(Option<Uuid>),
+    Scope(Scope<P>),
 }
 
-/// What a call answers.
-pub type Answer<C> = Result<Out<Reply<C>>, Refusal>;
+/// What a call answers: its reply and envelopes, or why it was refused.
+pub type Answer<P, C> = Result<Out<Reply<P, C>>, Refusal>;
 
-fn client<C>(answer: Result<Out<ClientKey>, Refusal>) -> Answer<C>
-    ensures { result ≡ as_reply Reply.Client answer }
+// The answer with its reply put into the one type of replies.
+fn answer_of<T: Into<Reply<P, C>>, P, C>(answer: Result<Out<T>, Refusal>) -> Answer<P, C>
+    ensures { IsMapped T.converts answer result }
 {
     let Out { reply, sent } = answer?;
     Ok(Out {
-        reply: Reply::Client(reply),
-        sent,
-    })
-}
-
-fn options<C>(answer: Result<Out<Shared<ClientOptions<C>>>, Refusal>) -> Answer<C>
-    ensures { result ≡ as_reply Reply.Options answer }
-{
-    let Out { reply, sent } = answer?;
-    Ok(Out {
-        reply: Reply::Options(reply),
-        sent,
-    })
-}
-
-fn dsn<C>(answer: Result<Out<Option<Dsn>>, Refusal>) -> Answer<C>
-    ensures { result ≡ as_reply Reply.Dsn answer }
-{
-    let Out { reply, sent } = answer?;
-    Ok(Out {
-        reply: Reply::Dsn(reply),
-        sent,
-    })
-}
-
-fn decision<C>(answer: Result<Out<bool>, Refusal>) -> Answer<C>
-    ensures { result ≡ as_reply Reply.Decision answer }
-{
-    let Out { reply, sent } = answer?;
-    Ok(Out {
-        reply: Reply::Decision(reply),
-        sent,
-    })
-}
-
-fn hub<C>(answer: Result<Out<HubKey>, Refusal>) -> Answer<C>
-    ensures { result ≡ as_reply Reply.Hub answer }
-{
-    let Out { reply, sent } = answer?;
-    Ok(Out {
-        reply: Reply::Hub(reply),
-        sent,
-    })
-}
-
-fn done<C>(answer: Result<Out<()>, Refusal>) -> Answer<C>
-    ensures { result ≡ as_reply (λ _. Reply.Done) answer }
-{
-    let sent = answer?.sent;
-    Ok(Out {
-        reply: Reply::Done,
-        sent,
-    })
-}
-
-fn event<C>(answer: Result<Out<Uuid>, Refusal>) -> Answer<C>
-    ensures { result ≡ as_reply Reply.Event answer }
-{
-    let Out { reply, sent } = answer?;
-    Ok(Out {
-        reply: Reply::Event(reply),
-        sent,
-    })
-}
-
-fn last_event<C>(answer: Result<Out<Option<Uuid>>, Refusal>) -> Answer<C>
-    ensures { result ≡ as_reply Reply.LastEvent answer }
-{
-    let Out { reply, sent } = answer?;
-    Ok(Out {
-        reply: Reply::LastEvent(reply),
+        reply: reply.into(),
         sent,
     })
 }
 
 impl<P: EventCallback + Drop, C: Callbacks> Engine<P, C> {
-    fn configure_items(
-        &mut self,
-        hub: HubKey,
-        edits: Items<ScopeEdit<P>>,
-        now: u64,
-    ) -> Result<Out<()>, Refusal>
-        ensures { Does self.old self.new result (call.configure hub edits) }
-    {
-        self.configure(hub, edits.into_vec(), now)
-    }
-
-    fn capture_text(
-        &mut self,
-        hub: HubKey,
-        message: Text,
-        level: Level,
-        fresh: Fresh,
-    ) -> Result<Out<Uuid>, Refusal>
-        ensures { Does self.old self.new result (call.capture_message P.gives C.meanings hub message level fresh) }
-    {
-        self.capture_message(hub, message.as_str(), level, fresh)
-    }
-
-    /// Does one call, by the method of its name.
+    /// Makes one call, by the method of its name.
     #[tactic(auto, unfolding(crate::specs::Runs::step))]
-    pub fn apply(&mut self, call: Call<P, C>) -> Answer<C>
-        ensures { Does self.old self.new result (step P.gives C.meanings call) }
+    pub fn apply(&mut self, call: Call<P, C>) -> Answer<P, C>
+        ensures { DoesWith (takes_no_memory call) self.old self.new result (step P.gives C.meanings call) }
     {
         match call {
-            Call::AddClient(options, transport, label, now) => {
-                client(self.add_client(options, transport, label, now))
+            Call::AddClient {
+                options,
+                transport,
+                label,
+                now,
+            } => answer_of(self.add_client(options, transport, label, now)),
+            Call::Options(client) => answer_of(self.options(client)),
+            Call::Dsn(client) => answer_of(self.dsn(client)),
+            Call::IsEnabled(client) => answer_of(self.is_enabled(client)),
+            Call::SampleShouldSend { rate, draw } => {
+                answer_of(self.sample_should_send(rate, draw))
             }
-            Call::Options(client) => options(self.options(client)),
-            Call::Dsn(client) => dsn(self.dsn(client)),
-            Call::IsEnabled(client) => decision(self.is_enabled(client)),
-            Call::SampleShouldSend(rate, draw) => decision(self.sample_should_send(rate, draw)),
-            Call::NewHub(client, scope) => hub(self.new_hub(client, scope)),
-            Call::Configure(hub, edits, now) => done(self.configure_items(hub, edits, now)),
-            Call::CaptureEvent(hub, held, fresh) => event(self.capture_event(hub, held, fresh)),
-            Call::CaptureMessage(hub, message, level, fresh) => {
-                event(self.capture_text(hub, message, level, fresh))
+            Call::NewHub { client, scope } => answer_of(self.new_hub(client, scope)),
+            Call::Configure { hub, edits, now } => answer_of(self.configure(
+                hub,
+                edits.into_vec(),
+                now,
+            )),
+            Call::CaptureEvent { hub, event, fresh } => {
+                answer_of(self.capture_event(hub, event, fresh))
             }
-            Call::LastEventId(hub) => last_event(self.last_event_id(hub)),
+            Call::CaptureMessage {
+                hub,
+                message,
+                level,
+                fresh,
+            } => answer_of(self.capture_message(hub, message.as_str(), level, fresh)),
+            Call::LastEventId(hub) => answer_of(self.last_event_id(hub)),
         }
     }
-}
 
-/// Does the calls in turn on a new engine, and answers it with one answer a call. Want of memory for the list of
-/// answers itself ends the run before its first call.
-pub fn run<P: EventCallback + Drop, C: Callbacks>(
-    alloc: Global,
-    tag: u64,
-    calls: Vec<Call<P, C>>,
-) -> Result<(Engine<P, C>, Vec<Answer<C>>), AllocError>
-    ensures { IfOk result (λ end. (last : World P C) × Stands end.0 last × Run P.gives C.meanings (first_world tag) calls.items end.1.items last) }
-{
-    let mut engine = Engine::new(alloc, tag);
-    let mut answers = Vec::with_capacity(alloc, calls.len())?;
-    for call in calls {
-        let answer = engine.apply(call);
-        answers.push(answer)?;
+    /// Makes the calls in turn on a new engine, and answers it with one answer a call.
+    ///
+    /// `OutOfMemory`: no memory for the list of answers; then no call was made.
+    pub fn run(
+        alloc: Global,
+        tag: u64,
+        calls: Vec<Call<P, C>>,
+    ) -> Result<(Engine<P, C>, Vec<Answer<P, C>>), Refusal>
+        ensures ran { IfOk result (λ end. (last : World P C) × Stands end.0 last
+            × Run P.gives C.meanings (first_world tag) calls.items end.1.items last) }
+        ensures refused { IfErr result (λ refusal. refusal ≡ OutOfMemory) }
+    {
+        let mut engine = Engine::new(alloc, tag);
+        let mut answers = Vec::with_capacity(alloc, calls.len())?;
+        for call in calls {
+            let answer = engine.apply(call);
+            answers.push_reserved(answer);
+        }
+        Ok((engine, answers))
     }
-    Ok((engine, answers))
 }

@@ -14,20 +14,20 @@ use sentry_state::clientoptions::{Callbacks, ClientOptions};
 use sentry_state::scope::{Scope, Stack};
 use std::alloc::{AllocError, Global};
 
-/// The answer of a call, and the envelopes that it hands out, each with the client whose transport is to send it.
+/// The reply of a call, and the envelopes that it hands out, each with the client whose transport is to send it.
 #[derive(Drop)]
 pub struct Out<T> {
     pub reply: T,
     pub sent: Items<(ClientKey, Envelope)>,
 }
 
-/// What an engine keeps of a client.
-pub struct Client<C> {
-    pub options: Shared<ClientOptions<C>>,
-    /// Names the table of losses that it records into.
-    pub label: Label,
-    /// Whether envelopes leave it: it had a DSN when it was added, and has a transport.
-    pub occupied: bool,
+// What an engine keeps of a client.
+struct Client<C> {
+    options: Shared<ClientOptions<C>>,
+    // Names the table of losses that it records into.
+    label: Label,
+    // Whether its transport slot is occupied: it had a DSN when it was added, and it has a transport.
+    occupied: bool,
 }
 
 impl<C: Drop> Drop for Client<C> {
@@ -40,10 +40,10 @@ impl<C: Drop> Drop for Client<C> {
     }
 }
 
-/// What an engine keeps of a hub.
-pub struct Hub<P> {
-    pub stack: Stack<P>,
-    pub last_event_id: Option<Uuid>,
+// What an engine keeps of a hub.
+struct Hub<P> {
+    stack: Stack<P>,
+    last_event_id: Option<Uuid>,
 }
 
 impl<P: Drop> Drop for Hub<P> {
@@ -55,20 +55,20 @@ impl<P: Drop> Drop for Hub<P> {
     }
 }
 
-/// The next number of each kind of key.
-#[derive(Clone, Copy, Debug, PartialEq, Eq)]
-pub struct NextNumbers {
-    pub client: u64,
-    pub hub: u64,
+// The next number of each kind of key.
+#[derive(Clone, Copy)]
+struct NextNumbers {
+    client: u64,
+    hub: u64,
 }
 
-/// Holds clients and hubs by key, and does every call on them. `P` is the type of a scope's processors, `C` that of a
-/// client's callbacks. A call that is refused changed nothing.
+/// Holds clients and hubs by key, and decides what every call on them replies and hands out. `P` is the type of a
+/// scope's processors, `C` that of a client's callbacks. A refused call changes nothing.
 pub struct Engine<P, C> {
-    pub tag: u64,
-    pub next: NextNumbers,
-    pub clients: Table<Client<C>>,
-    pub hubs: Table<Hub<P>>,
+    tag: u64,
+    next: NextNumbers,
+    clients: Table<Client<C>>,
+    hubs: Table<Hub<P>>,
     alloc: Global,
 }
 
@@ -111,7 +111,8 @@ impl<P: EventCallback + Drop, C: Callbacks> Engine<P, C> {
 
     fn hub_at(&self, key: HubKey) -> Option<&Hub<P>>
         ensures in_world { (world : World P C) → Stands self.now world → option_copied result ≡ hub_at world key }
-        ensures in_table { (hub : Hub P) → option_copied result ≡ Some hub → value_at self.now.hubs key.number ≡ Some hub }
+        ensures in_table { (hub : Hub P) → option_copied result ≡ Some hub →
+            value_at self.now.hubs key.number ≡ Some hub }
     {
         if key.tag != self.tag {
             return None;
@@ -139,7 +140,7 @@ impl<P: EventCallback + Drop, C: Callbacks> Engine<P, C> {
         }
     }
 
-    // The answer of a call that hands nothing out.
+    // The reply of a call that hands nothing out.
     fn out<T>(&self, reply: T) -> Out<T>
         ensures { result ≡ record { reply = reply; sent = [] } }
     {

@@ -42,16 +42,18 @@ with_defaults options event = record event {
   platform = if bytes_eq event.platform (codes "other") then codes "native" else event.platform;
 }
 
--- goes on with the event that is there, or was dropped at this place
-abbrev pub kept_or_dropped : Place → Option Event → (Event → Prepared) → Prepared
-kept_or_dropped place None go = Dropped place
-kept_or_dropped place (Some event) go = go event
+-- goes on with the event, or tells the place where it was dropped
+abbrev pub continue_or_drop : Place → Option Event → (Event → Prepared) → Prepared
+continue_or_drop place None go = Dropped place
+continue_or_drop place (Some event) go = go event
 
 -- the event as it is to be sent, or the place that dropped it
-unfoldable pub prepare_event : {P C : Type 0} → (P → Partial) → (C → Meanings) → ClientOptions C → Scope P → List ℕ → Event → Prepared
+unfoldable pub prepare_event : {P C : Type 0}
+    → (P → Partial) → (C → Meanings) → ClientOptions C → Scope P → List ℕ → Event → Prepared
 prepare_event gives meanings options scope fresh event =
     let client = meanings options.callbacks in
-    kept_or_dropped EventProcessor (apply_to_event gives scope (with_sdk (sdk_info client) (with_id fresh event))) (λ processed.
-    kept_or_dropped Integration (process_by_all client.integrations options.plain processed) (λ integrated.
-    kept_or_dropped BeforeSend (call_if_any client.before_send (with_defaults options.plain integrated)) (λ made.
+    let identified = with_sdk (sdk_info client) (with_id fresh event) in
+    continue_or_drop EventProcessor (apply_to_event gives scope identified) (λ processed.
+    continue_or_drop Integration (process_by_all client.integrations options.plain processed) (λ integrated.
+    continue_or_drop BeforeSend (call_if_any client.before_send (with_defaults options.plain integrated)) (λ made.
     Kept made)))

@@ -4,7 +4,7 @@ ghost use Rattle.std.specs.Option.{option_or};
 ghost use Rattle.sentry_parts.specs.Pipeline.{with_id, with_sdk, sdk_info, with_defaults, prepare_event};
 
 use sentry_base::protocol::{ClientSdkInfo, ClientSdkPackage, Event, Uuid};
-use sentry_plain::{Items, Text, unless_failed};
+use sentry_plain::{Items, Text};
 use sentry_state::callbacks::EventCallback;
 use sentry_state::clientoptions::{Callbacks, ClientOptions, PlainOptions};
 use sentry_state::constants::{PACKAGE_NAME, SDK_NAME, VERSION};
@@ -29,15 +29,13 @@ pub enum Prepared {
     Dropped(Place),
 }
 
-// The event with the fresh id in place of a nil one.
-fn with_id(fresh: Uuid, event: Event) -> Event
-    ensures { result ≡ with_id fresh event }
+// Replaces a nil id by the fresh one.
+fn fill_in_id(fresh: Uuid, event: &mut Event)
+    ensures { event.new ≡ with_id fresh event.old }
 {
-    let mut event = event;
     if event.event_id.is_nil() {
         event.event_id = fresh;
     }
-    event
 }
 
 // What every event of a client says of the SDK.
@@ -57,37 +55,31 @@ fn sdk_info<C: Callbacks>(alloc: Global, callbacks: &C) -> Result<ClientSdkInfo,
     })
 }
 
-// The event with the SDK, if it names none.
-fn with_sdk<C: Callbacks>(alloc: Global, callbacks: &C, event: Event) -> Result<Event, AllocError>
-    ensures { IfOk result (λ made. made ≡ with_sdk (sdk_info (C.meanings callbacks.now)) event) }
-{
-    let mut event = event;
-    let done = fill_in_sdk(alloc, callbacks, &mut event.sdk);
-    unless_failed(event, done)
-}
-
+// Names the SDK, if the event names none.
 fn fill_in_sdk<C: Callbacks>(
     alloc: Global,
     callbacks: &C,
-    sdk: &mut Option<ClientSdkInfo>,
+    event: &mut Event,
 ) -> Result<(), AllocError>
-    ensures { OnOk result (sdk.new ≡ option_or sdk.old (Some (sdk_info (C.meanings callbacks.now)))) }
+    ensures { OnOk result (event.new ≡ with_sdk (sdk_info (C.meanings callbacks.now)) event.old) }
 {
-    if sdk.is_none() {
-        *sdk = Some(sdk_info(alloc, callbacks)?);
+    if event.sdk.is_none() {
+        event.sdk = Some(sdk_info(alloc, callbacks)?);
     }
     Ok(())
 }
 
-// The event with the options in place of what it lacks.
-fn with_defaults(alloc: Global, options: &PlainOptions, event: Event) -> Result<Event, AllocError>
-    ensures { IfOk result (λ made. made ≡ with_defaults options.now event) }
+// Puts the option where the event has no text.
+fn fill_in(text: &mut Option<Text>, option: &Option<Text>) -> Result<(), AllocError>
+    ensures { OnOk result (text.new ≡ option_or text.old option.now) }
 {
-    let mut event = event;
-    let done = fill_in_defaults(alloc, options, &mut event);
-    unless_failed(event, done)
+    if text.is_none() {
+        *text = option.clone()?;
+    }
+    Ok(())
 }
 
+// Puts the options where the event lacks a text, and names its platform.
 fn fill_in_defaults(
     alloc: Global,
     options: &PlainOptions,
@@ -104,39 +96,35 @@ fn fill_in_defaults(
     Ok(())
 }
 
-// Puts the option where the event has no text.
-fn fill_in(text: &mut Option<Text>, option: &Option<Text>) -> Result<(), AllocError>
-    ensures { OnOk result (text.new ≡ option_or text.old option.now) }
-{
-    if text.is_none() {
-        *text = option.clone()?;
-    }
-    Ok(())
-}
-
 /// The event as it is to be sent: with an id and the SDK, under the scope, after its processors and the integrations,
-/// with the options' defaults, after `before_send`. The first of these that answers none drops it.
+/// with the options' defaults, after `before_send`. The first callback that returns `None` drops it.
 #[tactic(auto, unfolding(crate::specs::Pipeline::prepare_event))]
 pub fn prepare_event<P: EventCallback + Drop, C: Callbacks>(
     alloc: Global,
     options: &ClientOptions<C>,
     scope: &Scope<P>,
     fresh: Uuid,
-    event: Event,
+    mut event: Event,
 ) -> Result<Prepared, AllocError>
     ensures { IfOk result (λ made. made ≡ prepare_event P.gives C.meanings options.now scope.now fresh event) }
 {
     let callbacks = &options.callbacks;
-    let identified = with_sdk(alloc, callbacks, with_id(fresh, event))?;
-    let Some(processed) = scope.apply_to_event(identified)? else {
+    fill_in_id(fresh, &mut event);
+    fill_in_sdk(alloc, callbacks, &mut event)?;
+    scope.fill_event(&mut event)?;
+    let mut slot = Some(event);
+    scope.process_event(&mut slot)?;
+    if slot.is_none() {
         return Ok(Prepared::Dropped(Place::EventProcessor));
-    };
-    let Some(integrated) = callbacks.process_event(processed, &options.plain)? else {
+    }
+    callbacks.process_event(&mut slot, &options.plain)?;
+    let Some(event) = &mut slot else {
         return Ok(Prepared::Dropped(Place::Integration));
     };
-    let full = with_defaults(alloc, &options.plain, integrated)?;
-    match callbacks.before_send(full)? {
+    fill_in_defaults(alloc, &options.plain, event)?;
+    callbacks.before_send(&mut slot)?;
+    match slot {
         None => Ok(Prepared::Dropped(Place::BeforeSend)),
-        Some(made) => Ok(Prepared::Kept(made)),
+        Some(event) => Ok(Prepared::Kept(event)),
     }
 }

@@ -1,6 +1,6 @@
 -- The options of a client: the defaults, the builders, and the limits on request bodies.
 use Rattle.std.specs.Prelude.{◌≡◌, ℕ, Bool, true, false, nat_le, Option, Some, None, Result, Ok, Err, [], if◌then◌else◌}
-use Rattle.sentry_base.specs.declared.dsn.Dsn.{Dsn}
+use Rattle.sentry_base.specs.DsnParts.{DsnParts}
 use Rattle.sentry_base.specs.declared.protocol.refusal.Refusal.{Refusal}
 use Rattle.sentry_base.specs.declared.protocol.refusal.Refusal.TheVariants.{OutOfMemory, InvalidRate}
 use Rattle.sentry_plain.specs.Texts.{Bytes}
@@ -78,11 +78,11 @@ Makes (Err refusal) expected = refusal ≡ OutOfMemory
 
 module _ {C : Type 0} where
   -- the options with this DSN, or none
-  abbrev pub with_dsn : ClientOptions C → Option Dsn → ClientOptions C
+  abbrev pub with_dsn : ClientOptions C → Option DsnParts → ClientOptions C
   with_dsn options dsn = record options { plain = record options.plain { dsn = dsn } }
 
   -- the options with the DSN that was read, or the refusal of what was read
-  abbrev pub with_dsn_read : ClientOptions C → Result (Option Dsn) Refusal → Result (ClientOptions C) Refusal
+  abbrev pub with_dsn_read : ClientOptions C → Result (Option DsnParts) Refusal → Result (ClientOptions C) Refusal
   with_dsn_read options (Ok dsn) = Ok (with_dsn options dsn)
   with_dsn_read options (Err refusal) = Err refusal
 

@@ -27,12 +27,23 @@ pub struct EnvelopeHeaders {
 }
 
 /// What a server needs to sample whole traces.
-#[derive(Drop, PartialEq)]
+#[derive(PartialEq)]
 pub struct DynamicSamplingContext {
     pub trace_id: Option<TraceId>,
     pub sample_rate: Option<SampleRate>,
     pub sampled: Option<bool>,
     pub public_key: Option<Text>,
+}
+
+impl Drop for DynamicSamplingContext {
+    fn drop(self) {
+        let DynamicSamplingContext {
+            trace_id: _,
+            sample_rate: _,
+            sampled: _,
+            public_key: _,
+        } = self;
+    }
 }
 
 /// One thing in an envelope.

@@ -98,117 +98,30 @@ impl Event {
     }
 }
 
-// An event is cloned in three parts, since a proof grows with the square of what one function clones.
+impl Clone for Event {
+    ghost is_clone = { λ old new. new ≡ old };
 
-#[derive(Drop)]
-struct Names {
-    message: Option<Text>,
-    transaction: Option<Text>,
-    platform: Text,
-    server_name: Option<Text>,
-    release: Option<Text>,
-    environment: Option<Text>,
-}
-
-#[derive(Drop)]
-struct Surroundings {
-    user: Option<User>,
-    request: Option<Request>,
-    contexts: TextMap<Context>,
-    sdk: Option<ClientSdkInfo>,
-}
-
-#[derive(Drop)]
-struct Details {
-    fingerprint: Items<Text>,
-    breadcrumbs: Items<Breadcrumb>,
-    exception: Items<Exception>,
-    tags: TextMap<Text>,
-    extra: ValueMap,
-}
-
-impl Event {
-    fn names(&self) -> Result<Names, AllocError>
-        ensures { IfOk result (λ names. names ≡ record {
-          message = self.now.message;
-          transaction = self.now.transaction;
-          platform = self.now.platform;
-          server_name = self.now.server_name;
-          release = self.now.release;
-          environment = self.now.environment;
-        }) }
-    {
-        Ok(Names {
-            message: self.message.clone()?,
-            transaction: self.transaction.clone()?,
-            platform: self.platform.clone()?,
-            server_name: self.server_name.clone()?,
-            release: self.release.clone()?,
-            environment: self.environment.clone()?,
-        })
-    }
-
-    fn surroundings(&self) -> Result<Surroundings, AllocError>
-        ensures { IfOk result (λ parts. parts ≡ record {
-          user = self.now.user;
-          request = self.now.request;
-          contexts = self.now.contexts;
-          sdk = self.now.sdk;
-        }) }
-    {
-        Ok(Surroundings {
-            user: self.user.clone()?,
-            request: self.request.clone()?,
-            contexts: self.contexts.clone()?,
-            sdk: self.sdk.clone()?,
-        })
-    }
-
-    fn details(&self) -> Result<Details, AllocError>
-        ensures { IfOk result (λ parts. parts ≡ record {
-          fingerprint = self.now.fingerprint;
-          breadcrumbs = self.now.breadcrumbs;
-          exception = self.now.exception;
-          tags = self.now.tags;
-          extra = self.now.extra;
-        }) }
-    {
-        Ok(Details {
+    // The optional parts come last, since each of them adds a branch to the early returns after it.
+    fn clone(&self) -> Result<Event, AllocError> {
+        Ok(Event {
+            event_id: self.event_id,
+            level: self.level,
+            timestamp: self.timestamp,
             fingerprint: self.fingerprint.clone()?,
+            platform: self.platform.clone()?,
+            contexts: self.contexts.clone()?,
             breadcrumbs: self.breadcrumbs.clone()?,
             exception: self.exception.clone()?,
             tags: self.tags.clone()?,
             extra: self.extra.clone()?,
-        })
-    }
-}
-
-impl Clone for Event {
-    ghost is_clone = { λ old new. new ≡ old };
-
-    fn clone(&self) -> Result<Event, AllocError> {
-        let names = self.names()?;
-        let surroundings = self.surroundings()?;
-        let details = self.details()?;
-        Ok(Event {
-            event_id: self.event_id,
-            level: self.level,
-            fingerprint: details.fingerprint,
-            message: names.message,
-            transaction: names.transaction,
-            platform: names.platform,
-            timestamp: self.timestamp,
-            server_name: names.server_name,
-            release: names.release,
-            environment: names.environment,
-            user: surroundings.user,
-            request: surroundings.request,
-            contexts: surroundings.contexts,
-            breadcrumbs: details.breadcrumbs,
-            exception: details.exception,
-            tags: details.tags,
-            extra: details.extra,
-            sdk: surroundings.sdk,
+            message: self.message.clone()?,
+            transaction: self.transaction.clone()?,
+            server_name: self.server_name.clone()?,
+            release: self.release.clone()?,
+            environment: self.environment.clone()?,
+            user: self.user.clone()?,
+            request: self.request.clone()?,
+            sdk: self.sdk.clone()?,
         })
     }
 }

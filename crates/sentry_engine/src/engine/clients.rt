@@ -1,15 +1,15 @@
 //! The calls on clients.
-ghost use Rattle.std.specs.Prelude.{◌≡◌, ◌≢◌, IfOk, OnOk, OnErr, Ok, [], nat_lt};
+ghost use Rattle.std.specs.Prelude.{◌≡◌, IfOk, OnOk, OnErr, Ok, [], nat_lt};
 ghost use Rattle.sentry_plain.specs.Tables.{put};
 ghost use Rattle.sentry_state.specs.Callbacks.{set_up_all};
 ghost use Rattle.sentry_engine.specs.Worlds.{World, ClientState, Stands, plain_client};
-ghost use Rattle.sentry_engine.specs.Outcomes.{Does};
+ghost use Rattle.sentry_engine.specs.Outcomes.{Does, DoesWithoutMemory};
 ghost use Rattle.sentry_engine.specs.Clients as call;
 
 use crate::engine::{Client, Engine, Out};
 use sentry_base::dsn::Dsn;
 use sentry_base::protocol::{ClientKey, Draw, Label, Refusal, SampleRate};
-use sentry_plain::{Shared, unless_failed};
+use sentry_plain::Shared;
 use sentry_state::callbacks::EventCallback;
 use sentry_state::clientoptions::{Callbacks, ClientOptions};
 use std::alloc::{AllocError, Global};
@@ -17,21 +17,22 @@ use std::alloc::{AllocError, Global};
 // A share of the options, after the `setup` of their integrations.
 fn set_up<C: Callbacks>(
     alloc: Global,
-    options: ClientOptions<C>,
+    mut options: ClientOptions<C>,
 ) -> Result<Shared<ClientOptions<C>>, AllocError>
-    ensures { IfOk result (λ made. made ≡ record options { plain = set_up_all (C.meanings options.callbacks).integrations options.plain }) }
+    ensures { IfOk result (λ share. share ≡ record options {
+      plain = set_up_all (C.meanings options.callbacks).integrations options.plain;
+    }) }
 {
-    let mut options = options;
-    let done = options.callbacks.set_up(&mut options.plain);
-    Shared::new(alloc, unless_failed(options, done)?)
+    options.callbacks.set_up(&mut options.plain)?;
+    Shared::new(alloc, options)
 }
 
 impl<P: EventCallback + Drop, C: Callbacks> Engine<P, C> {
     // Holds a client under a number.
     #[tactic(auto, using(crate::proofs::Keeping::stored_in_world))]
     fn insert_client(&mut self, number: u64, client: Client<C>) -> Result<(), AllocError>
-        ensures in_world { OnOk result ((world : World P C) (state : ClientState C) → Stands self.old world → client ≡ plain_client state →
-            Stands self.new (record world { clients = put world.clients number state })) }
+        ensures in_world { OnOk result ((world : World P C) (state : ClientState C) → Stands self.old world →
+            client ≡ plain_client state → Stands self.new (record world { clients = put world.clients number state })) }
         ensures rest { OnOk result ((self.new.tag ≡ self.old.tag) × (self.new.next ≡ self.old.next)) }
         ensures err { OnErr result (self.new ≡ self.old) }
     {
@@ -55,11 +56,9 @@ impl<P: EventCallback + Drop, C: Callbacks> Engine<P, C> {
         ensures { Does self.old self.new result (call.add_client C.meanings options transport label) }
     {
         if label.tag != self.tag {
-            drop(options);
             return Err(Refusal::ForeignLosses);
         }
         if self.next.client == u64::MAX {
-            drop(options);
             return Err(Refusal::Full);
         }
         let number = self.next.client;
@@ -110,8 +109,7 @@ impl<P: EventCallback + Drop, C: Callbacks> Engine<P, C> {
     /// `Stale`: the client isn't held.
     #[tactic(auto, unfolding(crate::specs::Clients::is_enabled))]
     pub fn is_enabled(&self, client: ClientKey) -> Result<Out<bool>, Refusal>
-        ensures does { Does self.now self.now result (call.is_enabled client) }
-        ensures takes_no_memory { result ≢ Err Refusal.OutOfMemory }
+        ensures { DoesWithoutMemory self.now self.now result (call.is_enabled client) }
     {
         let Some(held) = self.client_at(client) else {
             return Err(Refusal::Stale);
@@ -123,7 +121,7 @@ impl<P: EventCallback + Drop, C: Callbacks> Engine<P, C> {
     /// Whether what has this draw is sent at this rate. It takes no memory, and is never refused.
     #[tactic(auto, unfolding(crate::specs::Clients::sample_should_send))]
     pub fn sample_should_send(&self, rate: SampleRate, draw: Draw) -> Result<Out<bool>, Refusal>
-        ensures does { Does self.now self.now result (call.sample_should_send rate draw) }
+        ensures does { DoesWithoutMemory self.now self.now result (call.sample_should_send rate draw) }
         ensures answers { result ≡ Ok (record { reply = nat_lt draw rate; sent = [] }) }
     {
         Ok(self.out(rate.keeps(draw)))

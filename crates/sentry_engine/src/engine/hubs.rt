@@ -1,10 +1,10 @@
 //! The calls on hubs.
-ghost use Rattle.std.specs.Prelude.{◌≡◌, ◌≢◌, IfOk, IfErr, OnOk, OnErr, Some, [], ◌∷◌};
+ghost use Rattle.std.specs.Prelude.{◌≡◌, IfOk, IfErr, OnOk, OnErr, Some, [], ◌∷◌};
 ghost use Rattle.sentry_plain.specs.Tables.{value_at, replace_at};
 ghost use Rattle.sentry_state.specs.Scopes.{edit};
 ghost use Rattle.sentry_engine.specs.declared.engine.Hub.{Hub};
 ghost use Rattle.sentry_engine.specs.Worlds.{World, Stands};
-ghost use Rattle.sentry_engine.specs.Outcomes.{Does, with_scope};
+ghost use Rattle.sentry_engine.specs.Outcomes.{Does, DoesWithoutMemory, with_scope};
 ghost use Rattle.sentry_engine.specs.Hubs.{captured_event, captured_id, captured_envelopes, message_event};
 ghost use Rattle.sentry_engine.specs.Hubs as call;
 
@@ -31,11 +31,10 @@ fn captured_event<P: EventCallback + Drop, C: Callbacks>(
     ensures { IfOk result (λ made. made ≡ captured_event P.gives C.meanings client.now scope.now fresh event) }
 {
     if !client.occupied {
-        drop(event);
         return Ok(None);
     }
     match prepare_event(alloc, client.options.get(), scope, fresh, event)? {
-        Prepared::Kept(made) => Ok(Some(made)),
+        Prepared::Kept(event) => Ok(Some(event)),
         Prepared::Dropped(_) => Ok(None),
     }
 }
@@ -98,11 +97,13 @@ fn only<T: Drop>(items: Vec<T>) -> Result<T, Vec<T>>
 }
 
 impl<P: EventCallback + Drop, C: Callbacks> Engine<P, C> {
-    // Does one edit in place. Where memory is wanting for it, nothing has changed.
+    // Makes one edit in place. Where it is out of memory, nothing has changed.
     #[tactic(auto, using(crate::proofs::Keeping::changed_same))]
     fn edit_scope(&mut self, number: u64, setter: ScopeEdit<P>) -> Result<(), AllocError>
-        ensures in_world { OnOk result ((world : World P C) (hub : Hub P) → Stands self.old world → value_at self.old.hubs number ≡ Some hub →
-            Stands self.new (record world { hubs = replace_at world.hubs number (with_scope hub (edit setter hub.stack.top.scope)) })) }
+        ensures in_world { OnOk result ((world : World P C) (hub : Hub P) → Stands self.old world →
+            value_at self.old.hubs number ≡ Some hub → Stands self.new (record world {
+              hubs = replace_at world.hubs number (with_scope hub (edit setter hub.stack.top.scope));
+            })) }
         ensures err { OnErr result (self.new ≡ self.old) }
     {
         let Some(hub) = self.hubs.get_mut(number) else {
@@ -113,8 +114,10 @@ impl<P: EventCallback + Drop, C: Callbacks> Engine<P, C> {
 
     // Writes the top scope of a hub that is held.
     fn set_scope(&mut self, number: u64, scope: Scope<P>)
-        ensures in_world { (world : World P C) (hub : Hub P) → Stands self.old world → value_at self.old.hubs number ≡ Some hub →
-            Stands self.new (record world { hubs = replace_at world.hubs number (with_scope hub scope) }) }
+        ensures in_world { (world : World P C) (hub : Hub P) → Stands self.old world →
+            value_at self.old.hubs number ≡ Some hub → Stands self.new (record world {
+              hubs = replace_at world.hubs number (with_scope hub scope);
+            }) }
     {
         let Some(hub) = self.hubs.get_mut(number) else {
             return;
@@ -124,8 +127,10 @@ impl<P: EventCallback + Drop, C: Callbacks> Engine<P, C> {
 
     // Notes the last event of a hub that is held.
     fn set_last_event_id(&mut self, number: u64, id: Uuid)
-        ensures in_world { (world : World P C) (hub : Hub P) → Stands self.old world → value_at self.old.hubs number ≡ Some hub →
-            Stands self.new (record world { hubs = replace_at world.hubs number (record hub { last_event_id = Some id }) }) }
+        ensures in_world { (world : World P C) (hub : Hub P) → Stands self.old world →
+            value_at self.old.hubs number ≡ Some hub → Stands self.new (record world {
+              hubs = replace_at world.hubs number (record hub { last_event_id = Some id });
+            }) }
     {
         let Some(hub) = self.hubs.get_mut(number) else {
             return;
@@ -212,8 +217,7 @@ impl<P: EventCallback + Drop, C: Callbacks> Engine<P, C> {
     /// `Stale`: the hub isn't held.
     #[tactic(auto, unfolding(crate::specs::Hubs::last_event_id))]
     pub fn last_event_id(&self, hub: HubKey) -> Result<Out<Option<Uuid>>, Refusal>
-        ensures does { Does self.now self.now result (call.last_event_id hub) }
-        ensures takes_no_memory { result ≢ Err Refusal.OutOfMemory }
+        ensures { DoesWithoutMemory self.now self.now result (call.last_event_id hub) }
     {
         let Some(held) = self.hub_at(hub) else {
             return Err(Refusal::Stale);
@@ -236,15 +240,12 @@ impl<P: EventCallback + Drop, C: Callbacks> Engine<P, C> {
         ensures { Does self.old self.new result (call.capture_event P.gives C.meanings hub event fresh) }
     {
         let Some(held) = self.hub_at(hub) else {
-            drop(event);
             return Err(Refusal::Stale);
         };
         let Some(key) = held.stack.top.client else {
-            drop(event);
             return Ok(self.out(Uuid::nil()));
         };
         let Some(client) = self.client_at(key) else {
-            drop(event);
             return Ok(self.out(Uuid::nil()));
         };
         let made = captured_event(self.alloc, client, &held.stack.top.scope, fresh.uuid, event)?;

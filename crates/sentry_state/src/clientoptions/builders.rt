@@ -3,7 +3,7 @@ ghost use Rattle.std.specs.Prelude.{◌≡◌, ◌⊎◌, ◌∷◌, ◌++◌, [
 ghost use Rattle.std.specs.Prelude.{Option, Result};
 ghost use Rattle.std.specs.Result.{result_map_both};
 ghost use Rattle.std.specs.Int.NonZero.{non_zero_usize_get};
-ghost use Rattle.sentry_base.specs.declared.dsn.Dsn.{Dsn};
+ghost use Rattle.sentry_base.specs.DsnParts.{DsnParts};
 ghost use Rattle.sentry_base.specs.declared.protocol.refusal.Refusal.{Refusal};
 ghost use Rattle.sentry_base.specs.DsnTexts.{dsn_of_text, GivesDsn, IsRefusedAsTooLong};
 ghost use Rattle.sentry_state.specs.Options.{default_options, default_options_with, with_dsn, with_dsn_read};
@@ -68,7 +68,7 @@ impl<C: Drop> ClientOptions<C> {
     ///
     /// Errors: `InvalidDsn` if the value is neither, `OutOfMemory`.
     pub fn with_dsn<D: IntoDsn>(mut self, dsn: D) -> Result<ClientOptions<C>, Refusal>
-        ensures { (answer : Result (Option Dsn) Refusal) × D.into_dsn_gives dsn answer
+        ensures { (answer : Result (Option DsnParts) Refusal) × D.into_dsn_gives dsn answer
             × (result ≡ with_dsn_read self answer) }
     {
         self.plain.dsn = dsn.into_dsn(self.allocator())?;
@@ -363,7 +363,7 @@ impl<E: Drop, I: Drop> ClientOptions<ClientCallbacks<E, I>> {
         alloc: Global,
         dsn: D,
     ) -> Result<ClientOptions<ClientCallbacks<E, I>>, Refusal>
-        ensures { (answer : Result (Option Dsn) Refusal) × D.into_dsn_gives dsn answer
+        ensures { (answer : Result (Option DsnParts) Refusal) × D.into_dsn_gives dsn answer
             × (result ≡ with_dsn_read default_options answer) }
     {
         ClientOptions::new(alloc).with_dsn(dsn)

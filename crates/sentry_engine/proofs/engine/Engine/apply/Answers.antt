@@ -1,7 +1,11 @@
 use Rattle.sentry_engine.specs.Runs.{step}
+use Rattle.sentry_engine.specs.declared.call.Reply.TheVariants.{Done}
 use Rattle.sentry_engine.proofs.ReplyLemmas.{does_replying}
 use Rattle.sentry_engine.proofs.engine.Engine.apply.Goals as goal
 
 pub returns-in-Configure : goal.returns-in-Configure
 unfolding step
-returns-in-Configure g c = rw c.in-Configure.is (rw c.done.ensures (does_replying _ _ _ _ _ c.configure_items.ensures))
+returns-in-Configure g c =
+    rw c.in-Configure.is
+    (let configured = rw c.into_vec.ensures at c.configure.ensures in
+    does_replying _ (λ _. Done) _ (λ x y given. given) _ _ _ _ _ configured c.answer_of-in-Configure.ensures)

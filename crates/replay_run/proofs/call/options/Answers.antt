@@ -1,0 +1,7 @@
+use Rattle.sentry_state.specs.Options.{default_options_with}
+use Rattle.replay_run.proofs.call.options.Goals as goal
+
+pub returns : goal.returns
+returns c = λ i. record (default_options_with (record {})) {
+  plain = record (c.new-plain.ensures i) { dsn = c.in_ok-plain.ensures i; release = c.args.release };
+}
