@@ -1,6 +1,6 @@
 -- What organization a host names.
-use Rattle.std.proofs.Common.{◌≡◌, ◌≢◌, refl, sym, ap, subst, ◌∙◌, ℕ, ◌<◌, Bool, true, false, true≢false, [], ◌∷◌, ◌++◌, length, get_or, append_assoc, arith}
-use Rattle.std.specs.Prelude.{Option, Some, None, ◌&&◌, nat_lt, codes}
+use Rattle.std.proofs.Common.{◌≡◌, ◌≢◌, sym, ap, subst, ◌∙◌, ℕ, false, [], ◌∷◌, ◌++◌, append_assoc, arith}
+use Rattle.std.specs.Prelude.{Option, Some, None, codes}
 use Rattle.std.specs.Char.{is_ascii_digit}
 use Rattle.std.specs.List.{list_all}
 use Rattle.std.proofs.lemmas.List.Folds.{list_all_at}
@@ -8,7 +8,7 @@ use Rattle.std.proofs.lemmas.Grind.{common_steps}
 use Rattle.std.proofs.lemmas.Option.{none-some}
 use Rattle.sentry_base.specs.declared.protocol.ids.OrganizationId.{OrganizationId}
 use Rattle.sentry_base.specs.DsnTexts.{HostNames}
-use Rattle.sentry_base.specs.Ids.{is_organization_text, organization_id_of}
+use Rattle.sentry_base.specs.Ids.{organization_id_of}
 use Rattle.sentry_base.specs.Readings.{IsReading}
 use Rattle.sentry_plain.specs.Texts.{Bytes}
 use Rattle.sentry_base.proofs.CutLemmas.{Lacks, has_byte, cut_once}

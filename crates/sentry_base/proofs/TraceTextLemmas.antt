@@ -1,10 +1,9 @@
 -- Trace texts: where the dash stands that ends an id.
-use Rattle.std.proofs.Common.{◌≡◌, ◌≢◌, ◌⊎◌, refl, sym, ap, subst, ◌∙◌, inl, inr, ℕ, suc, ◌<◌, true, true≢false, List, [], ◌∷◌, ◌++◌, length, get_or, length-append, arith}
+use Rattle.std.proofs.Common.{◌≡◌, ◌⊎◌, refl, sym, ap, subst, ◌∙◌, inl, inr, ℕ, true, true≢false, List, ◌∷◌, ◌++◌, get_or}
 use Rattle.std.specs.Prelude.{Option, Some, None, IsOk, Result, Ok, Err, option_map}
 use Rattle.std.specs.Result.{result_ok}
 use Rattle.std.proofs.lemmas.List.Elements.{All-get_or}
 use Rattle.std.proofs.lemmas.Option.{none-some}
-use Rattle.std.proofs.Math.Seq.{get_or-append_seam}
 use Rattle.hex.specs.Hex.{decode_sized, is_hex_digit}
 use Rattle.hex.specs.declared.error.FromHexError.{FromHexError}
 use Rattle.hex.proofs.HexLemmas.{IsOk-decode_sized}

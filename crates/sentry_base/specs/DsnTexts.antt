@@ -1,4 +1,4 @@
--- What a DSN's text says: it is a URL, whose user name is the public key and whose path names the project.
+-- DSNs: a DSN is a URL whose user name is the public key, and whose path ends in the project.
 use Rattle.std.specs.Prelude.{◌≡◌, ℕ, ◌^◌, ◌≤◌, ◌⊎◌, Bool, not, ◌&&◌, ◌==◌, nat_eq, nat_lt, List, [], ◌++◌, codes, bytes_eq, filter, length, drop, unwrap_or, option_map, Option, Some, None, Result, Ok, Err, if◌then◌else◌}
 use Rattle.std.specs.List.{slice_split, last_or, before_first, position_or_len, starts_with}
 use Rattle.std.specs.Result.{result_map_both}
@@ -28,12 +28,12 @@ abbrev pub is_dot : ℕ → Bool
 is_dot b = b == 46
 
 -- the last of the texts that isn't empty, or the empty text
-abbrev pub last_nonempty : List Bytes → Bytes
-last_nonempty texts = unwrap_or (last_or None (filter (λ text. not (is_empty text)) texts)) []
+abbrev pub last_nonempty_text : List Bytes → Bytes
+last_nonempty_text texts = unwrap_or (last_or None (filter (λ text. not (is_empty text)) texts)) []
 
 -- the project that a path names is its last segment that isn't empty
 abbrev pub project_of : Bytes → Bytes
-project_of path = last_nonempty (slice_split is_slash path)
+project_of path = last_nonempty_text (slice_split is_slash path)
 
 -- the project of this name, which may not be empty
 abbrev pub project_id_of : Bytes → Result Bytes ParseDsnError

@@ -1,8 +1,8 @@
-//! Texts that name a project and where its events go.
-ghost use Rattle.std.specs.Prelude.{◌≡◌, ◌⊎◌, Err, IfOk, IsOk, Ok, Some, not};
+//! DSNs: the texts that say where events are sent.
+ghost use Rattle.std.specs.Prelude.{◌≡◌, ◌⊎◌, Err, IsOk, Ok, Some, not};
 ghost use Rattle.sentry_base.specs.DsnTexts.{GivesDsn, HostNames, IsRefusedAsTooLong};
 ghost use Rattle.sentry_base.specs.DsnTexts.{default_port_of, dsn_of, dsn_of_text, is_empty, organization_of_host};
-ghost use Rattle.sentry_base.specs.DsnTexts.{project_id_of, project_of, scheme_of, with_host};
+ghost use Rattle.sentry_base.specs.DsnTexts.{project_id_of, project_of, scheme_of};
 ghost use Rattle.sentry_base.specs.Readings.{IsReading};
 
 mod into_dsn;
@@ -16,10 +16,10 @@ use std::marker::Model;
 use thiserror::Error;
 use url::{ParseError, Url};
 
-/// Why a text is no DSN.
+/// Why a text is not a DSN.
 #[derive(Clone, Copy, Debug, Error, PartialEq, Eq)]
 pub enum ParseDsnError {
-    /// The text is no URL, or one without a host.
+    /// The text is not a URL, or the URL has no host.
     #[error("not a URL with a host")]
     InvalidUrl,
     /// The scheme is neither `http` nor `https`.
@@ -28,10 +28,10 @@ pub enum ParseDsnError {
     /// The user name, which holds the public key, is empty.
     #[error("no user name")]
     NoUsername,
-    /// The path names no project.
+    /// The path has no project id.
     #[error("no project id")]
     NoProjectId,
-    /// The text of a project id is empty.
+    /// The project id is the empty text.
     #[error("an empty project id")]
     InvalidProjectId,
 }
@@ -39,11 +39,14 @@ pub enum ParseDsnError {
 /// The scheme of a DSN.
 #[derive(Clone, Copy, Debug, PartialEq, Eq)]
 pub enum Scheme {
+    /// `http`.
     Http,
+    /// `https`.
     Https,
 }
 
 impl Scheme {
+    // The scheme of this name.
     fn of(name: &str) -> Option<Scheme>
         ensures { result ≡ scheme_of name.now }
     {
@@ -54,7 +57,7 @@ impl Scheme {
         }
     }
 
-    /// The port that is meant where a DSN gives none.
+    /// The port that is used if a DSN has none: 80 or 443.
     pub fn default_port(&self) -> u16
         ensures { result ≡ default_port_of self.now }
     {
@@ -79,7 +82,7 @@ impl fmt::Display for Scheme {
     }
 }
 
-/// Names a project. Contracts see the name.
+/// The id of a project. Contracts see its text.
 #[derive(Debug, Drop, PartialEq, Eq)]
 pub struct ProjectId {
     name: Text,
@@ -106,10 +109,10 @@ impl Clone for ProjectId {
 }
 
 impl ProjectId {
-    /// The project of this name. The empty text is refused as `InvalidProjectId`.
+    /// Makes a project id. Fails with `InvalidProjectId` if the text is empty.
     pub fn new(alloc: Global, name: &str) -> Result<ProjectId, Refusal>
         ensures answer { GivesDsn result (project_id_of name.now) }
-        // A refusal takes no memory.
+        // The text is tested before it is copied.
         ensures memory { result ≡ Err Refusal.OutOfMemory → IsOk (project_id_of name.now) }
     {
         if name.is_empty() {
@@ -120,7 +123,7 @@ impl ProjectId {
         })
     }
 
-    /// The name.
+    /// The text of the id.
     pub fn value(&self) -> &str
         ensures { result.now ≡ self.now }
     {
@@ -128,7 +131,7 @@ impl ProjectId {
     }
 }
 
-// The last segment of a path that isn't empty, or the empty text.
+// The last non-empty segment of a path, or the empty text.
 fn project_of(path: &str) -> &str
     ensures { result.now ≡ project_of path.now }
 {
@@ -142,7 +145,7 @@ fn project_of(path: &str) -> &str
         .unwrap_or("")
 }
 
-// The organization that a host names at its front, as `o42.example.com` does.
+// The organization in the first label of a host, such as 42 in `o42.example.com`.
 fn organization_of_host(host: &str) -> Option<OrganizationId>
     ensures value { result ≡ organization_of_host host.now }
     ensures names { IsReading HostNames host.now result }
@@ -152,7 +155,7 @@ fn organization_of_host(host: &str) -> Option<OrganizationId>
     OrganizationId::parse(digits)
 }
 
-/// Where events go: a project, and the server and key by which it is reached. Contracts see these parts.
+/// Where events are sent: a server, a project on it, and the public key to send with. Contracts see these parts.
 #[derive(Debug, PartialEq, Eq)]
 pub struct Dsn {
     scheme: Scheme,
@@ -221,14 +224,14 @@ impl Clone for Dsn {
 }
 
 impl Dsn {
-    /// From this length on, a text may be refused as too long for `url`, whose texts stay below 4 GB.
+    // From this length on, a text may be refused as too long: `url` keeps its texts below 4 GB.
     const LONG_TEXT: usize = 1 << 24;
 
-    /// Reads a DSN.
+    /// Parses a DSN.
     ///
-    /// The text is refused with the first cause that applies: `InvalidUrl` if it is no URL, `NoProjectId` if its path
-    /// names no project, `NoUsername`, `InvalidScheme` if the scheme is neither `http` nor `https`, and `InvalidUrl` if
-    /// it has no host.
+    /// Fails with the first of these that applies: `InvalidUrl` if the text is not a URL, `NoProjectId` if the path has
+    /// no project id, `NoUsername` if there is no user name, `InvalidScheme` if the scheme is neither `http` nor
+    /// `https`, and `InvalidUrl` if there is no host.
     pub fn parse(alloc: Global, text: &str) -> Result<Dsn, Refusal>
         ensures { GivesDsn result (dsn_of_text text.now) ⊎ IsRefusedAsTooLong result text.now }
     {
@@ -243,7 +246,7 @@ impl Dsn {
     // The DSN that a URL is.
     fn from_url(alloc: Global, url: &Url) -> Result<Dsn, Refusal>
         ensures answer { GivesDsn result (dsn_of url.now) }
-        // A refusal takes no memory.
+        // The URL is tested before any part of it is copied.
         ensures memory { result ≡ Err Refusal.OutOfMemory → IsOk (dsn_of url.now) }
     {
         let project = project_of(url.path());
@@ -259,20 +262,13 @@ impl Dsn {
         let Some(host) = url.host_str() else {
             return Err(Refusal::InvalidDsn(ParseDsnError::InvalidUrl));
         };
-        Ok(Dsn::with_host(alloc, url, scheme, host)?)
-    }
-
-    // Copies the texts. It stands apart from the checks, since a proof grows with all that a function may return from.
-    fn with_host(alloc: Global, url: &Url, scheme: Scheme, host: &str) -> Result<Dsn, AllocError>
-        ensures { IfOk result (λ dsn. with_host url.now scheme (Some host.now) ≡ Ok dsn) }
-    {
         Ok(Dsn {
             scheme,
             public_key: Text::new(alloc, url.username())?,
             host: Text::new(alloc, host)?,
             port: url.port().unwrap_or(scheme.default_port()),
             project_id: ProjectId {
-                name: Text::new(alloc, project_of(url.path()))?,
+                name: Text::new(alloc, project)?,
             },
             org_id: organization_of_host(host),
             text: Text::new(alloc, url.as_str())?,
@@ -293,35 +289,35 @@ impl Dsn {
         self.public_key.as_str()
     }
 
-    /// The host, in the form that URLs have.
+    /// The host, in the normal form of a URL.
     pub fn host(&self) -> &str
         ensures { result.now ≡ self.now.host }
     {
         self.host.as_str()
     }
 
-    /// The port that the text gives, or the scheme's.
+    /// The port of the URL, or the default port of the scheme.
     pub fn port(&self) -> u16
         ensures { result ≡ self.now.port }
     {
         self.port
     }
 
-    /// The project.
+    /// The id of the project.
     pub fn project_id(&self) -> &ProjectId
         ensures { result.now ≡ self.now.project }
     {
         &self.project_id
     }
 
-    /// The organization, where the host begins with `o`, its digits and `.`.
+    /// The id of the organization, if the host begins with `o`, the digits of the id, and `.`.
     pub fn org_id(&self) -> Option<OrganizationId>
         ensures { result ≡ self.now.organization }
     {
         self.org_id
     }
 
-    /// The text, in the form that URLs have.
+    /// The whole DSN, in the normal form of a URL.
     pub fn text(&self) -> &str
         ensures { result.now ≡ self.now.text }
     {

@@ -13,18 +13,18 @@ use sentry_plain::{Items, Text, TextMap, ValueMap};
 use std::alloc::{AllocError, Global};
 use uuid::Uuid;
 
-/// What happened: a message or an error, with what is known around it.
+/// A message or an error, with what is known about its surroundings.
 #[derive(PartialEq)]
 pub struct Event {
-    /// Names the event; the nil id is replaced when the event is captured.
+    /// The id of the event. The nil id is replaced when the event is captured.
     pub event_id: Uuid,
     pub level: Level,
-    /// By what events are grouped: `{{ default }}` stands for the server's own rule.
+    /// What the server groups events by. `{{ default }}` stands for the server's own rule.
     pub fingerprint: Items<Text>,
     pub message: Option<Text>,
     /// The name of the transaction that the event belongs to.
     pub transaction: Option<Text>,
-    /// `other` until the event is captured, which makes it `native`.
+    /// `other` in a new event; capturing sets it to `native`.
     pub platform: Text,
     /// Nanoseconds since the epoch.
     pub timestamp: u64,
@@ -34,9 +34,9 @@ pub struct Event {
     pub user: Option<User>,
     pub request: Option<Request>,
     pub contexts: TextMap<Context>,
-    /// What led to the event, the oldest first.
+    /// The trail that led to the event, oldest first.
     pub breadcrumbs: Items<Breadcrumb>,
-    /// The chain of errors, the innermost first.
+    /// The chain of errors, innermost first.
     pub exception: Items<Exception>,
     pub tags: TextMap<Text>,
     pub extra: ValueMap,
@@ -69,7 +69,7 @@ impl Drop for Event {
 }
 
 impl Event {
-    /// An event of which only the id and the moment are known, in nanoseconds since the epoch.
+    /// Makes an event with this id and timestamp, and defaults for everything else.
     pub fn new(alloc: Global, id: Uuid, now: u64) -> Result<Event, AllocError>
         ensures { IfOk result (λ event. event ≡ new_event id now) }
     {

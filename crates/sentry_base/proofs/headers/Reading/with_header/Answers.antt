@@ -1,6 +1,6 @@
 use Rattle.std.proofs.Common.{refl, sym, true≢false}
 use Rattle.sentry_base.proofs.HeaderListLemmas.{says_more_trace, says_more_baggage, says_no_more}
-use Rattle.sentry_base.proofs.headers.Reading.after.Goals as goal
+use Rattle.sentry_base.proofs.headers.Reading.with_header.Goals as goal
 
 pub returns-then-eq_ignore_ascii_case : goal.returns-then-eq_ignore_ascii_case
 returns-then-eq_ignore_ascii_case c = λ headers say.
