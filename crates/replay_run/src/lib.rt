@@ -8,8 +8,6 @@ mod fault;
 mod lines;
 mod print;
 mod run;
-#[cfg(test)]
-mod tests;
 mod uncalled;
 mod word;
 
