@@ -12,9 +12,9 @@ struct LostEvent;
 
 impl LossSource for LostEvent {
     ghost use Rattle.sentry_base.specs.declared.protocol.losses.Category.TheVariants.{Error};
-    ghost use Rattle.sentry_base.specs.Losses.{lost};
+    ghost use Rattle.sentry_base.specs.Losses.{loss_of};
 
-    ghost losses_under = { λ _ reason. lost Error reason 1 };
+    ghost losses_under = { λ _ reason. loss_of Error reason 1 };
 
     fn losses(&self, reason: Reason) -> Losses {
         Losses::of(Category::Error, reason, 1)

@@ -4,7 +4,7 @@ use Rattle.std.specs.Prelude.{Result, Ok, Err, IfOk}
 use Rattle.std.specs.Result.{result_or}
 use Rattle.url.proofs.OnLiterals.{url_on_literals}
 use Rattle.sentry_base.specs.DsnTexts.{dsn_of_text, GivesDsn, IsRefusedAsTooLong}
-use Rattle.sentry_base.specs.declared.dsn.Dsn.{Dsn}
+use Rattle.sentry_base.specs.DsnParts.{DsnParts}
 use Rattle.sentry_base.specs.declared.protocol.refusal.Refusal.{Refusal}
 use Rattle.replay_run.specs.Calls.{client_dsn_text, client_dsn}
 
@@ -13,7 +13,7 @@ unfolding url_on_literals
 dsn_of_text-client = refl
 
 -- a DSN that was read from the text is the clients' DSN
-pub client_dsn-read : {E : Type 0} (r : Result Dsn Refusal) (other : E)
+pub client_dsn-read : {E : Type 0} (r : Result DsnParts Refusal) (other : E)
     → (GivesDsn r (dsn_of_text client_dsn_text)) ⊎ (IsRefusedAsTooLong r client_dsn_text)
     → IfOk (result_or r (Err other)) (λ dsn. dsn ≡ client_dsn)
 client_dsn-read (Ok dsn) other (inl given) = let text = dsn_of_text-client in cc

@@ -3,7 +3,7 @@ use Rattle.std.specs.Prelude.{ℕ, ◌*◌, ◌-◌, ◌^◌, min, true, Option,
 use Rattle.std.specs.Int.{to_be_bytes, w64, w128}
 use Rattle.sentry_plain.specs.Texts.{Bytes}
 use Rattle.sentry_base.specs.declared.dsn.Scheme.TheVariants.{Https}
-use Rattle.sentry_base.specs.declared.dsn.Dsn.{Dsn}
+use Rattle.sentry_base.specs.DsnParts.{DsnParts}
 use Rattle.sentry_base.specs.declared.protocol.fresh.Fresh.{Fresh}
 use Rattle.sentry_state.specs.Options.{default_plain_options, default_options_with}
 use Rattle.sentry_state.specs.declared.clientoptions.ClientOptions.{ClientOptions}
@@ -33,14 +33,14 @@ fresh_of number = record {
 abbrev pub client_dsn_text : Bytes
 client_dsn_text = codes "https://public@sentry.invalid/1"
 
-abbrev pub client_dsn : Dsn
+abbrev pub client_dsn : DsnParts
 client_dsn = record {
   scheme = Https;
   public_key = codes "public";
   host = codes "sentry.invalid";
   port = 443;
-  project_id = record { text = codes "1" };
-  org_id = None;
+  project = codes "1";
+  organization = None;
   text = client_dsn_text;
 }
 

@@ -1,10 +1,9 @@
 -- Trace texts: where the dash stands that ends an id.
-use Rattle.std.proofs.Common.{◌≡◌, ◌≢◌, ◌⊎◌, refl, sym, ap, subst, ◌∙◌, inl, inr, ℕ, suc, ◌<◌, true, true≢false, List, [], ◌∷◌, ◌++◌, length, get_or, length-append, arith}
+use Rattle.std.proofs.Common.{◌≡◌, ◌⊎◌, refl, sym, ap, subst, ◌∙◌, inl, inr, ℕ, true, true≢false, List, ◌∷◌, ◌++◌, get_or}
 use Rattle.std.specs.Prelude.{Option, Some, None, IsOk, Result, Ok, Err, option_map}
 use Rattle.std.specs.Result.{result_ok}
 use Rattle.std.proofs.lemmas.List.Elements.{All-get_or}
 use Rattle.std.proofs.lemmas.Option.{none-some}
-use Rattle.std.proofs.Math.Seq.{get_or-append_seam}
 use Rattle.hex.specs.Hex.{decode_sized, is_hex_digit}
 use Rattle.hex.specs.declared.error.FromHexError.{FromHexError}
 use Rattle.hex.proofs.HexLemmas.{IsOk-decode_sized}
@@ -15,27 +14,10 @@ use Rattle.sentry_base.specs.Ids.{trace_id_of, span_id_of}
 use Rattle.sentry_base.specs.Readings.{IsReading}
 use Rattle.sentry_plain.specs.Texts.{Bytes}
 use Rattle.sentry_base.specs.TraceTexts.{dash, sampling_of, with_span, HasParts}
+use Rattle.sentry_base.proofs.CutLemmas.{Lacks, has_byte, cut_once}
 
 abbrev pub NoDash : Bytes → Type 0
-NoDash text = (i : ℕ) → i < length text → get_or text i 0 ≢ 45
-
-no_dash_tail : (c : ℕ) (cs : Bytes) → NoDash (c ∷ cs) → (c ≢ 45) × NoDash cs
-no_dash_tail c cs nd = (nd 0 (omega arith), λ i lt. nd (suc i) (omega arith))
-
--- a text with a dash between two others has a dash
-has_dash : (a b : Bytes) → NoDash (a ++ dash ∷ b) → ⊥
-has_dash a b nd = nd (length a) (omega (arith, length-append a (dash ∷ b))) (get_or-append_seam a dash b 0)
-
--- a text is cut at its first dash in one way
-pub cut_once : (a x b y : Bytes) → NoDash a → NoDash x → a ++ dash ∷ b ≡ x ++ dash ∷ y → (a ≡ x) × (b ≡ y)
-cut_once [] [] b y na nx e = (refl, cc)
-cut_once [] (c ∷ xs) b y na nx e = let n = no_dash_tail c xs nx in absurd (n.0 cc)
-cut_once (c ∷ as') [] b y na nx e = let n = no_dash_tail c as' na in absurd (n.0 cc)
-cut_once (c ∷ as') (d ∷ xs) b y na nx e =
-    let heads : c ≡ d = cc in
-    let tails : as' ++ dash ∷ b ≡ xs ++ dash ∷ y = cc in
-    let same = cut_once as' xs b y (no_dash_tail c as' na).1 (no_dash_tail d xs nx).1 tails in
-    (λ i. heads i ∷ same.0 i, same.1)
+NoDash text = Lacks dash text
 
 -- hex digits are no dash
 hex_digits : (text : Bytes) (n : ℕ) → IsOk (decode_sized text n) → NoDash text
@@ -58,8 +40,8 @@ span_digits text id e = hex_digits text 8 (some_ok _ _ id e)
 
 -- a text with no dash says nothing
 pub nothing_uncut : (t : Bytes) → NoDash t → (trace : SentryTrace) → HasParts t trace → ⊥
-nothing_uncut t nd trace (inl h) = has_dash h.0 h.1 (subst NoDash h.2 nd)
-nothing_uncut t nd trace (inr h) = has_dash h.0 _ (subst NoDash h.3 nd)
+nothing_uncut t nd trace (inl h) = has_byte dash h.0 h.1 (subst NoDash h.2 nd)
+nothing_uncut t nd trace (inr h) = has_byte dash h.0 _ (subst NoDash h.3 nd)
 
 -- what stands after the trace id: a span id, or one and a third part
 abbrev pub RestSays : Bytes → SentryTrace → Type 0
@@ -69,22 +51,22 @@ RestSays rest trace =
 
 pub parts_of : (x r : Bytes) → NoDash x → (trace : SentryTrace) → HasParts (x ++ dash ∷ r) trace → (trace_id_of x ≡ Some trace.trace_id) × RestSays r trace
 parts_of x r nd trace (inl h) =
-    let same = cut_once h.0 x h.1 r (trace_digits h.0 trace.trace_id h.3.0) nd (sym h.2) in
+    let same = cut_once dash h.0 x h.1 r (trace_digits h.0 trace.trace_id h.3.0) nd (sym h.2) in
     (ap trace_id_of (sym same.0) ∙ h.3.0, inl (ap span_id_of (sym same.1) ∙ h.3.1, h.4))
 parts_of x r nd trace (inr h) =
-    let same = cut_once h.0 x _ r (trace_digits h.0 trace.trace_id h.4.0) nd (sym h.3) in
+    let same = cut_once dash h.0 x _ r (trace_digits h.0 trace.trace_id h.4.0) nd (sym h.3) in
     (ap trace_id_of (sym same.0) ∙ h.4.0, inr (h.1, h.2, sym same.1, h.4.1, h.5))
 
 -- where the rest has no dash
 pub rest_uncut : (r : Bytes) → NoDash r → (trace : SentryTrace) → RestSays r trace → (span_id_of r ≡ Some trace.span_id) × (trace.sampled ≡ None)
 rest_uncut r nd trace (inl h) = h
-rest_uncut r nd trace (inr h) = absurd (has_dash h.0 h.1 (subst NoDash h.2 nd))
+rest_uncut r nd trace (inr h) = absurd (has_byte dash h.0 h.1 (subst NoDash h.2 nd))
 
 -- where the rest has a dash, the first after y
 pub rest_cut : (y z : Bytes) → NoDash y → (trace : SentryTrace) → RestSays (y ++ dash ∷ z) trace → (span_id_of y ≡ Some trace.span_id) × (trace.sampled ≡ sampling_of z)
-rest_cut y z nd trace (inl h) = absurd (has_dash y z (span_digits _ trace.span_id h.0))
+rest_cut y z nd trace (inl h) = absurd (has_byte dash y z (span_digits _ trace.span_id h.0))
 rest_cut y z nd trace (inr h) =
-    let same = cut_once h.0 y h.1 z (span_digits h.0 trace.span_id h.3) nd (sym h.2) in
+    let same = cut_once dash h.0 y h.1 z (span_digits h.0 trace.span_id h.3) nd (sym h.2) in
     (ap span_id_of (sym same.0) ∙ h.3, h.4 ∙ ap sampling_of same.1)
 
 -- ---- what is read

@@ -1,4 +1,4 @@
--- What a list of headers says: of a trace by its `sentry-trace` values, and of an organization by its baggage.
+-- What a list of headers says: its `sentry-trace` values of a trace, and its `baggage` of an organization.
 use Rattle.std.specs.Prelude.{◌≡◌, ◌≢◌, ◌&&◌, ◌==◌, nat_lt, ℕ, Bool, List, [], All, map, filter, length, codes, bytes_eq, Option, Some, None, Result, Ok, Err, if◌then◌else◌}
 use denote.Ref.{Bor}
 use Rattle.std.specs.Char.{to_ascii_lowercase}

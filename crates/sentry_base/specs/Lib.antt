@@ -2,6 +2,7 @@ pub mod Refusals
 pub mod Events
 pub mod Envelopes
 pub mod Ids
+pub mod DsnParts
 pub mod DsnTexts
 pub mod TraceTexts
 pub mod Readings

@@ -1,19 +1,19 @@
--- What is lost where a record is dropped for a reason.
+-- What is lost if a record is dropped for a reason.
 use Rattle.std.specs.Prelude.{ℕ, List}
 use Rattle.sentry_base.specs.declared.protocol.client_report.ClientReportItem.{ClientReportItem}
 use Rattle.sentry_base.specs.declared.protocol.envelope.EnvelopeItem.{EnvelopeItem}
 use Rattle.sentry_base.specs.declared.protocol.envelope.EnvelopeItem.TheVariants as item
 use Rattle.sentry_base.specs.declared.protocol.losses.Category.TheVariants.{Error, Attachment}
 use Rattle.sentry_base.specs.declared.protocol.losses.Reason.{Reason}
-use Rattle.sentry_base.specs.Losses.{lost, sum_losses}
+use Rattle.sentry_base.specs.Losses.{loss_of, sum_losses}
 
 -- a report loses its items, each under its own reason
 abbrev pub report_losses : List ClientReportItem → List ℕ
-report_losses items = sum_losses (λ item. lost item.category item.reason item.quantity) items
+report_losses items = sum_losses (λ item. loss_of item.category item.reason item.quantity) items
 
 abbrev pub item_losses : Reason → EnvelopeItem → List ℕ
-item_losses reason (item.Event event) = lost Error reason 1
-item_losses reason (item.Attachment attachment) = lost Attachment reason 1
+item_losses reason (item.Event event) = loss_of Error reason 1
+item_losses reason (item.Attachment attachment) = loss_of Attachment reason 1
 item_losses reason (item.ClientReport report) = report_losses report.items
 
 -- an envelope loses its items

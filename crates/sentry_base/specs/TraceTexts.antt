@@ -1,4 +1,5 @@
--- What a trace text says, and how one is printed: a trace id, the id of a span in it, and perhaps whether the trace is sampled.
+-- The values of `sentry-trace` headers, and how they are printed: the id of a trace, the id of a span in it, and
+-- perhaps a sampling decision.
 use Rattle.std.specs.Prelude.{◌≡◌, ◌⊎◌, ℕ, Bool, true, false, [], ◌∷◌, ◌++◌, codes, bytes_eq, Option, Some, None, option_map, if◌then◌else◌}
 use Rattle.std.specs.Str.{trim}
 use Rattle.hex.specs.Hex.{encode_lower}

@@ -1,7 +1,9 @@
-//! Texts that name a project and where its events go.
-ghost use Rattle.std.specs.Prelude.{◌≡◌, ◌⊎◌, [], ◌≢◌, Some, Ok, IfOk, option_copied, length, ◌≤◌, ◌^◌, not};
-ghost use Rattle.url.specs.Parser.{parse_url};
-ghost use Rattle.sentry_base.specs.DsnTexts.{is_empty, project_of, scheme_of, default_port_of, organization_of_host, with_host, dsn_of, dsn_of_text, GivesDsn, IsRefusedAsTooLong, project_id_of};
+//! DSNs: the texts that say where events are sent.
+ghost use Rattle.std.specs.Prelude.{◌≡◌, ◌⊎◌, Err, IsOk, Ok, Some, not};
+ghost use Rattle.sentry_base.specs.DsnTexts.{GivesDsn, HostNames, IsRefusedAsTooLong};
+ghost use Rattle.sentry_base.specs.DsnTexts.{default_port_of, dsn_of, dsn_of_text, is_empty, organization_of_host};
+ghost use Rattle.sentry_base.specs.DsnTexts.{project_id_of, project_of, scheme_of};
+ghost use Rattle.sentry_base.specs.Readings.{IsReading};
 
 mod into_dsn;
 
@@ -10,13 +12,14 @@ pub use into_dsn::IntoDsn;
 use sentry_plain::Text;
 use std::alloc::{AllocError, Global};
 use std::fmt;
+use std::marker::Model;
 use thiserror::Error;
 use url::{ParseError, Url};
 
-/// Why a text is no DSN.
+/// Why a text is not a DSN.
 #[derive(Clone, Copy, Debug, Error, PartialEq, Eq)]
 pub enum ParseDsnError {
-    /// The text is no URL, or one without a host.
+    /// The text is not a URL, or the URL has no host.
     #[error("not a URL with a host")]
     InvalidUrl,
     /// The scheme is neither `http` nor `https`.
@@ -25,10 +28,10 @@ pub enum ParseDsnError {
     /// The user name, which holds the public key, is empty.
     #[error("no user name")]
     NoUsername,
-    /// The path names no project.
+    /// The path has no project id.
     #[error("no project id")]
     NoProjectId,
-    /// The text of a project id is empty.
+    /// The project id is the empty text.
     #[error("an empty project id")]
     InvalidProjectId,
 }
@@ -36,11 +39,14 @@ pub enum ParseDsnError {
 /// The scheme of a DSN.
 #[derive(Clone, Copy, Debug, PartialEq, Eq)]
 pub enum Scheme {
+    /// `http`.
     Http,
+    /// `https`.
     Https,
 }
 
 impl Scheme {
+    // The scheme of this name.
     fn of(name: &str) -> Option<Scheme>
         ensures { result ≡ scheme_of name.now }
     {
@@ -51,7 +57,7 @@ impl Scheme {
         }
     }
 
-    /// The port that is meant where a DSN gives none.
+    /// The port that is used if a DSN has none: 80 or 443.
     pub fn default_port(&self) -> u16
         ensures { result ≡ default_port_of self.now }
     {
@@ -76,34 +82,56 @@ impl fmt::Display for Scheme {
     }
 }
 
-/// Names a project.
-#[derive(Clone, Debug, Drop, PartialEq, Eq)]
+/// The id of a project. Contracts see its text.
+#[derive(Debug, Drop, PartialEq, Eq)]
 pub struct ProjectId {
-    text: Text,
+    name: Text,
+}
+
+impl Model for ProjectId {
+    ghost use Rattle.sentry_plain.specs.Texts.{Bytes};
+
+    ghost Value = { Bytes };
+
+    ghost view = { λ project. project.name };
+
+    ghost inverse = { λ name. record { name = name } };
+}
+
+impl Clone for ProjectId {
+    ghost is_clone = { λ old new. new ≡ old };
+
+    fn clone(&self) -> Result<ProjectId, AllocError> {
+        Ok(ProjectId {
+            name: self.name.clone()?,
+        })
+    }
 }
 
 impl ProjectId {
-    /// The project of this name. The empty text is refused as `InvalidProjectId`.
+    /// Makes a project id. Fails with `InvalidProjectId` if the text is empty.
     pub fn new(alloc: Global, name: &str) -> Result<ProjectId, Refusal>
-        ensures { GivesDsn result (project_id_of name.now) }
+        ensures answer { GivesDsn result (project_id_of name.now) }
+        // The text is tested before it is copied.
+        ensures memory { result ≡ Err Refusal.OutOfMemory → IsOk (project_id_of name.now) }
     {
         if name.is_empty() {
             return Err(Refusal::InvalidDsn(ParseDsnError::InvalidProjectId));
         }
         Ok(ProjectId {
-            text: Text::new(alloc, name)?,
+            name: Text::new(alloc, name)?,
         })
     }
 
-    /// The name.
+    /// The text of the id.
     pub fn value(&self) -> &str
-        ensures { result.now ≡ self.now.text }
+        ensures { result.now ≡ self.now }
     {
-        self.text.as_str()
+        self.name.as_str()
     }
 }
 
-/// The last segment of a path that isn't empty, or the empty text.
+// The last non-empty segment of a path, or the empty text.
 fn project_of(path: &str) -> &str
     ensures { result.now ≡ project_of path.now }
 {
@@ -117,17 +145,18 @@ fn project_of(path: &str) -> &str
         .unwrap_or("")
 }
 
-/// The organization that a host names at its front, as `o42.example.com` does.
+// The organization in the first label of a host, such as 42 in `o42.example.com`.
 fn organization_of_host(host: &str) -> Option<OrganizationId>
-    ensures { result ≡ organization_of_host host.now }
+    ensures value { result ≡ organization_of_host host.now }
+    ensures names { IsReading HostNames host.now result }
 {
     let (label, _) = host.split_once('.')?;
     let digits = label.strip_prefix('o')?;
     OrganizationId::parse(digits)
 }
 
-/// Where events go: a project, and the server and key by which it is reached.
-#[derive(Clone, Debug, PartialEq, Eq)]
+/// Where events are sent: a server, a project on it, and the public key to send with. Contracts see these parts.
+#[derive(Debug, PartialEq, Eq)]
 pub struct Dsn {
     scheme: Scheme,
     public_key: Text,
@@ -136,6 +165,32 @@ pub struct Dsn {
     project_id: ProjectId,
     org_id: Option<OrganizationId>,
     text: Text,
+}
+
+impl Model for Dsn {
+    ghost use Rattle.sentry_base.specs.DsnParts.{DsnParts};
+
+    ghost Value = { DsnParts };
+
+    ghost view = { λ dsn. record {
+      scheme = dsn.scheme;
+      public_key = dsn.public_key;
+      host = dsn.host;
+      port = dsn.port;
+      project = dsn.project_id;
+      organization = dsn.org_id;
+      text = dsn.text;
+    } };
+
+    ghost inverse = { λ parts. record {
+      scheme = parts.scheme;
+      public_key = parts.public_key;
+      host = parts.host;
+      port = parts.port;
+      project_id = parts.project;
+      org_id = parts.organization;
+      text = parts.text;
+    } };
 }
 
 impl Drop for Dsn {
@@ -152,13 +207,31 @@ impl Drop for Dsn {
     }
 }
 
+impl Clone for Dsn {
+    ghost is_clone = { λ old new. new ≡ old };
+
+    fn clone(&self) -> Result<Dsn, AllocError> {
+        Ok(Dsn {
+            scheme: self.scheme,
+            public_key: self.public_key.clone()?,
+            host: self.host.clone()?,
+            port: self.port,
+            project_id: self.project_id.clone()?,
+            org_id: self.org_id,
+            text: self.text.clone()?,
+        })
+    }
+}
+
 impl Dsn {
-    /// From this length on, a text may be refused as too long for `url`, whose texts stay below 4 GB.
+    // From this length on, a text may be refused as too long: `url` keeps its texts below 4 GB.
     const LONG_TEXT: usize = 1 << 24;
 
-    /// Reads a DSN. It is refused as `InvalidUrl` where it is no URL or has no host, `NoProjectId` where its path has no
-    /// name between slashes, `NoUsername`, and `InvalidScheme` at another scheme than `http` and `https`: of several, as
-    /// the first in the order no URL, no project, no user name, scheme, no host.
+    /// Parses a DSN.
+    ///
+    /// Fails with the first of these that applies: `InvalidUrl` if the text is not a URL, `NoProjectId` if the path has
+    /// no project id, `NoUsername` if there is no user name, `InvalidScheme` if the scheme is neither `http` nor
+    /// `https`, and `InvalidUrl` if there is no host.
     pub fn parse(alloc: Global, text: &str) -> Result<Dsn, Refusal>
         ensures { GivesDsn result (dsn_of_text text.now) ⊎ IsRefusedAsTooLong result text.now }
     {
@@ -170,8 +243,11 @@ impl Dsn {
         }
     }
 
+    // The DSN that a URL is.
     fn from_url(alloc: Global, url: &Url) -> Result<Dsn, Refusal>
-        ensures { GivesDsn result (dsn_of url.now) }
+        ensures answer { GivesDsn result (dsn_of url.now) }
+        // The URL is tested before any part of it is copied.
+        ensures memory { result ≡ Err Refusal.OutOfMemory → IsOk (dsn_of url.now) }
     {
         let project = project_of(url.path());
         if project.is_empty() {
@@ -186,20 +262,13 @@ impl Dsn {
         let Some(host) = url.host_str() else {
             return Err(Refusal::InvalidDsn(ParseDsnError::InvalidUrl));
         };
-        Ok(Dsn::with_host(alloc, url, scheme, host)?)
-    }
-
-    // Copies the texts. It stands apart from the checks, since a proof grows with all that a function may return from.
-    fn with_host(alloc: Global, url: &Url, scheme: Scheme, host: &str) -> Result<Dsn, AllocError>
-        ensures { IfOk result (λ dsn. with_host url.now scheme (Some host.now) ≡ Ok dsn) }
-    {
         Ok(Dsn {
             scheme,
             public_key: Text::new(alloc, url.username())?,
             host: Text::new(alloc, host)?,
             port: url.port().unwrap_or(scheme.default_port()),
             project_id: ProjectId {
-                text: Text::new(alloc, project_of(url.path()))?,
+                name: Text::new(alloc, project)?,
             },
             org_id: organization_of_host(host),
             text: Text::new(alloc, url.as_str())?,
@@ -220,35 +289,35 @@ impl Dsn {
         self.public_key.as_str()
     }
 
-    /// The host, in the form that URLs have.
+    /// The host, in the normal form of a URL.
     pub fn host(&self) -> &str
         ensures { result.now ≡ self.now.host }
     {
         self.host.as_str()
     }
 
-    /// The port that the text gives, or the scheme's.
+    /// The port of the URL, or the default port of the scheme.
     pub fn port(&self) -> u16
         ensures { result ≡ self.now.port }
     {
         self.port
     }
 
-    /// The project.
+    /// The id of the project.
     pub fn project_id(&self) -> &ProjectId
-        ensures { result.now ≡ self.now.project_id }
+        ensures { result.now ≡ self.now.project }
     {
         &self.project_id
     }
 
-    /// The organization, where the host begins with `o`, its digits and `.`.
+    /// The id of the organization, if the host begins with `o`, the digits of the id, and `.`.
     pub fn org_id(&self) -> Option<OrganizationId>
-        ensures { result ≡ self.now.org_id }
+        ensures { result ≡ self.now.organization }
     {
         self.org_id
     }
 
-    /// The text, in the form that URLs have.
+    /// The whole DSN, in the normal form of a URL.
     pub fn text(&self) -> &str
         ensures { result.now ≡ self.now.text }
     {

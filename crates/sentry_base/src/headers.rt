@@ -1,8 +1,9 @@
-//! Headers that carry a trace from one service to the next.
+//! The HTTP headers that carry a trace from one service to the next: `sentry-trace` and `baggage`.
 ghost use Rattle.std.specs.Prelude.{◌≡◌, ◌∷◌, ◌++◌, [], List, map, Some, None, Result, Ok, IfOk, string_bytes};
 ghost use Rattle.std.specs.Iterator.{IsFiniteIterable, Drains};
-ghost use Rattle.sentry_base.specs.HeaderLists.{Header, HeadersSay, SayTrace, GiveContext, GiveTrace, header_of, trace_of};
 ghost use Rattle.sentry_plain.specs.Texts.{Bytes};
+ghost use Rattle.sentry_base.specs.HeaderLists.{Header, header_of, trace_of};
+ghost use Rattle.sentry_base.specs.HeaderLists.{GiveContext, GiveTrace, HeadersSay, SayTrace};
 ghost use Rattle.sentry_base.specs.TraceHeaders.{trace_header};
 ghost use Rattle.sentry_base.specs.TraceTexts.{trace_text};
 
@@ -21,25 +22,25 @@ const SENTRY_TRACE: &str = "sentry-trace";
 
 const BAGGAGE: &str = "baggage";
 
-/// What continues a trace that came in with a request.
+/// What a service needs to continue the trace of an incoming request.
 #[derive(Clone, Copy, Debug, PartialEq)]
 pub struct TracePropagationContext {
-    /// The trace.
+    /// The id of the trace.
     pub trace_id: TraceId,
-    /// The span that the request came from.
+    /// The id of the span that sent the request.
     pub span_id: SpanId,
-    /// Whether the trace is sampled, where that is decided.
+    /// The sampling decision, if one was made.
     pub sampled: Option<bool>,
-    /// The organization that sent the request, where it is known.
+    /// The organization that sent the request, if the headers name it.
     pub org_id: Option<OrganizationId>,
 }
 
-/// Why headers continue no trace.
+/// Why no trace could be read from a list of headers.
 #[derive(Clone, Copy, Debug, PartialEq, Eq)]
 pub enum HeaderParseError {
     /// There is no `sentry-trace` header.
     Missing,
-    /// There are `sentry-trace` headers, and none of them is valid.
+    /// There are `sentry-trace` headers, but none of them is valid.
     Invalid,
 }
 
@@ -59,7 +60,7 @@ impl fmt::Display for HeaderParseError {
 
 impl std::error::Error for HeaderParseError {}
 
-/// What the headers so far say.
+// What the headers read so far say.
 #[derive(Clone, Copy)]
 struct Reading {
     trace: Result<SentryTrace, HeaderParseError>,
@@ -67,6 +68,7 @@ struct Reading {
 }
 
 impl Reading {
+    // No header was read yet.
     fn new() -> Reading
         ensures { HeadersSay [] result.trace result.org_id }
     {
@@ -76,9 +78,10 @@ impl Reading {
         }
     }
 
-    /// What they say with one more header.
-    fn after(self, name: &str, value: &str) -> Reading
-        ensures { (headers : List Header) → HeadersSay headers self.trace self.org_id → HeadersSay (headers ++ (name.now, value.now) ∷ []) result.trace result.org_id }
+    // One more header was read.
+    fn with_header(self, name: &str, value: &str) -> Reading
+        ensures { (headers : List Header) → HeadersSay headers self.trace self.org_id
+            → HeadersSay (headers ++ (name.now, value.now) ∷ []) result.trace result.org_id }
     {
         if name.eq_ignore_ascii_case(SENTRY_TRACE) {
             return Reading {
@@ -95,6 +98,7 @@ impl Reading {
         self
     }
 
+    // The context that the headers give.
     fn context(self) -> Result<TracePropagationContext, HeaderParseError>
         ensures { (headers : List Header) → HeadersSay headers self.trace self.org_id → GiveContext headers result }
     {
@@ -110,7 +114,7 @@ impl Reading {
     }
 }
 
-/// The trace of the last valid value: this one's, or else the one that was read before.
+// The trace of the last valid value: of this one, or else the trace that was read before.
 fn read_trace(
     before: Result<SentryTrace, HeaderParseError>,
     value: &str,
@@ -127,7 +131,7 @@ fn read_trace(
 }
 
 impl TracePropagationContext {
-    /// These ids, with no sampling decision and no organization.
+    /// Makes a context of these ids, with no sampling decision and no organization.
     pub fn new(trace_id: TraceId, span_id: SpanId) -> TracePropagationContext
         ensures { result ≡ record { trace_id = trace_id; span_id = span_id; sampled = None; org_id = None } }
     {
@@ -139,7 +143,7 @@ impl TracePropagationContext {
         }
     }
 
-    /// The same with this sampling decision.
+    /// Sets the sampling decision.
     pub fn with_sampled(self, sampled: bool) -> TracePropagationContext
         ensures { result ≡ record self { sampled = Some sampled } }
     {
@@ -149,31 +153,38 @@ impl TracePropagationContext {
         }
     }
 
-    /// The value of the `sentry-trace` header that hands the trace on.
+    /// The value of the `sentry-trace` header that passes the trace on to the next service.
     pub fn sentry_trace_header(&self, alloc: Global) -> Result<String, AllocError>
         ensures text { IfOk result (λ text. string_bytes text ≡ trace_text (trace_of self.now)) }
-        ensures read_back { IfOk result (λ text. (answer : Result TracePropagationContext HeaderParseError) → GiveContext (trace_header (string_bytes text) ∷ []) answer → answer ≡ Ok (record self.now { org_id = None })) }
+        // Read alone, the header gives this context without its organization.
+        ensures read_back { IfOk result (λ text. (answer : Result TracePropagationContext HeaderParseError)
+            → GiveContext (trace_header (string_bytes text) ∷ []) answer
+            → answer ≡ Ok (record self.now { org_id = None })) }
     {
         self.trace().to_string(alloc)
     }
 
+    // The part that is printed.
     fn trace(&self) -> SentryTrace
         ensures { result ≡ trace_of self.now }
     {
         SentryTrace::new(self.trace_id, self.span_id, self.sampled)
     }
 
-    /// Reads headers. `Missing` is answered where none is named `sentry-trace`, and `Invalid` where some are and none of
-    /// them is valid. A baggage header that is not valid is passed over.
+    /// Reads the trace and the organization from a list of headers. Of several valid values, the last one counts.
+    ///
+    /// Fails with `Missing` if no header is named `sentry-trace`, and with `Invalid` if none of those that are is valid.
+    /// Invalid entries of `baggage` headers are ignored.
     pub fn try_from_headers<'a, I: IntoIterator<Item = (&'a str, &'a str)>>(
         headers: I,
     ) -> Result<TracePropagationContext, HeaderParseError>
         requires { IsFiniteIterable I.into_iter_gives I.IntoIter.can_next I.IntoIter.remaining headers }
-        ensures { (it : I.IntoIter) × (items : List _) × I.into_iter_gives headers it × Drains I.IntoIter.next_gives it items × GiveContext (map header_of items) result }
+        ensures { (it : I.IntoIter) × (items : List _) × I.into_iter_gives headers it
+            × Drains I.IntoIter.next_gives it items × GiveContext (map header_of items) result }
     {
         let mut reading = Reading::new();
         for (name, value) in headers {
-            reading = reading.after(name, value);
+            reading = reading.with_header(name, value);
         }
         reading.context()
     }
@@ -195,12 +206,14 @@ impl From<SentryTrace> for TracePropagationContext {
     }
 }
 
-/// Reads headers as `TracePropagationContext::try_from_headers` does, and none where that gives no context.
+/// Reads the trace from a list of headers, as `TracePropagationContext::try_from_headers` does. Returns `None` if that
+/// fails.
 pub fn parse_headers<'a, I: IntoIterator<Item = (&'a str, &'a str)>>(
     headers: I,
 ) -> Option<SentryTrace>
     requires { IsFiniteIterable I.into_iter_gives I.IntoIter.can_next I.IntoIter.remaining headers }
-    ensures { (it : I.IntoIter) × (items : List _) × I.into_iter_gives headers it × Drains I.IntoIter.next_gives it items × GiveTrace (map header_of items) result }
+    ensures { (it : I.IntoIter) × (items : List _) × I.into_iter_gives headers it
+        × Drains I.IntoIter.next_gives it items × GiveTrace (map header_of items) result }
 {
     match TracePropagationContext::try_from_headers(headers) {
         Ok(context) => Some(context.trace()),

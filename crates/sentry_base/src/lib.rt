@@ -1,4 +1,4 @@
-//! What the layers of `sentry_core` share: records, ids, keys, refusals and losses, trace headers, DSNs and texts.
+//! Types that every layer of the SDK uses: event records, ids, keys, refusals, losses, trace headers and DSNs.
 #![tactic(auto)]
 
 pub mod dsn;

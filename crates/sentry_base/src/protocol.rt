@@ -1,4 +1,4 @@
-//! The records that are sent, and the ids and keys in them.
+//! Events, envelopes and the other records that are sent, with their ids, keys and reasons for losses.
 
 mod attachment;
 mod breadcrumb;

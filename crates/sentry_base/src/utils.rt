@@ -1,7 +1,8 @@
-//! What integrations need of headers, URLs and debug texts.
-ghost use Rattle.std.specs.Prelude.{◌≡◌, ◌==◌, bytes_eq, map, position};
+//! Helpers for integrations: sensitive headers, URLs with credentials, and the type names in debug texts.
+ghost use Rattle.std.specs.Prelude.{◌≡◌, ◌==◌, IfErr, IfOk, bytes_eq, map, position};
 ghost use Rattle.std.specs.List.{list_all, zip};
-ghost use Rattle.sentry_base.specs.UtilityTexts.{header_letter, is_sensitive, ends_type, type_of_debug};
+ghost use Rattle.sentry_base.specs.UtilityTexts.{ends_type, header_letter, is_sensitive, type_of_debug};
+ghost use Rattle.sentry_base.specs.UtilityTexts.{ignore_unless_out_of_memory, scrub_pii_from_url};
 
 mod error_event;
 
@@ -11,7 +12,7 @@ use url::{ParseError, ParseResult, Url};
 
 const PII_REPLACEMENT: &str = "[Filtered]";
 
-/// Whether a header of this name may carry what is private to a user. Takes no memory.
+/// Whether a header of this name may carry private data of a user. Allocates nothing.
 pub fn is_sensitive_header(name: &str) -> bool
     ensures { result ≡ is_sensitive name.now }
 {
@@ -24,13 +25,14 @@ pub fn is_sensitive_header(name: &str) -> bool
         || is_written_as(name, "X_API_KEY")
 }
 
-/// Whether the name is this one, in any case and with `-` or `_` between words.
+// Whether the name is this one, in any case and with `-` or `_` between words.
 fn is_written_as(name: &str, capitals: &str) -> bool
     ensures { result ≡ bytes_eq (map header_letter name.now) capitals.now }
 {
     name.len() == capitals.len() && has_letters(name.as_bytes(), capitals.as_bytes())
 }
 
+// The same for names of one length.
 fn has_letters(name: &[u8], capitals: &[u8]) -> bool
     ensures { result ≡ list_all (λ pair. header_letter pair.0 == pair.1) (zip name.now capitals.now) }
 {
@@ -39,6 +41,7 @@ fn has_letters(name: &[u8], capitals: &[u8]) -> bool
         .all(|(byte, capital)| header_letter(*byte) == *capital)
 }
 
+// A byte of a name, in upper case and with `_` for `-`.
 fn header_letter(byte: u8) -> u8
     ensures { result ≡ header_letter byte }
 {
@@ -49,29 +52,33 @@ fn header_letter(byte: u8) -> u8
     }
 }
 
-/// The URL with `[Filtered]`, percent-encoded, in place of a user name that isn't empty and of a password. A URL that can
-/// have neither stays as it is.
-pub fn scrub_pii_from_url(url: Url) -> Result<Url, Refusal> {
-    let mut url = url;
+/// Replaces the user name and the password of a URL, if it has them, by `[Filtered]` in percent-encoding.
+pub fn scrub_pii_from_url(mut url: Url) -> Result<Url, Refusal>
+    ensures ok { IfOk result (λ scrubbed. scrubbed ≡ scrub_pii_from_url url) }
+    ensures err { IfErr result (λ refusal. refusal ≡ Refusal.OutOfMemory) }
+{
     if !url.username().is_empty() {
-        unless_out_of_room(url.set_username(PII_REPLACEMENT))?;
+        ignore_unless_out_of_memory(url.set_username(PII_REPLACEMENT))?;
     }
     if url.password().is_some() {
-        unless_out_of_room(url.set_password(Some(PII_REPLACEMENT)))?;
+        ignore_unless_out_of_memory(url.set_password(Some(PII_REPLACEMENT)))?;
     }
     Ok(url)
 }
 
-/// Passes over the answer that a URL can't take what was to be set.
-fn unless_out_of_room(set: ParseResult<()>) -> Result<(), Refusal> {
+// Ignores that a URL of this kind can't have a user name or a password.
+fn ignore_unless_out_of_memory(set: ParseResult<()>) -> Result<(), Refusal>
+    ensures { result ≡ ignore_unless_out_of_memory set }
+{
     match set {
         Err(ParseError::OutOfMemory | ParseError::Overflow) => Err(Refusal::OutOfMemory),
         _ => Ok(()),
     }
 }
 
-/// The name of the type in the debug text of a value, as `ParseIntError` in `ParseIntError { kind: InvalidDigit }`: what
-/// stands before the first space, parenthesis, brace or end of a line. Takes no memory.
+/// The name of a type, read from the debug text of a value, such as `ParseIntError` from
+/// `ParseIntError { kind: InvalidDigit }`: the text before the first space, parenthesis, brace or line end. Allocates
+/// nothing.
 pub fn parse_type_from_debug(debug: &str) -> &str
     ensures { result.now ≡ type_of_debug debug.now }
 {
@@ -81,12 +88,14 @@ pub fn parse_type_from_debug(debug: &str) -> &str
     }
 }
 
+// Where the name of the type ends, if anything follows it.
 fn type_end(debug: &[u8]) -> Option<usize>
     ensures { result ≡ position ends_type debug.now }
 {
     debug.iter().position(|byte| ends_type(*byte))
 }
 
+// Whether the name of a type ends before this byte.
 fn ends_type(byte: u8) -> bool
     ensures { result ≡ ends_type byte }
 {

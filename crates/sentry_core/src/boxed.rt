@@ -15,3 +15,9 @@ pub type Scope = sentry_state::scope::Scope<BoxedEventCallback>;
 
 /// The call of one setter of a scope.
 pub type ScopeEdit = sentry_state::scope::ScopeEdit<BoxedEventCallback>;
+
+/// The layers of a hub.
+pub type Stack = sentry_state::scope::Stack<BoxedEventCallback>;
+
+/// A client, or none, and a scope.
+pub type StackLayer = sentry_state::scope::StackLayer<BoxedEventCallback>;

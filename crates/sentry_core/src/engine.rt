@@ -1,7 +1,6 @@
 //! The engine over boxed callbacks.
 use crate::boxed::ClientCallbacks;
-pub use sentry_engine::call::run;
-pub use sentry_engine::engine::{Client, NextNumbers, Out};
+pub use sentry_engine::engine::Out;
 use sentry_state::callbacks::BoxedEventCallback;
 
 /// An engine.
@@ -11,7 +10,7 @@ pub type Engine = sentry_engine::engine::Engine<BoxedEventCallback, ClientCallba
 pub type Call = sentry_engine::call::Call<BoxedEventCallback, ClientCallbacks>;
 
 /// What a call replies.
-pub type Reply = sentry_engine::call::Reply<ClientCallbacks>;
+pub type Reply = sentry_engine::call::Reply<BoxedEventCallback, ClientCallbacks>;
 
-/// What a call answers.
-pub type Answer = sentry_engine::call::Answer<ClientCallbacks>;
+/// What a call answers: its reply and envelopes, or why it was refused.
+pub type Answer = sentry_engine::call::Answer<BoxedEventCallback, ClientCallbacks>;

@@ -1,13 +1,23 @@
-//! The instrumentation core of an error-reporting SDK, as users name it: the generic layers below, with boxed callbacks.
+//! The core of an error-reporting SDK, with each name where the Rust crate `sentry-core` has it. The layers below are
+//! generic in the callbacks that a caller hands in; here these are boxes.
 #![tactic(auto)]
 
 mod boxed;
+pub mod client_report;
 pub mod engine;
+pub mod types;
+pub mod utils;
 
-pub use boxed::{ClientCallbacks, ClientOptions, Scope, ScopeEdit};
+pub use boxed::{ClientCallbacks, ClientOptions, Scope, ScopeEdit, Stack, StackLayer};
 pub use sentry_base::dsn::IntoDsn;
+pub use sentry_base::headers::{
+    HeaderParseError, SentryTrace, TraceHeader, TraceHeadersIter, TracePropagationContext,
+    parse_headers,
+};
+pub use sentry_base::protocol;
 pub use sentry_base::protocol::{Breadcrumb, Envelope, Level, User};
-pub use sentry_base::{dsn as types, protocol};
+pub use sentry_base::utils::{event_from_error, parse_type_from_debug};
+pub use sentry_plain::{Items, Shared, Text, TextMap};
 pub use sentry_state::callbacks::{
     BoxedEventCallback, BoxedIntegration, EventCallback, Integration,
 };

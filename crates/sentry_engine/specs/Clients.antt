@@ -1,7 +1,7 @@
 -- What the calls on clients answer, hand out and leave.
 use Rattle.std.specs.Prelude.{ℕ, nat_lt, ◌-◌, Bool, ◌&&◌, Option, is_some, [], ◌+◌, ◌^◌, ◌==◌}
 use Rattle.sentry_plain.specs.Tables.{put}
-use Rattle.sentry_base.specs.declared.dsn.Dsn.{Dsn}
+use Rattle.sentry_base.specs.DsnParts.{DsnParts}
 use Rattle.sentry_base.specs.declared.protocol.keys.ClientKey.{ClientKey}
 use Rattle.sentry_base.specs.declared.protocol.keys.Label.{Label}
 use Rattle.sentry_base.specs.declared.protocol.refusal.Refusal.TheVariants.{Stale, ForeignLosses, Full}
@@ -31,7 +31,7 @@ module _ {P C : Type 0} where
   options key world = require_some Stale world (plain_client_at world key) (λ client. reply_with client.options [] world)
 
   -- where a client sends to
-  unfoldable pub dsn : ClientKey → World P C → Outcome P C (Option Dsn)
+  unfoldable pub dsn : ClientKey → World P C → Outcome P C (Option DsnParts)
   dsn key world = require_some Stale world (plain_client_at world key) (λ client. reply_with client.options.plain.dsn [] world)
 
   -- a client is enabled where its options have a DSN and its slot is occupied

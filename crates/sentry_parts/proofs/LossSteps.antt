@@ -1,5 +1,6 @@
 -- Each step on the words keeps both laws.
-use Rattle.std.proofs.Common.{◌≡◌, ◌≢◌, ◌⊎◌, ℕ, zero, suc, ◌+◌, ◌%◌, ◌^◌, ◌<◌, ◌≤◌, eqb, not, ◌&&◌, ◌||◌, Bool, true, false, true≢false, cond, List, [], ◌∷◌, ◌++◌, length, get_or, set, refl, sym, ap, ap₂, ◌∙◌, inl, inr, ⊎_elim, arith, eq-eqb, ne_eqb, get_or-set_same, get_or-set_other}
+use Rattle.std.proofs.Common.{◌≡◌, ◌≢◌, ◌⊎◌, ℕ, zero, suc, ◌+◌, ◌%◌, ◌^◌, ◌<◌, ◌≤◌, eqb, not, ◌&&◌, ◌||◌, Bool, true, false, true≢false, cond, List, [], ◌∷◌, ◌++◌, length, get_or, set, refl, sym, ap, ap₂, ◌∙◌, inl, inr, ⊎_elim, arith, eq-eqb, ne_eqb, get_or-set_same, get_or-set_other, sum_by}
+use Rattle.std.proofs.lemmas.List.Sums.{sum_by-append, sum_by-cons, fold-append}
 use mathlib.Core.Logic.{dite}
 use mathlib.Core.Option.{some, some-injective, some-ne-none}
 use native.Mathlib.Decide.{ℕ_discrete}
@@ -7,17 +8,19 @@ use lib.ListN.{get_elem?}
 use Rattle.atomic_table.proofs.Lists.{set_else}
 use Rattle.sentry_parts.specs.declared.client_reports.step.LossStep.{LossStep}
 use Rattle.sentry_parts.specs.declared.client_reports.step.LossStep.TheVariants.{Add, Raise, Lower, Take}
-use Rattle.sentry_parts.specs.LossViews.{total, followed, added, took, raise_after, take_after, owes_raise, owes_take, owes, Balance, FlagLaw, Laws}
+use Rattle.sentry_parts.specs.LossViews.{quantity_added, quantity_taken, owes_raise_after, owes_take_after, owes_raise, owes_take, owes, Balance, FlagLaw, Laws}
 
 module _ {A : Type 0} where
-  pub total_append : (f : A → ℕ) (xs ys : List A) → total f (xs ++ ys) ≡ total f xs + total f ys
-  total_append f [] ys = omega arith
-  total_append f (x ∷ xs) ys = let r = total_append f xs ys in omega arith
-
-  pub total_set : (f : A → ℕ) (l : List A) (i : ℕ) (v w : A) → get_elem? l i ≡ some v → total f (set l i w) + f v ≡ total f l + f w
-  total_set f [] i v w e = absurd (some-ne-none v (sym e))
-  total_set f (x ∷ xs) zero v w e = let is : f x ≡ f v = ap f (some-injective x v e) in omega arith
-  total_set f (x ∷ xs) (suc i) v w e = let r = total_set f xs i v w e in omega arith
+  pub sum_by_set : (f : A → ℕ) (l : List A) (i : ℕ) (v w : A) → get_elem? l i ≡ some v → sum_by f (set l i w) + f v ≡ sum_by f l + f w
+  sum_by_set f [] i v w e = absurd (some-ne-none v (sym e))
+  sum_by_set f (x ∷ xs) zero v w e =
+      let is : f x ≡ f v = ap f (some-injective x v e) in
+      let old = sum_by-cons f x xs in
+      let new = sum_by-cons f w xs in omega arith
+  sum_by_set f (x ∷ xs) (suc i) v w e =
+      let r = sum_by_set f xs i v w e in
+      let old = sum_by-cons f x xs in
+      let new = sum_by-cons f x (set xs i w) in omega arith
 
   pub set_there : (l : List A) (i : ℕ) (v w : A) → get_elem? l i ≡ some v → get_elem? (set l i w) i ≡ some w
   set_there [] i v w e = absurd (some-ne-none v (sym e))
@@ -31,12 +34,8 @@ pub elsewhere : (words : List ℕ) (j i x : ℕ) → i ≢ j → get_or (set wor
 elsewhere words j i x apart = get_or-set_other words j i x 0 apart
 
 -- one more step in one view
-pub grew : (f : LossStep → ℕ) (views : List (List LossStep)) (p : ℕ) (v : List LossStep) (s : LossStep) → get_elem? views p ≡ some v → total (total f) (set views p (v ++ s ∷ [])) ≡ total (total f) views + f s
-grew f views p v s at = let a = total_set (total f) views p v (v ++ s ∷ []) at in let b = total_append f v (s ∷ []) in omega arith
-
-pub followed_append : (f : Bool → LossStep → Bool) (b : Bool) (xs ys : List LossStep) → followed f b (xs ++ ys) ≡ followed f (followed f b xs) ys
-followed_append f b [] ys = refl
-followed_append f b (x ∷ xs) ys = followed_append f (f b x) xs ys
+pub grew : (f : LossStep → ℕ) (views : List (List LossStep)) (p : ℕ) (v : List LossStep) (s : LossStep) → get_elem? views p ≡ some v → sum_by (sum_by f) (set views p (v ++ s ∷ [])) ≡ sum_by (sum_by f) views + f s
+grew f views p v s at = let a = sum_by_set (sum_by f) views p v (v ++ s ∷ []) at in let b = sum_by-append f v (s ∷ []) in omega arith
 
 or_left : (a b c : Bool) → a || b ≡ true → (a || c) || b ≡ true
 or_left true b c h = refl
@@ -67,8 +66,8 @@ and_right false true h = refl
 and_right false false h = h
 
 module _ (flag_of : ℕ → ℕ) where
-  pub owes_snoc : (i : ℕ) (v : List LossStep) (s : LossStep) → owes flag_of i (v ++ s ∷ []) ≡ raise_after flag_of i (owes_raise flag_of i v) s || take_after flag_of i (owes_take flag_of i v) s
-  owes_snoc i v s = ap₂ (λ a b. a || b) (followed_append (raise_after flag_of i) false v (s ∷ [])) (followed_append (take_after flag_of i) false v (s ∷ []))
+  pub owes_snoc : (i : ℕ) (v : List LossStep) (s : LossStep) → owes flag_of i (v ++ s ∷ []) ≡ owes_raise_after flag_of i (owes_raise flag_of i v) s || owes_take_after flag_of i (owes_take flag_of i v) s
+  owes_snoc i v s = ap₂ (λ a b. a || b) (fold-append (owes_raise_after flag_of i) false v (s ∷ [])) (fold-append (owes_take_after flag_of i) false v (s ∷ []))
 
   module _ (counters : ℕ) where
     -- what a step owes the flag law at the counter i: it owes now, or the words stood as they stand and it owes as before
@@ -93,15 +92,15 @@ module _ (flag_of : ℕ → ℕ) where
       with_step s = set views p (v ++ s ∷ [])
 
       balance_keeps : (s : LossStep) (words' : List ℕ)
-          → ((i : ℕ) → i < counters → (get_or words i 0 + added i s) % 2 ^ 64 ≡ (took i s + get_or words' i 0) % 2 ^ 64)
+          → ((i : ℕ) → i < counters → (get_or words i 0 + quantity_added i s) % 2 ^ 64 ≡ (quantity_taken i s + get_or words' i 0) % 2 ^ 64)
           → Balance counters words' (with_step s)
-      balance_keeps s words' moved i less = let a = grew (added i) views p v s at in let b = grew (took i) views p v s at in let m = moved i less in let o = laws.balance i less in omega arith
+      balance_keeps s words' moved i less = let a = grew (quantity_added i) views p v s at in let b = grew (quantity_taken i) views p v s at in let m = moved i less in let o = laws.balance i less in omega arith
 
       other_flag : (f i x : ℕ) → flag_of i ≢ f → get_or (set words (counters + f) x) (counters + flag_of i) 0 ≡ get_or words (counters + flag_of i) 0
       other_flag f i x apart = elsewhere words (counters + f) (counters + flag_of i) x (λ e. apart (omega arith))
 
       -- a step on a flag leaves the counters
-      flag_balance : (s : LossStep) (f x : ℕ) → ((i : ℕ) → added i s ≡ 0) → ((i : ℕ) → took i s ≡ 0) → Balance counters (set words (counters + f) x) (with_step s)
+      flag_balance : (s : LossStep) (f x : ℕ) → ((i : ℕ) → quantity_added i s ≡ 0) → ((i : ℕ) → quantity_taken i s ≡ 0) → Balance counters (set words (counters + f) x) (with_step s)
       flag_balance s f x none_added none_taken = balance_keeps s _ (λ i less. let a = none_added i in let b = none_taken i in let e = elsewhere words (counters + f) i x (λ e. omega arith) in omega arith)
 
       pub add_keeps : (j q : ℕ) → j < counters → counters ≤ length words → Laws flag_of counters (set words j ((get_or words j 0 + q) % 2 ^ 64)) (with_step (Add j q))
@@ -110,8 +109,8 @@ module _ (flag_of : ℕ → ℕ) where
           let s : LossStep = Add j q in
           record {
             balance = balance_keeps s _ (λ i less. dite (ℕ_discrete i j)
-                (λ same. let a : added i s ≡ q = ap (λ b. cond b q 0) (eq-eqb i j same) in let w = at_place words j i new same (omega arith) in let o = ap (λ k. get_or words k 0) same in omega arith)
-                (λ apart. let a : added i s ≡ 0 = ap (λ b. cond b q 0) (ne_eqb i j apart) in let w = elsewhere words j i new apart in omega arith));
+                (λ same. let a : quantity_added i s ≡ q = ap (λ b. cond b q 0) (eq-eqb i j same) in let w = at_place words j i new same (omega arith) in let o = ap (λ k. get_or words k 0) same in omega arith)
+                (λ apart. let a : quantity_added i s ≡ 0 = ap (λ b. cond b q 0) (ne_eqb i j apart) in let w = elsewhere words j i new apart in omega arith));
             flag_law = flags_keep words _ views p v s laws.flag_law at (λ i less stands low. dite (ℕ_discrete i j)
                 (λ same. inl (owes_snoc i v s ∙ (ap (λ b. (owes_raise flag_of i v || b) || owes_take flag_of i v) (eq-eqb i j same) ∙ or_new (owes_raise flag_of i v) (owes_take flag_of i v))))
                 (λ apart. inr (
@@ -157,8 +156,8 @@ module _ (flag_of : ℕ → ℕ) where
           let s : LossStep = Take j q in
           record {
             balance = balance_keeps s _ (λ i less. dite (ℕ_discrete i j)
-                (λ same. let a : took i s ≡ q = ap (λ b. cond b q 0) (eq-eqb i j same) in let w = at_place words j i 0 same (omega arith) in let o : get_or words i 0 ≡ q = ap (λ k. get_or words k 0) same in omega arith)
-                (λ apart. let a : took i s ≡ 0 = ap (λ b. cond b q 0) (ne_eqb i j apart) in let w = elsewhere words j i 0 apart in omega arith));
+                (λ same. let a : quantity_taken i s ≡ q = ap (λ b. cond b q 0) (eq-eqb i j same) in let w = at_place words j i 0 same (omega arith) in let o : get_or words i 0 ≡ q = ap (λ k. get_or words k 0) same in omega arith)
+                (λ apart. let a : quantity_taken i s ≡ 0 = ap (λ b. cond b q 0) (ne_eqb i j apart) in let w = elsewhere words j i 0 apart in omega arith));
             flag_law = flags_keep words _ views p v s laws.flag_law at (λ i less stands low. dite (ℕ_discrete i j)
                 (λ same. absurd (stands (at_place words j i 0 same (omega arith))))
                 (λ apart. inr (

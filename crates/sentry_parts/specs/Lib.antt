@@ -4,4 +4,5 @@ pub mod LossViews
 pub mod LossWords
 pub mod LossMachine
 pub mod WrongSteps
+pub mod WrittenRun
 pub mod LossBooks

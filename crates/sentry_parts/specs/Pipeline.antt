@@ -1,5 +1,5 @@
 -- What becomes of an event between its capture and its envelope.
-use Rattle.std.specs.Prelude.{ℕ, Option, Some, None, List, [], ◌∷◌, if◌then◌else◌, codes, map}
+use Rattle.std.specs.Prelude.{◌≡◌, ℕ, Option, Some, None, List, [], ◌∷◌, if◌then◌else◌, codes, map}
 use Rattle.std.specs.Option.{option_or}
 use Rattle.std.specs.Str.{bytes_eq}
 use Rattle.sentry_base.specs.Events.{is_nil}
@@ -13,8 +13,11 @@ use Rattle.sentry_state.specs.Callbacks.{Partial, Meanings, process_by_all, call
 use Rattle.sentry_state.specs.Scopes.{apply_to_event}
 use Rattle.sentry_parts.specs.declared.pipeline.Place.{Place}
 use Rattle.sentry_parts.specs.declared.pipeline.Place.TheVariants.{EventProcessor, Integration, BeforeSend}
-use Rattle.sentry_parts.specs.declared.pipeline.Prepared.{Prepared}
-use Rattle.sentry_parts.specs.declared.pipeline.Prepared.TheVariants.{Kept, Dropped}
+
+-- what becomes of an event: it is kept as it is to be sent, or dropped at a place
+pub data Prepared : Type 0 where
+  kept : Event → Prepared
+  dropped : Place → Prepared
 
 -- a nil id is replaced by the fresh one
 abbrev pub with_id : List ℕ → Event → Event
@@ -42,16 +45,25 @@ with_defaults options event = record event {
   platform = if bytes_eq event.platform (codes "other") then codes "native" else event.platform;
 }
 
--- goes on with the event that is there, or was dropped at this place
-abbrev pub kept_or_dropped : Place → Option Event → (Event → Prepared) → Prepared
-kept_or_dropped place None go = Dropped place
-kept_or_dropped place (Some event) go = go event
+-- goes on with the event, or tells the place where it was dropped
+abbrev pub continue_or_drop : Place → Option Event → (Event → Prepared) → Prepared
+continue_or_drop place None go = dropped place
+continue_or_drop place (Some event) go = go event
 
 -- the event as it is to be sent, or the place that dropped it
-unfoldable pub prepare_event : {P C : Type 0} → (P → Partial) → (C → Meanings) → ClientOptions C → Scope P → List ℕ → Event → Prepared
+unfoldable pub prepare_event : {P C : Type 0}
+    → (P → Partial) → (C → Meanings) → ClientOptions C → Scope P → List ℕ → Event → Prepared
 prepare_event gives meanings options scope fresh event =
     let client = meanings options.callbacks in
-    kept_or_dropped EventProcessor (apply_to_event gives scope (with_sdk (sdk_info client) (with_id fresh event))) (λ processed.
-    kept_or_dropped Integration (process_by_all client.integrations options.plain processed) (λ integrated.
-    kept_or_dropped BeforeSend (call_if_any client.before_send (with_defaults options.plain integrated)) (λ made.
-    Kept made)))
+    let identified = with_sdk (sdk_info client) (with_id fresh event) in
+    continue_or_drop EventProcessor (apply_to_event gives scope identified) (λ processed.
+    continue_or_drop Integration (process_by_all client.integrations options.plain processed) (λ integrated.
+    continue_or_drop BeforeSend (call_if_any client.before_send (with_defaults options.plain integrated)) (λ made.
+    kept made)))
+
+-- the code tells an event that is kept by the event and no place, and one that was dropped by the place and no event
+abbrev pub IsOutcome : Prepared → Option Place → Option Event → Type 0
+IsOutcome (kept event) None slot = slot ≡ Some event
+IsOutcome (dropped place) (Some told) slot = (told ≡ place) × (slot ≡ None)
+IsOutcome (kept event) (Some told) slot = ⊥
+IsOutcome (dropped place) None slot = ⊥

@@ -1,5 +1,5 @@
-//! What is lost on the way to a server: counters that threads add to and drain without a lock, and the book from
-//! which reports are made.
+//! Counts of what is lost on the way to a server: counters that threads add to and drain without a lock, and the book
+//! from which client reports are made.
 
 mod book;
 mod closing;
@@ -18,7 +18,7 @@ mod tests;
 pub use book::LossBook;
 pub use drainer::{Drained, Drainer};
 pub use loss_words::LossWords;
-pub use machine::{machine_keeps, wrong_steps_break};
+pub use machine::{machine_keeps, machine_moves, wrong_steps_break};
 pub use reason::TransportLossReason;
 pub use recorder::Recorder;
 pub use step::{LossStep, View};

@@ -1,4 +1,4 @@
-//! The parts that an engine is made of, each of which can be used by itself.
+//! The parts of an engine, each of which can be used by itself.
 #![tactic(auto)]
 
 pub mod client_reports;

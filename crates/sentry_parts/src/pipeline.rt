@@ -1,10 +1,12 @@
 //! What becomes of an event between its capture and its envelope.
 ghost use Rattle.std.specs.Prelude.{◌≡◌, Some, IfOk, OnOk};
 ghost use Rattle.std.specs.Option.{option_or};
-ghost use Rattle.sentry_parts.specs.Pipeline.{with_id, with_sdk, sdk_info, with_defaults, prepare_event};
+ghost use Rattle.sentry_base.specs.declared.protocol.event.Event.{Event};
+ghost use Rattle.sentry_state.specs.Scopes.{fill};
+ghost use Rattle.sentry_parts.specs.Pipeline.{with_id, with_sdk, sdk_info, with_defaults, prepare_event, IsOutcome};
 
 use sentry_base::protocol::{ClientSdkInfo, ClientSdkPackage, Event, Uuid};
-use sentry_plain::{Items, Text, unless_failed};
+use sentry_plain::{Items, Text};
 use sentry_state::callbacks::EventCallback;
 use sentry_state::clientoptions::{Callbacks, ClientOptions, PlainOptions};
 use sentry_state::constants::{PACKAGE_NAME, SDK_NAME, VERSION};
@@ -22,22 +24,13 @@ pub enum Place {
     BeforeSend,
 }
 
-/// An event as it is to be sent, or what dropped it.
-#[derive(Drop)]
-pub enum Prepared {
-    Kept(Event),
-    Dropped(Place),
-}
-
-// The event with the fresh id in place of a nil one.
-fn with_id(fresh: Uuid, event: Event) -> Event
-    ensures { result ≡ with_id fresh event }
+// Replaces a nil id by the fresh one.
+fn fill_in_id(fresh: Uuid, event: &mut Event)
+    ensures { event.new ≡ with_id fresh event.old }
 {
-    let mut event = event;
     if event.event_id.is_nil() {
         event.event_id = fresh;
     }
-    event
 }
 
 // What every event of a client says of the SDK.
@@ -57,37 +50,31 @@ fn sdk_info<C: Callbacks>(alloc: Global, callbacks: &C) -> Result<ClientSdkInfo,
     })
 }
 
-// The event with the SDK, if it names none.
-fn with_sdk<C: Callbacks>(alloc: Global, callbacks: &C, event: Event) -> Result<Event, AllocError>
-    ensures { IfOk result (λ made. made ≡ with_sdk (sdk_info (C.meanings callbacks.now)) event) }
-{
-    let mut event = event;
-    let done = fill_in_sdk(alloc, callbacks, &mut event.sdk);
-    unless_failed(event, done)
-}
-
+// Names the SDK, if the event names none.
 fn fill_in_sdk<C: Callbacks>(
     alloc: Global,
     callbacks: &C,
-    sdk: &mut Option<ClientSdkInfo>,
+    event: &mut Event,
 ) -> Result<(), AllocError>
-    ensures { OnOk result (sdk.new ≡ option_or sdk.old (Some (sdk_info (C.meanings callbacks.now)))) }
+    ensures { OnOk result (event.new ≡ with_sdk (sdk_info (C.meanings callbacks.now)) event.old) }
 {
-    if sdk.is_none() {
-        *sdk = Some(sdk_info(alloc, callbacks)?);
+    if event.sdk.is_none() {
+        event.sdk = Some(sdk_info(alloc, callbacks)?);
     }
     Ok(())
 }
 
-// The event with the options in place of what it lacks.
-fn with_defaults(alloc: Global, options: &PlainOptions, event: Event) -> Result<Event, AllocError>
-    ensures { IfOk result (λ made. made ≡ with_defaults options.now event) }
+// Puts the option where the event has no text.
+fn fill_in(text: &mut Option<Text>, option: &Option<Text>) -> Result<(), AllocError>
+    ensures { OnOk result (text.new ≡ option_or text.old option.now) }
 {
-    let mut event = event;
-    let done = fill_in_defaults(alloc, options, &mut event);
-    unless_failed(event, done)
+    if text.is_none() {
+        *text = option.clone()?;
+    }
+    Ok(())
 }
 
+// Puts the options where the event lacks a text, and names its platform.
 fn fill_in_defaults(
     alloc: Global,
     options: &PlainOptions,
@@ -104,39 +91,54 @@ fn fill_in_defaults(
     Ok(())
 }
 
-// Puts the option where the event has no text.
-fn fill_in(text: &mut Option<Text>, option: &Option<Text>) -> Result<(), AllocError>
-    ensures { OnOk result (text.new ≡ option_or text.old option.now) }
+// Gives an event what it has before any callback: an id, the SDK, and what the scope fills in.
+fn fill_in_before_callbacks<P: Drop, C: Callbacks>(
+    alloc: Global,
+    callbacks: &C,
+    scope: &Scope<P>,
+    fresh: Uuid,
+    event: &mut Event,
+) -> Result<(), AllocError>
+    ensures { OnOk result
+        (event.new ≡ fill scope.now (with_sdk (sdk_info (C.meanings callbacks.now)) (with_id fresh event.old))) }
 {
-    if text.is_none() {
-        *text = option.clone()?;
-    }
-    Ok(())
+    fill_in_id(fresh, event);
+    fill_in_sdk(alloc, callbacks, event)?;
+    scope.fill_event(event)
 }
 
-/// The event as it is to be sent: with an id and the SDK, under the scope, after its processors and the integrations,
-/// with the options' defaults, after `before_send`. The first of these that answers none drops it.
+/// Prepares an event for sending, in place: it gets an id and the SDK, goes under the scope, through its processors and
+/// the integrations, gets the defaults of the options, and goes through `before_send`. The first callback that returns
+/// `None` drops it: then the event becomes `None`, and the place that dropped it is returned. Given `None`, it does
+/// nothing. If memory runs out, some of this was done.
 #[tactic(auto, unfolding(crate::specs::Pipeline::prepare_event))]
 pub fn prepare_event<P: EventCallback + Drop, C: Callbacks>(
     alloc: Global,
     options: &ClientOptions<C>,
     scope: &Scope<P>,
     fresh: Uuid,
-    event: Event,
-) -> Result<Prepared, AllocError>
-    ensures { IfOk result (λ made. made ≡ prepare_event P.gives C.meanings options.now scope.now fresh event) }
+    event: &mut Option<Event>,
+) -> Result<Option<Place>, AllocError>
+    ensures { (captured : Event) → event.old ≡ Some captured → IfOk result
+        (λ place. IsOutcome (prepare_event P.gives C.meanings options.now scope.now fresh captured) place event.new) }
 {
     let callbacks = &options.callbacks;
-    let identified = with_sdk(alloc, callbacks, with_id(fresh, event))?;
-    let Some(processed) = scope.apply_to_event(identified)? else {
-        return Ok(Prepared::Dropped(Place::EventProcessor));
+    let Some(captured) = event else {
+        return Ok(None);
     };
-    let Some(integrated) = callbacks.process_event(processed, &options.plain)? else {
-        return Ok(Prepared::Dropped(Place::Integration));
-    };
-    let full = with_defaults(alloc, &options.plain, integrated)?;
-    match callbacks.before_send(full)? {
-        None => Ok(Prepared::Dropped(Place::BeforeSend)),
-        Some(made) => Ok(Prepared::Kept(made)),
+    fill_in_before_callbacks(alloc, callbacks, scope, fresh, captured)?;
+    scope.process_event(event)?;
+    if event.is_none() {
+        return Ok(Some(Place::EventProcessor));
     }
+    callbacks.process_event(event, &options.plain)?;
+    let Some(integrated) = event else {
+        return Ok(Some(Place::Integration));
+    };
+    fill_in_defaults(alloc, &options.plain, integrated)?;
+    callbacks.before_send(event)?;
+    if event.is_none() {
+        return Ok(Some(Place::BeforeSend));
+    }
+    Ok(None)
 }

@@ -25,7 +25,7 @@ impl<T> Model for Items<T> {
 }
 
 impl<T> Items<T> {
-    /// The empty list, which takes no memory.
+    /// The empty list. It takes no memory.
     pub fn new(alloc: Global) -> Self
         ensures { result ≡ [] }
     {
@@ -34,14 +34,14 @@ impl<T> Items<T> {
         }
     }
 
-    /// The list over a vector, which takes no memory.
+    /// The list over a vector. It takes no memory.
     pub fn from_vec(items: Vec<T>) -> Self
         ensures { result ≡ items.items }
     {
         Items { items }
     }
 
-    /// Gives the vector back, which takes no memory.
+    /// Returns the vector. It takes no memory.
     pub fn into_vec(self) -> Vec<T>
         ensures { result.items ≡ self }
     {
@@ -49,40 +49,40 @@ impl<T> Items<T> {
         items
     }
 
-    /// The allocator that the list grows by.
+    /// The allocator of the list.
     pub fn allocator(&self) -> Global {
         *self.items.allocator()
     }
 
-    /// The items, to be read and iterated over.
+    /// The items as a slice.
     pub fn as_slice(&self) -> &[T]
         ensures { result.now ≡ self.now }
     {
         self.items.as_slice()
     }
 
-    /// How many items the list has.
+    /// The number of items.
     pub fn len(&self) -> usize
         ensures { result ≡ length self.now }
     {
         self.items.len()
     }
 
-    /// Whether the list has no item.
+    /// Returns `true` if the list has no items.
     pub fn is_empty(&self) -> bool
         ensures { result ≡ (length self.now == 0) }
     {
         self.items.is_empty()
     }
 
-    /// The item at an index, counted from 0.
+    /// The item at an index, or `None` if the list has no such index.
     pub fn get(&self, index: usize) -> Option<&T>
         ensures { option_copied result ≡ slice_get self.now index }
     {
         self.items.as_slice().get(index)
     }
 
-    /// Takes the last item out.
+    /// Removes and returns the last item, or returns `None` if the list is empty.
     pub fn pop(&mut self) -> Option<T>
         ensures parts { self.old ≡ self.new ++ option_to_list result }
         ensures some { IsSome result ↔ (0 < length self.old) }
@@ -90,7 +90,7 @@ impl<T> Items<T> {
         self.items.pop()
     }
 
-    /// Takes the item at an index out; those after it move down.
+    /// Removes and returns the item at an index. The items after it move down.
     pub fn remove(&mut self, index: usize) -> T
         requires { index < length self.old }
         ensures value { slice_get self.old index ≡ Some result }
@@ -101,7 +101,7 @@ impl<T> Items<T> {
 }
 
 impl<T: Drop> Items<T> {
-    /// Puts an item at the end.
+    /// Appends an item.
     pub fn push(&mut self, item: T) -> Result<(), AllocError>
         ensures ok { OnOk result (self.new ≡ self.old ++ item ∷ []) }
         ensures err { OnErr result (self.new ≡ self.old) }
@@ -110,7 +110,7 @@ impl<T: Drop> Items<T> {
         Ok(())
     }
 
-    /// Puts an item at an index; those from there on move up.
+    /// Inserts an item at an index. The items from there on move up.
     pub fn insert(&mut self, index: usize, item: T) -> Result<(), AllocError>
         requires { index ≤ length self.old }
         ensures ok { OnOk result (self.new ≡ insert self.old index item) }
@@ -120,7 +120,7 @@ impl<T: Drop> Items<T> {
         Ok(())
     }
 
-    /// Puts the items of another list at the end.
+    /// Appends the items of another list.
     pub fn append(&mut self, other: Items<T>) -> Result<(), AllocError>
         ensures ok { OnOk result (self.new ≡ self.old ++ other) }
         ensures err { OnErr result (self.new ≡ self.old) }
@@ -131,7 +131,7 @@ impl<T: Drop> Items<T> {
 }
 
 impl<T: Clone> Clone for Items<T> {
-    // Where a clone of an item is that item, so is a clone of the list.
+    // If a clone of an item is equal to it, then so is a clone of the list.
     ghost is_clone = { λ old new. ((x y : T) → T.is_clone x y → y ≡ x) → new ≡ old };
 
     fn clone(&self) -> Result<Items<T>, AllocError> {
@@ -146,7 +146,7 @@ impl<T: PartialEq> PartialEq for Items<T> {
 
     ghost laws = { Prim.search (comparing, rules) };
 
-    // Where `==` of the items is equality, so is `==` of the lists.
+    // If `==` of items is equality, then so is `==` of lists.
     fn eq(&self, other: &Items<T>) -> bool
         ensures test { result ≡ pointwise T.eq self.now other.now }
         ensures equality { IsExact T.eq → (IsTrue result ↔ (self.now ≡ other.now)) }

@@ -1,5 +1,5 @@
-//! The values that records are made of, each of which contracts see as plain data: a text as its bytes, a list as a
-//! list, a map as its entries in order, and a share as what it shares.
+//! The values that records consist of. Contracts see each of them as plain data: a text as its bytes, a list as a list,
+//! a map as its entries in order, and a share as the value that it shares.
 #![tactic(auto)]
 
 mod items;

@@ -1,4 +1,4 @@
-//! A value that its clones share.
+//! Shared values.
 ghost use Rattle.std.specs.Prelude.{◌≡◌, ◌↔◌, IsTrue, IfOk};
 ghost use Rattle.sentry_plain.specs.Equality.{IsExact};
 
@@ -22,9 +22,9 @@ impl<T> Model for Shared<T> {
 }
 
 impl<T: Drop> Shared<T> {
-    /// The first share of a value.
+    /// Puts a value behind a share.
     pub fn new(alloc: Global, value: T) -> Result<Self, AllocError>
-        ensures { IfOk result (λ made. made ≡ value) }
+        ensures { IfOk result (λ share. share ≡ value) }
     {
         Ok(Shared {
             share: Arc::new(alloc, value)?,
@@ -33,7 +33,7 @@ impl<T: Drop> Shared<T> {
 }
 
 impl<T> Shared<T> {
-    /// The value.
+    /// The value that is shared.
     pub fn get(&self) -> &T
         ensures { result.now ≡ self.now }
     {
@@ -66,7 +66,7 @@ impl<T: PartialEq> PartialEq for Shared<T> {
 
     ghost laws = { T.laws };
 
-    // Where `==` of the values is equality, so is `==` of the shares.
+    // If `==` of values is equality, then so is `==` of shares.
     fn eq(&self, other: &Shared<T>) -> bool
         ensures test { result ≡ T.eq self.now other.now }
         ensures equality { IsExact T.eq → (IsTrue result ↔ (self.now ≡ other.now)) }

@@ -1,4 +1,4 @@
-//! Tables by number.
+//! Maps from numbers.
 ghost use Rattle.std.specs.Prelude.{◌≡◌, ◌==◌, ◌↔◌, IsTrue, ℕ, [], OnOk, OnErr, IsSome, length, option_copied};
 ghost use Rattle.std.specs.Map.Iter.{ShowsInOrder, deref_pair};
 ghost use Rattle.std.specs.Borrow.{sem};
@@ -28,7 +28,7 @@ impl<T> Model for Table<T> {
 }
 
 impl<T> Table<T> {
-    /// The empty table, which takes no memory.
+    /// The empty table. It takes no memory.
     pub fn new(alloc: Global) -> Self
         ensures { result ≡ [] }
     {
@@ -37,21 +37,21 @@ impl<T> Table<T> {
         }
     }
 
-    /// The value under a number.
+    /// The value at a number.
     pub fn get(&self, number: u64) -> Option<&T>
         ensures { option_copied result ≡ value_at self.now number }
     {
         self.entries.get(&number)
     }
 
-    /// How many numbers the table has.
+    /// The number of entries.
     pub fn len(&self) -> usize
         ensures { result ≡ length self.now }
     {
         self.entries.len()
     }
 
-    /// Whether the table has no number.
+    /// Returns `true` if the table has no entries.
     pub fn is_empty(&self) -> bool
         ensures { result ≡ (length self.now == 0) }
     {
@@ -66,7 +66,7 @@ impl<T> Table<T> {
         self.entries.iter()
     }
 
-    /// The value under a number, to be written: the table then has what was last written there.
+    /// The value at a number, for writing: the table keeps what was last written.
     pub fn get_mut(&mut self, number: u64) -> Option<&mut T>
         ensures* writes_back { sem 𝓛 (lends_value T.row self.entry number result) }
         ensures value { option_copied_mut result ≡ value_at self.old number }
@@ -76,7 +76,7 @@ impl<T> Table<T> {
 }
 
 impl<T: Drop> Table<T> {
-    /// Puts a value under a number.
+    /// Inserts a value at a number. It replaces a value that is there.
     pub fn insert(&mut self, number: u64, value: T) -> Result<(), AllocError>
         ensures ok { OnOk result (self.new ≡ put self.old number value) }
         ensures err { OnErr result (self.new ≡ self.old) }
@@ -85,7 +85,7 @@ impl<T: Drop> Table<T> {
         Ok(())
     }
 
-    /// Writes over the value of a number that is there.
+    /// Replaces the value at a number that the table has.
     pub fn set(&mut self, number: u64, value: T)
         requires { IsSome (value_at self.old number) }
         ensures { self.new ≡ replace_at self.old number value }
@@ -96,7 +96,7 @@ impl<T: Drop> Table<T> {
         *place = value;
     }
 
-    /// Takes the value under a number out.
+    /// Removes and returns the value at a number.
     pub fn remove(&mut self, number: u64) -> Option<T>
         ensures value { result ≡ value_at self.old number }
         ensures rest { self.new ≡ without self.old number }
@@ -106,7 +106,7 @@ impl<T: Drop> Table<T> {
 }
 
 impl<T: Clone> Clone for Table<T> {
-    // Where a clone of a value is that value, so is a clone of the table.
+    // If a clone of a value is equal to it, then so is a clone of the table.
     ghost is_clone = { λ old new. ((x y : T) → T.is_clone x y → y ≡ x) → new ≡ old };
 
     fn clone(&self) -> Result<Table<T>, AllocError> {
@@ -121,7 +121,7 @@ impl<T: PartialEq> PartialEq for Table<T> {
 
     ghost laws = { lists_per (per_row T.laws) };
 
-    // Where `==` of the values is equality, so is `==` of the tables.
+    // If `==` of values is equality, then so is `==` of tables.
     fn eq(&self, other: &Table<T>) -> bool
         ensures test { result ≡ pointwise (same_row T.eq) self.now other.now }
         ensures equality { IsExact T.eq → (IsTrue result ↔ (self.now ≡ other.now)) }

@@ -1,11 +1,11 @@
--- What callbacks mean: partial functions on events, one after another.
+-- Callbacks as partial functions on events, which are called in order.
 use Rattle.std.specs.Prelude.{Option, Some, None, List, [], ◌∷◌}
 use Rattle.std.specs.Option.{option_and_then}
 use Rattle.sentry_base.specs.declared.protocol.event.Event.{Event}
 use Rattle.sentry_plain.specs.Texts.{Bytes}
 use Rattle.sentry_state.specs.declared.clientoptions.plain.PlainOptions.{PlainOptions}
 
--- a function from an event to an event, or to none where it is dropped
+-- a function from an event to an event, or to `None` if it drops the event
 abbrev pub Partial : Type 0
 Partial = Event → Option Event
 
@@ -15,7 +15,7 @@ module _ {P : Type 0} (gives : P → Partial) where
   process_all [] event = Some event
   process_all (processor ∷ processors) event = option_and_then (process_all processors) (gives processor event)
 
--- an integration: its name, what it makes of options, and the function on events
+-- an integration: its name, its function on options, and its function on events
 pub record IntegrationMeaning : Type 0 where
   pub name : Bytes
   pub setup : PlainOptions → PlainOptions
@@ -34,7 +34,8 @@ set_up_all (integration ∷ integrations) options = set_up_all integrations (int
 -- the event after each integration in turn, up to the first that drops it
 abbrev pub process_by_all : List IntegrationMeaning → PlainOptions → Partial
 process_by_all [] options event = Some event
-process_by_all (integration ∷ integrations) options event = option_and_then (process_by_all integrations options) (integration.process_event options event)
+process_by_all (integration ∷ integrations) options event =
+    option_and_then (process_by_all integrations options) (integration.process_event options event)
 
 -- the event after a callback, if there is one
 abbrev pub call_if_any : Option Partial → Partial

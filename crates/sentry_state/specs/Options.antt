@@ -1,6 +1,6 @@
--- A client's options: their defaults, and the limits on the bodies of requests.
+-- The options of a client: the defaults, the builders, and the limits on request bodies.
 use Rattle.std.specs.Prelude.{◌≡◌, ℕ, Bool, true, false, nat_le, Option, Some, None, Result, Ok, Err, [], if◌then◌else◌}
-use Rattle.sentry_base.specs.declared.dsn.Dsn.{Dsn}
+use Rattle.sentry_base.specs.DsnParts.{DsnParts}
 use Rattle.sentry_base.specs.declared.protocol.refusal.Refusal.{Refusal}
 use Rattle.sentry_base.specs.declared.protocol.refusal.Refusal.TheVariants.{OutOfMemory, InvalidRate}
 use Rattle.sentry_plain.specs.Texts.{Bytes}
@@ -15,19 +15,19 @@ use Rattle.sentry_state.specs.declared.clientoptions.callbacks.ClientCallbacks.{
 use Rattle.sentry_state.specs.declared.clientoptions.plain.PlainOptions.{PlainOptions}
 use Rattle.sentry_state.specs.declared.clientoptions.ClientOptions.{ClientOptions}
 
--- whether a request's body of this many bytes is kept
+-- whether a request body of this many bytes is kept
 abbrev pub is_within_size_limit : MaxRequestBodySize → ℕ → Bool
 is_within_size_limit size.None length = false
 is_within_size_limit size.Small length = nat_le length 1000
 is_within_size_limit size.Medium length = nat_le length 10000
 is_within_size_limit size.Always length = true
-is_within_size_limit (size.Explicit longest) length = nat_le length longest
+is_within_size_limit (size.Explicit limit) length = nat_le length limit
 
--- a million in a million events are kept
+-- every event is kept: a million in a million
 abbrev pub every_event : EventSamplingStrategy
 every_event = FixedRate 1000000
 
--- the options of which nothing was set
+-- the default options
 abbrev pub default_plain_options : PlainOptions
 default_plain_options = record {
   dsn = None;
@@ -57,36 +57,41 @@ default_plain_options = record {
   user_agent = sdk_user_agent;
 }
 
--- the options of which nothing was set, with these callbacks
+-- the default options, with these callbacks
 abbrev pub default_options_with : {C : Type 0} → C → ClientOptions C
-default_options_with callbacks = record { plain = default_plain_options; traces_sampling_strategy = Disabled; callbacks = callbacks }
+default_options_with callbacks = record {
+  plain = default_plain_options;
+  traces_sampling_strategy = Disabled;
+  callbacks = callbacks;
+}
 
--- the options of which nothing was set: no integrations, and no callback
+-- the default options: no integrations, and no callback
 abbrev pub default_options : {E I : Type 0} → ClientOptions (ClientCallbacks E I)
 default_options = default_options_with (record { integrations = []; before_send = None })
 
--- ---- what builders make
+-- ---- builders
 
--- the options made are these, or memory was wanting
+-- the result is the expected value, or the refusal that memory ran out
 abbrev pub Makes : {T : Type 0} → Result T Refusal → T → Type 0
 Makes (Ok made) expected = made ≡ expected
 Makes (Err refusal) expected = refusal ≡ OutOfMemory
 
 module _ {C : Type 0} where
   -- the options with this DSN, or none
-  abbrev pub with_dsn : ClientOptions C → Option Dsn → ClientOptions C
+  abbrev pub with_dsn : ClientOptions C → Option DsnParts → ClientOptions C
   with_dsn options dsn = record options { plain = record options.plain { dsn = dsn } }
 
-  -- the options with what was read as a DSN, or the refusal of the reading
-  abbrev pub with_dsn_read : ClientOptions C → Result (Option Dsn) Refusal → Result (ClientOptions C) Refusal
+  -- the options with the DSN that was read, or the refusal of what was read
+  abbrev pub with_dsn_read : ClientOptions C → Result (Option DsnParts) Refusal → Result (ClientOptions C) Refusal
   with_dsn_read options (Ok dsn) = Ok (with_dsn options dsn)
   with_dsn_read options (Err refusal) = Err refusal
 
-  -- the options with this release, or as they are where there is none
+  -- the options with this release, or unchanged if there is none
   abbrev pub with_release_if_any : ClientOptions C → Option Bytes → ClientOptions C
   with_release_if_any options None = options
-  with_release_if_any options (Some release) = record options { plain = record options.plain { release = Some release } }
+  with_release_if_any options (Some release) =
+      record options { plain = record options.plain { release = Some release } }
 
-  -- these options, or the refusal of a rate above a million
+  -- these options, or a refusal if the rate is above a million
   abbrev pub with_rate : ℕ → ClientOptions C → Result (ClientOptions C) Refusal
   with_rate rate made = if nat_le rate 1000000 then Ok made else Err InvalidRate

@@ -1,6 +1,7 @@
--- Scopes: what an edit makes of one, and what one makes of an event.
-use Rattle.std.specs.Prelude.{None, List, [], ◌∷◌, ◌++◌, codes, unwrap_or}
-use Rattle.sentry_plain.specs.Texts.{put, without, merge}
+-- Scopes: how they are edited, and how they apply to events.
+use Rattle.std.specs.Prelude.{◌≡◌, None, List, [], ◌∷◌, ◌++◌, codes, unwrap_or}
+use Rattle.std.specs.Option.{option_or}
+use Rattle.sentry_plain.specs.Texts.{Bytes, put, without, merge, value_at}
 use Rattle.sentry_plain.specs.Defaults.{with_default}
 use Rattle.sentry_base.specs.declared.protocol.event.Event.{Event}
 use Rattle.sentry_base.specs.declared.protocol.context.Context.{Context}
@@ -15,7 +16,13 @@ use Rattle.sentry_state.specs.Callbacks.{Partial, process_all}
 module _ {P : Type 0} where
   -- a scope that sets nothing
   abbrev pub new_scope : TraceId → SpanId → Scope P
-  new_scope trace_id span_id = record { level = None; tags = []; trace_id = trace_id; span_id = span_id; processors = [] }
+  new_scope trace_id span_id = record {
+    level = None;
+    tags = [];
+    trace_id = trace_id;
+    span_id = span_id;
+    processors = [];
+  }
 
   -- the scope after one edit
   abbrev pub edit : ScopeEdit P → Scope P → Scope P
@@ -42,7 +49,7 @@ module _ {P : Type 0} where
     data_ = [];
   })
 
-  -- the event under the scope: a level that is set overrides, the scope's tags win, the trace is filled in if absent
+  -- the event with what the scope sets: its level if set, its tags over the event's, and its trace if absent
   abbrev pub fill : Scope P → Event → Event
   fill scope event = record event {
     level = unwrap_or scope.level event.level;
@@ -50,6 +57,11 @@ module _ {P : Type 0} where
     contexts = with_default (codes "trace") (trace_of scope) event.contexts;
   }
 
-  -- the same, and then each processor of the scope in turn
+  -- the filled event after each processor of the scope in turn
   abbrev pub apply_to_event : (P → Partial) → Scope P → Partial
   apply_to_event gives scope event = process_all gives scope.processors (fill scope event)
+
+  -- at each key the filled event has the scope's tag, or else the event's
+  abbrev pub OverridesTags : Scope P → Event → Event → Type 0
+  OverridesTags scope event filled =
+      (key : Bytes) → value_at filled.tags key ≡ option_or (value_at scope.tags key) (value_at event.tags key)

@@ -1,5 +1,5 @@
-//! A client's options, with its callbacks.
-ghost use Rattle.std.specs.Prelude.{◌≡◌, IfOk};
+//! The options of a client, with its callbacks.
+ghost use Rattle.std.specs.Prelude.{◌≡◌};
 
 mod builders;
 mod callbacks;
@@ -14,7 +14,7 @@ use std::alloc::AllocError;
 use std::ops::Deref;
 pub use user_agent::UserAgent;
 
-/// The options of a client: the plain ones, which are read as its own fields, how traces are sampled, and its callbacks.
+/// The options of a client: the plain options, which it dereferences to, the sampling of traces, and the callbacks.
 pub struct ClientOptions<C> {
     pub plain: PlainOptions,
     /// Which traces are kept.
@@ -43,17 +43,14 @@ impl<C> Deref for ClientOptions<C> {
 }
 
 impl<C: Clone + Drop> Clone for ClientOptions<C> {
-    // Where a clone of the callbacks is equal to them, as one that shares them is, so is a clone of the options.
+    // If a clone of the callbacks is equal to them, as one that shares them is, then so is a clone of the options.
     ghost is_clone = { λ old new. ((x y : C) → C.is_clone x y → y ≡ x) → new ≡ old };
 
     fn clone(&self) -> Result<ClientOptions<C>, AllocError> {
-        // What is large goes last: a proof is long where it may be dropped.
-        let callbacks = self.callbacks.clone()?;
-        let traces_sampling_strategy = self.traces_sampling_strategy.clone()?;
         Ok(ClientOptions {
             plain: self.plain.clone()?,
-            traces_sampling_strategy,
-            callbacks,
+            traces_sampling_strategy: self.traces_sampling_strategy.clone()?,
+            callbacks: self.callbacks.clone()?,
         })
     }
 }

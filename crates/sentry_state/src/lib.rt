@@ -1,4 +1,4 @@
-//! What a hub and a client are configured by: scopes and stacks of them, options, and callbacks.
+//! The configuration of hubs and clients: scopes and stacks of them, options, and callbacks.
 #![tactic(auto)]
 
 pub mod callbacks;

@@ -1,11 +1,10 @@
-//! Scopes: what is known around the events of a hub.
+//! Scopes: what a hub knows about the surroundings of its events.
+ghost use Rattle.std.specs.Prelude.{◌≡◌};
+ghost use Rattle.sentry_state.specs.Scopes.{new_scope};
 
 mod edit;
 mod fill;
 mod stack;
-
-ghost use Rattle.std.specs.Prelude.{◌≡◌};
-ghost use Rattle.sentry_state.specs.Scopes.{new_scope};
 
 pub use edit::ScopeEdit;
 use sentry_base::protocol::{Level, SpanId, TraceId};
@@ -13,16 +12,16 @@ use sentry_plain::{Items, Shared, Text, TextMap};
 pub use stack::{Stack, StackLayer};
 use std::alloc::{AllocError, Global};
 
-/// What is known around the events that are captured while it stands on top of a hub.
+/// What a hub knows about the surroundings of the events that are captured while the scope is its top one.
 pub struct Scope<P> {
-    /// Overrides the level of each event.
+    /// Overrides the level of each event, if it is set.
     pub level: Option<Level>,
     pub tags: TextMap<Text>,
-    /// The trace that events outside of any span belong to.
+    /// The trace of events outside of any span.
     pub trace_id: TraceId,
-    /// The span that such events belong to.
+    /// The span of such events.
     pub span_id: SpanId,
-    /// Called on each event in order; the first that answers none drops it.
+    /// Called on each event, in order. The first that returns `None` drops the event.
     pub processors: Items<Shared<P>>,
 }
 
@@ -39,7 +38,7 @@ impl<P: Drop> Drop for Scope<P> {
 }
 
 impl<P> Scope<P> {
-    /// A scope that sets nothing, with the ids under which a trace goes on. It takes no memory.
+    /// A scope that sets nothing, with the ids of its trace. It takes no memory.
     pub fn new(alloc: Global, trace_id: TraceId, span_id: SpanId) -> Scope<P>
         ensures { result ≡ new_scope trace_id span_id }
     {
@@ -51,10 +50,14 @@ impl<P> Scope<P> {
             processors: Items::new(alloc),
         }
     }
+
+    fn allocator(&self) -> Global {
+        self.processors.allocator()
+    }
 }
 
 impl<P: Drop> Clone for Scope<P> {
-    // The copy shares the processors.
+    // The clone shares the processors.
     ghost is_clone = { λ old new. new ≡ old };
 
     fn clone(&self) -> Result<Scope<P>, AllocError> {

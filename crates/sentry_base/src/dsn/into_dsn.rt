@@ -1,4 +1,4 @@
-//! What can be read as a DSN, or as none.
+//! Conversion of values into an optional DSN.
 ghost use Rattle.std.specs.Prelude.{Option, Result};
 ghost use Rattle.sentry_base.specs.declared.dsn.Dsn.{Dsn};
 ghost use Rattle.sentry_base.specs.declared.protocol.refusal.Refusal.{Refusal};
@@ -8,12 +8,12 @@ use crate::protocol::Refusal;
 use std::alloc::Global;
 use std::borrow::CowStr;
 
-/// Values that are read as a DSN. The empty text, `()` and `None` are no DSN.
+/// Values that can be read as an optional DSN. The empty text, `()` and `None` give `None`.
 pub trait IntoDsn {
-    // Holds of the value and of what it may be read as.
+    // Relates the value to what it may be read as.
     ghost into_dsn_gives: { Self → Result (Option Dsn) Refusal → Type 0 };
 
-    /// Reads the value, with the refusals of `Dsn::parse`.
+    /// Reads the value. A text fails as in `Dsn::parse`.
     fn into_dsn(self, alloc: Global) -> Result<Option<Dsn>, Refusal>
         ensures { into_dsn_gives self result };
 }

@@ -1,19 +1,21 @@
-//! Baggage headers: entries of a key and a value.
+//! `baggage` headers: entries of a key and a value, separated by commas.
 ghost use Rattle.std.specs.Prelude.{◌≡◌, ◌++◌, List};
 ghost use Rattle.std.specs.List.{slice_split};
-ghost use Rattle.sentry_base.specs.HeaderLists.{is_comma, organization_values, organization_of_entry, SayOrganization, value_part};
 ghost use Rattle.sentry_plain.specs.Texts.{Bytes};
+ghost use Rattle.sentry_base.specs.HeaderLists.{SayOrganization, is_comma};
+ghost use Rattle.sentry_base.specs.HeaderLists.{organization_of_entry, organization_values, value_part};
 
 use crate::protocol::OrganizationId;
 
 const ORGANIZATION_KEY: &str = "sentry-org_id";
 
-/// The organization that the last valid entry names: one of this header's, or else the one that was named before.
+// The organization of the last valid entry: of this header, or else the organization that was read before.
 pub(crate) fn read_organization(
     before: Option<OrganizationId>,
     header: &str,
 ) -> Option<OrganizationId>
-    ensures { (values : List Bytes) → SayOrganization values before → SayOrganization (values ++ organization_values (slice_split is_comma header.now)) result }
+    ensures { (values : List Bytes) → SayOrganization values before
+        → SayOrganization (values ++ organization_values (slice_split is_comma header.now)) result }
 {
     let mut last = before;
     for entry in header.split(',') {
@@ -22,7 +24,7 @@ pub(crate) fn read_organization(
     last
 }
 
-/// The organization that an entry names.
+// The organization that an entry names.
 fn organization_of_entry(entry: &str) -> Option<OrganizationId>
     ensures { result ≡ organization_of_entry entry.now }
 {
@@ -33,7 +35,7 @@ fn organization_of_entry(entry: &str) -> Option<OrganizationId>
     OrganizationId::parse(value_part(rest).trim())
 }
 
-/// What stands before the properties that follow a value.
+// The value of an entry, without the properties that may follow it.
 fn value_part(rest: &str) -> &str
     ensures { result.now ≡ value_part rest.now }
 {

@@ -1,4 +1,4 @@
-//! The text of a `sentry-trace` header.
+//! The value of a `sentry-trace` header.
 ghost use Rattle.std.specs.Prelude.{◌≡◌};
 ghost use Rattle.sentry_base.specs.Ids.{span_id_of};
 ghost use Rattle.sentry_base.specs.Readings.{IsReading};
@@ -7,7 +7,7 @@ ghost use Rattle.sentry_base.specs.TraceTexts.{IsTraceText, sampling_of, with_sp
 use crate::protocol::{SpanId, TraceId};
 use std::fmt;
 
-/// What a `sentry-trace` header says.
+/// The content of a `sentry-trace` header: two ids and perhaps a sampling decision.
 #[derive(Clone, Copy, Debug, PartialEq)]
 pub struct SentryTrace {
     pub(crate) trace_id: TraceId,
@@ -16,7 +16,7 @@ pub struct SentryTrace {
 }
 
 impl SentryTrace {
-    /// These ids and this sampling decision.
+    /// Makes the content of a header.
     pub fn new(trace_id: TraceId, span_id: SpanId, sampled: Option<bool>) -> SentryTrace
         ensures { result ≡ record { trace_id = trace_id; span_id = span_id; sampled = sampled } }
     {
@@ -27,7 +27,7 @@ impl SentryTrace {
         }
     }
 
-    /// Reads the value of a `sentry-trace` header, or none where it is no trace text.
+    // Parses the value of a header. Returns `None` if it is invalid.
     pub(crate) fn parse(value: &str) -> Option<SentryTrace>
         ensures { IsReading IsTraceText value.now result }
     {
@@ -56,6 +56,7 @@ impl fmt::Display for SentryTrace {
     }
 }
 
+// Adds the span that these digits name. Returns `None` if they are not the digits of a span id.
 fn with_span(trace_id: TraceId, digits: &str, sampled: Option<bool>) -> Option<SentryTrace>
     ensures { result ≡ with_span trace_id sampled (span_id_of digits.now) }
 {
@@ -63,7 +64,7 @@ fn with_span(trace_id: TraceId, digits: &str, sampled: Option<bool>) -> Option<S
     Some(SentryTrace::new(trace_id, span_id, sampled))
 }
 
-/// What a third part of a trace text says of sampling.
+// The sampling decision in the third part of a value. Any part but `1` and `0` is ignored.
 fn sampling_of(part: &str) -> Option<bool>
     ensures { result ≡ sampling_of part.now }
 {

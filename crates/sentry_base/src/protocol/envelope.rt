@@ -1,5 +1,5 @@
-//! Envelopes: what is handed to a transport at once.
-ghost use Rattle.std.specs.Prelude.{◌≡◌, [], None, OnOk, OnErr};
+//! Envelopes: what a transport sends at once.
+ghost use Rattle.std.specs.Prelude.{◌≡◌, [], None, IfOk, OnOk, OnErr};
 ghost use Rattle.sentry_base.specs.Envelopes.{item_event_id, with_item, empty_envelope};
 
 use crate::protocol::attachment::Attachment;
@@ -11,23 +11,24 @@ use sentry_plain::{Items, Text};
 use std::alloc::{AllocError, Global};
 use uuid::Uuid;
 
-/// What a transport sends at once: items, and what is said of them all.
+/// What a transport sends at once: headers and items.
 #[derive(Drop, PartialEq)]
 pub struct Envelope {
     pub header: EnvelopeHeaders,
     pub items: Items<EnvelopeItem>,
 }
 
-/// What is said of a whole envelope.
+/// The headers of an envelope.
 #[derive(Drop, PartialEq)]
 pub struct EnvelopeHeaders {
-    /// The id of the first event in it.
+    /// The id of the first event in the envelope.
     pub event_id: Option<Uuid>,
+    /// How the trace of the event is sampled.
     pub trace: Option<DynamicSamplingContext>,
 }
 
-/// What a server needs to sample whole traces.
-#[derive(Drop, PartialEq)]
+/// What the server needs to know to sample whole traces.
+#[derive(PartialEq)]
 pub struct DynamicSamplingContext {
     pub trace_id: Option<TraceId>,
     pub sample_rate: Option<SampleRate>,
@@ -35,7 +36,18 @@ pub struct DynamicSamplingContext {
     pub public_key: Option<Text>,
 }
 
-/// One thing in an envelope.
+impl Drop for DynamicSamplingContext {
+    fn drop(self) {
+        let DynamicSamplingContext {
+            trace_id: _,
+            sample_rate: _,
+            sampled: _,
+            public_key: _,
+        } = self;
+    }
+}
+
+/// One item of an envelope.
 #[derive(Drop, PartialEq)]
 pub enum EnvelopeItem {
     Event(Event),
@@ -44,7 +56,7 @@ pub enum EnvelopeItem {
 }
 
 impl EnvelopeItem {
-    /// The id that the item gives its envelope.
+    /// The id that the item gives to its envelope: the id of an event.
     pub fn event_id(&self) -> Option<Uuid>
         ensures { result ≡ item_event_id self.now }
     {
@@ -56,7 +68,7 @@ impl EnvelopeItem {
 }
 
 impl Envelope {
-    /// The empty envelope, which takes no memory.
+    /// Makes an empty envelope. Allocates nothing.
     pub fn new(alloc: Global) -> Envelope
         ensures { result ≡ empty_envelope }
     {
@@ -69,7 +81,18 @@ impl Envelope {
         }
     }
 
-    /// Puts an item last. The envelope takes the id of its first event.
+    /// Makes an empty envelope with room for this many items.
+    pub fn with_capacity(alloc: Global, capacity: usize) -> Result<Envelope, AllocError>
+        ensures { IfOk result (λ envelope. envelope ≡ empty_envelope) }
+    {
+        let items = Items::from_vec(Vec::with_capacity(alloc, capacity)?);
+        Ok(Envelope {
+            items,
+            ..Envelope::new(alloc)
+        })
+    }
+
+    /// Adds an item at the end. The first event gives the envelope its id.
     pub fn add_item(&mut self, item: EnvelopeItem) -> Result<(), AllocError>
         ensures ok { OnOk result (self.new ≡ with_item self.old item) }
         ensures err { OnErr result (self.new ≡ self.old) }

@@ -1,17 +1,17 @@
-//! Errors, as they are handed in.
+//! Errors, given by their texts.
 ghost use Rattle.std.specs.Prelude.{◌≡◌};
 
 use sentry_plain::Text;
 use std::alloc::AllocError;
 
-/// One error of a chain, by its texts.
+/// One error of a chain, given by its texts.
 #[derive(Drop, PartialEq)]
 pub struct ErrorLink {
-    /// What the error prints by `{:?}`.
+    /// What `{:?}` prints of the error.
     pub debug: Text,
-    /// What it prints by `{}`.
+    /// What `{}` prints of the error.
     pub shown: Text,
-    /// What that text itself prints by `{:?}`, in quotes.
+    /// What `{:?}` prints of the text `shown`: the text in quotes.
     pub quoted: Text,
 }
 

@@ -13,18 +13,18 @@ use sentry_plain::{Items, Text, TextMap, ValueMap};
 use std::alloc::{AllocError, Global};
 use uuid::Uuid;
 
-/// What happened: a message or an error, with what is known around it.
+/// A message or an error, with what is known about its surroundings.
 #[derive(PartialEq)]
 pub struct Event {
-    /// Names the event; the nil id is replaced when the event is captured.
+    /// The id of the event. The nil id is replaced when the event is captured.
     pub event_id: Uuid,
     pub level: Level,
-    /// By what events are grouped: `{{ default }}` stands for the server's own rule.
+    /// What the server groups events by. `{{ default }}` stands for the server's own rule.
     pub fingerprint: Items<Text>,
     pub message: Option<Text>,
     /// The name of the transaction that the event belongs to.
     pub transaction: Option<Text>,
-    /// `other` until the event is captured, which makes it `native`.
+    /// `other` in a new event; capturing sets it to `native`.
     pub platform: Text,
     /// Nanoseconds since the epoch.
     pub timestamp: u64,
@@ -34,9 +34,9 @@ pub struct Event {
     pub user: Option<User>,
     pub request: Option<Request>,
     pub contexts: TextMap<Context>,
-    /// What led to the event, the oldest first.
+    /// The trail that led to the event, oldest first.
     pub breadcrumbs: Items<Breadcrumb>,
-    /// The chain of errors, the innermost first.
+    /// The chain of errors, innermost first.
     pub exception: Items<Exception>,
     pub tags: TextMap<Text>,
     pub extra: ValueMap,
@@ -69,7 +69,7 @@ impl Drop for Event {
 }
 
 impl Event {
-    /// An event of which only the id and the moment are known, in nanoseconds since the epoch.
+    /// Makes an event with this id and timestamp, and defaults for everything else.
     pub fn new(alloc: Global, id: Uuid, now: u64) -> Result<Event, AllocError>
         ensures { IfOk result (λ event. event ≡ new_event id now) }
     {
@@ -98,117 +98,30 @@ impl Event {
     }
 }
 
-// An event is cloned in three parts, since a proof grows with the square of what one function clones.
+impl Clone for Event {
+    ghost is_clone = { λ old new. new ≡ old };
 
-#[derive(Drop)]
-struct Names {
-    message: Option<Text>,
-    transaction: Option<Text>,
-    platform: Text,
-    server_name: Option<Text>,
-    release: Option<Text>,
-    environment: Option<Text>,
-}
-
-#[derive(Drop)]
-struct Surroundings {
-    user: Option<User>,
-    request: Option<Request>,
-    contexts: TextMap<Context>,
-    sdk: Option<ClientSdkInfo>,
-}
-
-#[derive(Drop)]
-struct Details {
-    fingerprint: Items<Text>,
-    breadcrumbs: Items<Breadcrumb>,
-    exception: Items<Exception>,
-    tags: TextMap<Text>,
-    extra: ValueMap,
-}
-
-impl Event {
-    fn names(&self) -> Result<Names, AllocError>
-        ensures { IfOk result (λ names. names ≡ record {
-          message = self.now.message;
-          transaction = self.now.transaction;
-          platform = self.now.platform;
-          server_name = self.now.server_name;
-          release = self.now.release;
-          environment = self.now.environment;
-        }) }
-    {
-        Ok(Names {
-            message: self.message.clone()?,
-            transaction: self.transaction.clone()?,
-            platform: self.platform.clone()?,
-            server_name: self.server_name.clone()?,
-            release: self.release.clone()?,
-            environment: self.environment.clone()?,
-        })
-    }
-
-    fn surroundings(&self) -> Result<Surroundings, AllocError>
-        ensures { IfOk result (λ parts. parts ≡ record {
-          user = self.now.user;
-          request = self.now.request;
-          contexts = self.now.contexts;
-          sdk = self.now.sdk;
-        }) }
-    {
-        Ok(Surroundings {
-            user: self.user.clone()?,
-            request: self.request.clone()?,
-            contexts: self.contexts.clone()?,
-            sdk: self.sdk.clone()?,
-        })
-    }
-
-    fn details(&self) -> Result<Details, AllocError>
-        ensures { IfOk result (λ parts. parts ≡ record {
-          fingerprint = self.now.fingerprint;
-          breadcrumbs = self.now.breadcrumbs;
-          exception = self.now.exception;
-          tags = self.now.tags;
-          extra = self.now.extra;
-        }) }
-    {
-        Ok(Details {
+    // The optional parts come last, since each of them adds a branch to the early returns after it.
+    fn clone(&self) -> Result<Event, AllocError> {
+        Ok(Event {
+            event_id: self.event_id,
+            level: self.level,
+            timestamp: self.timestamp,
             fingerprint: self.fingerprint.clone()?,
+            platform: self.platform.clone()?,
+            contexts: self.contexts.clone()?,
             breadcrumbs: self.breadcrumbs.clone()?,
             exception: self.exception.clone()?,
             tags: self.tags.clone()?,
             extra: self.extra.clone()?,
-        })
-    }
-}
-
-impl Clone for Event {
-    ghost is_clone = { λ old new. new ≡ old };
-
-    fn clone(&self) -> Result<Event, AllocError> {
-        let names = self.names()?;
-        let surroundings = self.surroundings()?;
-        let details = self.details()?;
-        Ok(Event {
-            event_id: self.event_id,
-            level: self.level,
-            fingerprint: details.fingerprint,
-            message: names.message,
-            transaction: names.transaction,
-            platform: names.platform,
-            timestamp: self.timestamp,
-            server_name: names.server_name,
-            release: names.release,
-            environment: names.environment,
-            user: surroundings.user,
-            request: surroundings.request,
-            contexts: surroundings.contexts,
-            breadcrumbs: details.breadcrumbs,
-            exception: details.exception,
-            tags: details.tags,
-            extra: details.extra,
-            sdk: surroundings.sdk,
+            message: self.message.clone()?,
+            transaction: self.transaction.clone()?,
+            server_name: self.server_name.clone()?,
+            release: self.release.clone()?,
+            environment: self.environment.clone()?,
+            user: self.user.clone()?,
+            request: self.request.clone()?,
+            sdk: self.sdk.clone()?,
         })
     }
 }

@@ -1,18 +1,37 @@
 //! Ids of traces, spans and organizations.
 ghost use Rattle.std.specs.Prelude.{◌≡◌};
 ghost use Rattle.std.specs.Char.{is_ascii_digit};
+ghost use Rattle.std.specs.Fmt.{WritesOnOk};
 ghost use Rattle.std.specs.List.{list_all};
+ghost use Rattle.hex.specs.Hex.{encode_lower};
 ghost use Rattle.sentry_base.specs.Ids.{trace_id_of, span_id_of, organization_id_of};
 
 use hex::FromHex;
 use std::fmt;
 
-/// Names a trace: sixteen bytes, zero allowed.
+// Writes the hexadecimal digits of bytes, in lower case. `digits` has room for two digits of each byte.
+fn write_hex<W: fmt::Write>(
+    bytes: &[u8],
+    digits: &mut [u8],
+    f: &mut fmt::Formatter<W>,
+) -> fmt::Result
+    ensures { WritesOnOk W.write_str_gives f.old result (encode_lower bytes.now) f.new }
+{
+    match hex::encode_to_slice(bytes, digits) {
+        Ok(()) => match std::str::from_utf8(digits) {
+            Ok(text) => f.write_str(text),
+            Err(_) => Err(fmt::Error),
+        },
+        Err(_) => Err(fmt::Error),
+    }
+}
+
+/// The id of a trace: sixteen bytes. Zero is allowed.
 #[derive(Clone, Copy, Debug, PartialEq, Eq)]
 pub struct TraceId(pub [u8; 16]);
 
 impl TraceId {
-    /// The trace that 32 hex digits name, or none at any other text.
+    /// Parses 32 hexadecimal digits, in either case. Returns `None` for any other text.
     pub fn parse(text: &str) -> Option<TraceId>
         ensures { result ≡ trace_id_of text.now }
     {
@@ -38,23 +57,16 @@ impl fmt::Display for TraceId {
     ghost output = { λ id. Some (encode_lower id.0) };
 
     fn fmt<W: fmt::Write>(&self, f: &mut fmt::Formatter<W>) -> fmt::Result {
-        let mut digits = [0u8; 32];
-        match hex::encode_to_slice(&self.0, &mut digits) {
-            Ok(()) => match std::str::from_utf8(&digits) {
-                Ok(text) => f.write_str(text),
-                Err(_) => Err(fmt::Error),
-            },
-            Err(_) => Err(fmt::Error),
-        }
+        write_hex(&self.0, &mut [0; 32], f)
     }
 }
 
-/// Names a span of a trace: eight bytes, zero allowed.
+/// The id of a span in a trace: eight bytes. Zero is allowed.
 #[derive(Clone, Copy, Debug, PartialEq, Eq)]
 pub struct SpanId(pub [u8; 8]);
 
 impl SpanId {
-    /// The span that 16 hex digits name, or none at any other text.
+    /// Parses 16 hexadecimal digits, in either case. Returns `None` for any other text.
     pub fn parse(text: &str) -> Option<SpanId>
         ensures { result ≡ span_id_of text.now }
     {
@@ -80,28 +92,21 @@ impl fmt::Display for SpanId {
     ghost output = { λ id. Some (encode_lower id.0) };
 
     fn fmt<W: fmt::Write>(&self, f: &mut fmt::Formatter<W>) -> fmt::Result {
-        let mut digits = [0u8; 16];
-        match hex::encode_to_slice(&self.0, &mut digits) {
-            Ok(()) => match std::str::from_utf8(&digits) {
-                Ok(text) => f.write_str(text),
-                Err(_) => Err(fmt::Error),
-            },
-            Err(_) => Err(fmt::Error),
-        }
+        write_hex(&self.0, &mut [0; 16], f)
     }
 }
 
-/// Names an organization.
+/// The id of an organization.
 #[derive(Clone, Copy, Debug, PartialEq, Eq)]
 pub struct OrganizationId(pub u64);
 
 impl OrganizationId {
-    /// The organization that decimal digits name: one digit or more, of a value up to `u64::MAX`, and none at any other
-    /// text, as one with a sign.
+    /// Parses one or more decimal digits of a value up to `u64::MAX`. Returns `None` for any other text, such as one with
+    /// a sign.
     pub fn parse(text: &str) -> Option<OrganizationId>
         ensures { result ≡ organization_id_of text.now }
     {
-        if !all_digits(text) {
+        if !has_only_digits(text) {
             return None;
         }
         match text.parse::<u64>() {
@@ -111,7 +116,8 @@ impl OrganizationId {
     }
 }
 
-fn all_digits(text: &str) -> bool
+// Whether each byte is a decimal digit.
+fn has_only_digits(text: &str) -> bool
     ensures { result ≡ list_all is_ascii_digit text.now }
 {
     text.as_bytes().iter().all(|byte| byte.is_ascii_digit())

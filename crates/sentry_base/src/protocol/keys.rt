@@ -1,20 +1,22 @@
-//! Keys of what an engine holds. A key is the engine's tag and a number, which is given once and never again.
+//! Keys to the clients, hubs and losses of an engine.
+//!
+//! A key is the tag of its engine and a number, which is never used for another key of that kind.
 
-/// Names a client.
+/// The key of a client.
 #[derive(Clone, Copy, Debug, PartialEq, Eq)]
 pub struct ClientKey {
     pub tag: u64,
     pub number: u64,
 }
 
-/// Names a hub.
+/// The key of a hub.
 #[derive(Clone, Copy, Debug, PartialEq, Eq)]
 pub struct HubKey {
     pub tag: u64,
     pub number: u64,
 }
 
-/// Names a table of losses, which clients with the same label share.
+/// The key of a table of losses. Clients with the same label share the table.
 #[derive(Clone, Copy, Debug, PartialEq, Eq)]
 pub struct Label {
     pub tag: u64,

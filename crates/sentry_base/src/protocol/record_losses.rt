@@ -1,7 +1,7 @@
-//! What is lost where a record is dropped.
+//! What is lost if a record is dropped.
 ghost use Rattle.std.specs.Prelude.{◌≡◌};
 ghost use Rattle.sentry_base.specs.declared.protocol.losses.Category.TheVariants.{Error, Attachment as OfAttachment};
-ghost use Rattle.sentry_base.specs.Losses.{lost};
+ghost use Rattle.sentry_base.specs.Losses.{loss_of};
 ghost use Rattle.sentry_base.specs.RecordLosses.{item_losses, report_losses, envelope_losses};
 
 use crate::protocol::attachment::Attachment;
@@ -11,7 +11,7 @@ use crate::protocol::event::Event;
 use crate::protocol::losses::{Category, LossSource, Losses, Reason};
 
 impl LossSource for Event {
-    ghost losses_under = { λ _ reason. lost Error reason 1 };
+    ghost losses_under = { λ _ reason. loss_of Error reason 1 };
 
     fn losses(&self, reason: Reason) -> Losses {
         Losses::of(Category::Error, reason, 1)
@@ -19,7 +19,7 @@ impl LossSource for Event {
 }
 
 impl LossSource for Attachment {
-    ghost losses_under = { λ _ reason. lost OfAttachment reason 1 };
+    ghost losses_under = { λ _ reason. loss_of OfAttachment reason 1 };
 
     fn losses(&self, reason: Reason) -> Losses {
         Losses::of(Category::Attachment, reason, 1)
@@ -27,15 +27,15 @@ impl LossSource for Attachment {
 }
 
 impl ClientReportItem {
-    // What is lost with the item, which keeps its own reason.
+    // What is lost with the item, for the reason that it states.
     fn losses(&self) -> Losses
-        ensures { result.quantities ≡ lost self.now.category self.now.reason self.now.quantity }
+        ensures { result.quantities ≡ loss_of self.now.category self.now.reason self.now.quantity }
     {
         Losses::of(self.category, self.reason, self.quantity)
     }
 }
 
-// Whatever the reason is for which a report is dropped, its items keep their own.
+// The items of a report keep their own reasons, whatever the reason why the report is dropped.
 impl LossSource for ClientReport {
     ghost losses_under = { λ report _. report_losses report.items };
 

@@ -1,4 +1,4 @@
-//! Why a call is refused.
+//! The error of a call.
 ghost use Rattle.std.specs.Prelude.{◌≡◌};
 ghost use Rattle.sentry_base.specs.Refusals.{refusal_number};
 
@@ -6,40 +6,40 @@ use crate::dsn::ParseDsnError;
 use std::alloc::AllocError;
 use thiserror::Error;
 
-/// Why a call was refused. A refused call changed nothing.
+/// Why a call failed. A call that fails changes nothing.
 #[derive(Clone, Copy, Debug, Error, PartialEq, Eq)]
 pub enum Refusal {
-    /// A growth or a callback was really refused memory.
+    /// An allocation failed, or a callback ran out of memory.
     #[error("out of memory")]
     OutOfMemory,
-    /// A key names nothing that this engine holds.
+    /// The key is of nothing that this engine has.
     #[error("stale key")]
     Stale,
-    /// A scope guard isn't that of the top layer of its hub.
+    /// The scope guard is not the guard of the top layer of its hub.
     #[error("scope guard out of order")]
     OutOfOrder,
-    /// What is to be let go is still named.
+    /// Something still refers to what should be removed.
     #[error("still named")]
     StillNamed,
-    /// A hub has pushed scopes.
+    /// The hub still has scopes on top of its first one.
     #[error("scopes are still open")]
     ScopesOpen,
-    /// A text is no DSN.
+    /// The text is not a DSN.
     #[error("invalid DSN: {0}")]
     InvalidDsn(ParseDsnError),
-    /// A rate lies above 1000000 millionths.
+    /// The rate is above 1000000 millionths.
     #[error("invalid rate")]
     InvalidRate,
-    /// A label or losses are of another engine, or of a table that no client has.
+    /// The label or the losses belong to another engine, or to a table that no client has.
     #[error("foreign losses")]
     ForeignLosses,
-    /// The key numbers of a kind are used up.
+    /// All key numbers of this kind are used up.
     #[error("no key numbers are left")]
     Full,
 }
 
 impl Refusal {
-    /// The number by which a refusal is told in print, 1 to 9.
+    /// The number that is printed for the error, 1 to 9.
     pub fn number(&self) -> u8
         ensures { result ≡ refusal_number self.now }
     {

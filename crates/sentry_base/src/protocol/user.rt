@@ -4,13 +4,13 @@ ghost use Rattle.std.specs.Prelude.{◌≡◌};
 use sentry_plain::{Text, ValueMap};
 use std::alloc::AllocError;
 
-/// Who used the program.
+/// The user of the program.
 #[derive(PartialEq)]
 pub struct User {
     pub id: Option<Text>,
     pub email: Option<Text>,
     pub username: Option<Text>,
-    /// An address as text; `{{auto}}` stands for the one that the server sees.
+    /// The IP address as text. `{{auto}}` stands for the address that the server sees.
     pub ip_address: Option<Text>,
     pub data_: ValueMap,
 }

@@ -1,4 +1,4 @@
-//! Events of errors.
+//! Events that report an error.
 ghost use Rattle.std.specs.Prelude.{◌≡◌, IfOk};
 ghost use Rattle.sentry_base.specs.ErrorEvents.{exception_of, error_event};
 
@@ -7,8 +7,8 @@ use crate::utils::parse_type_from_debug;
 use sentry_plain::{Items, Text};
 use std::alloc::{AllocError, Global};
 
-/// The event of an error, whose chain is given outermost first: level `Error`, and one exception for each error, the
-/// innermost first.
+/// Makes the event of an error. The chain of the error is given outermost first. The event has the level `Error` and an
+/// exception for each error of the chain, innermost first.
 pub fn event_from_error(
     alloc: Global,
     links: &[ErrorLink],
@@ -28,6 +28,7 @@ pub fn event_from_error(
     Ok(event)
 }
 
+// The exception of one error. An error whose debug text is only its quoted message names no type.
 fn exception_of(alloc: Global, link: &ErrorLink) -> Result<Exception, AllocError>
     ensures { IfOk result (λ exception. exception ≡ exception_of link.now) }
 {

@@ -1,7 +1,7 @@
-//! The book from which reports are made.
+//! The book from which client reports are made.
 ghost use Rattle.std.specs.Prelude.{◌≡◌, ◌<◌, [], ◌∷◌, ◌++◌, List, OnOk, OnErr, IfOk, IfErr};
 ghost use Rattle.sentry_base.specs.declared.protocol.refusal.Refusal.TheVariants.{OutOfMemory};
-ghost use Rattle.sentry_parts.specs.LossBooks.{Book, LossEntry, kept, recorded, absorbed, report_point, report_one, report_items, report_of};
+ghost use Rattle.sentry_parts.specs.LossBooks.{Book, LossEntry, book_of, engine_losses, drained_losses, report_point, report_items_at, report_items, report_of};
 
 use sentry_base::protocol::{
     Category, ClientReport, ClientReportItem, LOSS_QUANTITIES, Losses, REASONS, Reason, Refusal,
@@ -10,7 +10,8 @@ use sentry_plain::Items;
 use std::alloc::{AllocError, Global};
 use std::marker::Model;
 
-/// The losses that no report has told of yet. Contracts see it as what it keeps of each history that it stands for.
+/// The losses that are still to be reported. A contract holds for every history of records, absorbs and reports that the
+/// book may stand for.
 #[derive(Drop)]
 pub struct LossBook {
     pending: Losses,
@@ -22,14 +23,14 @@ impl Model for LossBook {
     ghost view = { λ b. record { pending = b.pending.quantities } };
 }
 
-// Lists a quantity that isn't 0.
+// Adds an item for the quantity, unless it is 0.
 fn list_one(
     items: &mut Items<ClientReportItem>,
     index: usize,
     quantity: u64,
 ) -> Result<(), AllocError>
-    requires { index < 63 }
-    ensures { OnOk result (items.new ≡ items.old ++ report_one index quantity) }
+    requires { index < LOSS_QUANTITIES }
+    ensures { OnOk result (items.new ≡ items.old ++ report_items_at index quantity) }
 {
     if quantity == 0 {
         return Ok(());
@@ -41,6 +42,7 @@ fn list_one(
     })
 }
 
+// The items of a report of these quantities.
 fn list_all(
     alloc: Global,
     quantities: &[u64; LOSS_QUANTITIES],
@@ -54,6 +56,7 @@ fn list_all(
     Ok(items)
 }
 
+// A report of the items, or `None` if there are none.
 fn report_of(items: Items<ClientReportItem>) -> Option<ClientReport>
     ensures { result ≡ report_of items }
 {
@@ -64,34 +67,37 @@ fn report_of(items: Items<ClientReportItem>) -> Option<ClientReport>
 }
 
 impl LossBook {
-    /// The book in which nothing came yet.
+    /// A book with no losses.
     pub fn new() -> LossBook
-        ensures { result ≡ kept [] }
+        ensures { result ≡ book_of [] }
     {
         LossBook {
             pending: Losses::none(),
         }
     }
 
-    /// Counts losses.
+    /// Adds losses to the book.
     pub fn record(&mut self, losses: &Losses)
-        ensures { (history : List LossEntry) → self.old ≡ kept history → self.new ≡ kept (recorded losses.now.quantities ∷ history) }
+        ensures { (history : List LossEntry) → self.old ≡ book_of history
+            → self.new ≡ book_of (engine_losses losses.now.quantities ∷ history) }
     {
         self.pending.add(losses);
     }
 
-    /// Takes drained losses over.
+    /// Adds losses that were drained from the loss words.
     pub fn absorb(&mut self, drained: &Losses)
-        ensures { (history : List LossEntry) → self.old ≡ kept history → self.new ≡ kept (absorbed drained.now.quantities ∷ history) }
+        ensures { (history : List LossEntry) → self.old ≡ book_of history
+            → self.new ≡ book_of (drained_losses drained.now.quantities ∷ history) }
     {
         self.pending.add(drained);
     }
 
-    /// A report of what is pending, which then counts as reported; none where nothing is pending. Where there is no
-    /// memory the book is as it was.
+    /// Returns a report of the pending losses, which then count as reported, or `None` if there are none. If out of
+    /// memory, the book stays as it was.
     pub fn take_report(&mut self, alloc: Global) -> Result<Option<ClientReport>, Refusal>
         ensures report { IfOk result (λ report. report ≡ report_of (report_items self.old.pending)) }
-        ensures point { OnOk result ((history : List LossEntry) → self.old ≡ kept history → self.new ≡ kept (report_point ∷ history)) }
+        ensures point { OnOk result ((history : List LossEntry) → self.old ≡ book_of history
+            → self.new ≡ book_of (report_point ∷ history)) }
         ensures refused { IfErr result (λ refusal. refusal ≡ OutOfMemory) }
         ensures unchanged { OnErr result (self.new ≡ self.old) }
     {

@@ -1,15 +1,15 @@
 //! Drainers of losses.
 ghost use Rattle.std.specs.Prelude.{◌≡◌, ◌++◌, [], IfOk, IfErr};
 ghost use Rattle.sentry_base.specs.declared.protocol.refusal.Refusal.TheVariants.{OutOfMemory};
-ghost use Rattle.sentry_parts.specs.LossWords.{LossPart, loss_part, Quiet, IsDrain, the_flags};
+ghost use Rattle.sentry_parts.specs.LossWords.{LossPart, loss_part, IsQuiet, IsDrain, the_flags};
 
 use crate::client_reports::draining::drain_all;
 use crate::client_reports::part::Part;
 use sentry_base::protocol::{Label, Losses, Refusal};
 use std::marker::Model;
 
-/// Takes the losses out of words that it shares with recorders and with other drainers. Contracts see which words those
-/// are, their label and the steps of this drainer.
+/// Takes losses out of words that it shares with recorders and other drainers. Contracts see which words they are, their
+/// label, and the steps that this drainer has taken.
 #[derive(Drop)]
 pub struct Drainer {
     pub(crate) part: Part,
@@ -21,11 +21,11 @@ impl Model for Drainer {
 
     ghost view = { λ r. loss_part r.part.seat.table_id r.label r.part.seat.me.0 };
 
-    ghost invariant = { λ r. Quiet r.part.seat.me.0 };
+    ghost invariant = { λ r. IsQuiet r.part.seat.me.0 };
 }
 
-/// What a drain took, and the label of its words. It has no `Drop`, so that no losses are dropped unseen: it is spent
-/// where a book absorbs it, or by `into_parts`.
+/// What a drain took, and the label of the words. It cannot be dropped, so that no losses get lost unseen: a book absorbs
+/// it, or `into_parts` takes it apart.
 pub struct Drained {
     label: Label,
     losses: Losses,
@@ -41,7 +41,21 @@ impl Model for Drained {
 }
 
 impl Drained {
-    /// The label of the words, and what was taken.
+    /// The label of the words.
+    pub fn label(&self) -> Label
+        ensures { result ≡ self.now.0 }
+    {
+        self.label
+    }
+
+    /// The losses that were taken.
+    pub fn losses(&self) -> &Losses
+        ensures { result.now ≡ self.now.1 }
+    {
+        &self.losses
+    }
+
+    /// The label of the words and the losses that were taken.
     pub fn into_parts(self) -> (Label, Losses)
         ensures { result ≡ self }
     {
@@ -51,15 +65,14 @@ impl Drained {
 }
 
 impl Drainer {
-    /// Lowers the flag, and where it was up, takes each counter in the order of the indexes, which is the answer. Where
-    /// it was down the answer is all zeros. It takes no memory and waits for nobody. Which steps of other threads came
-    /// before it isn't said.
+    /// Lowers the flag. If it was up, takes each counter in index order and returns what they had; if it was down,
+    /// returns zeros. It allocates no memory and never blocks. Which steps of other threads it sees is not specified.
     pub fn drain(&mut self) -> Drained
         ensures words { self.new.words ≡ self.old.words }
         ensures label { self.new.label ≡ self.old.label }
         ensures drained_label { result.0 ≡ self.old.label }
         ensures steps { IsDrain the_flags self.old.steps self.new.steps result.1.quantities }
-        ensures quiet { Quiet self.new.steps }
+        ensures quiet { IsQuiet self.new.steps }
     {
         let quantities = drain_all(&mut self.part);
         Drained {
@@ -68,7 +81,7 @@ impl Drainer {
         }
     }
 
-    /// This drainer and another one of the same words, which has done nothing. Where there is no memory the drainer
+    /// Returns this drainer and another one of the same words, which has taken no step. If out of memory, the drainer
     /// comes back.
     pub fn split(self) -> Result<(Drainer, Drainer), (Refusal, Drainer)>
         ensures both { IfOk result (λ r. (r.0 ≡ self) × (r.1 ≡ loss_part self.words self.label [])) }
@@ -87,7 +100,7 @@ impl Drainer {
         }
     }
 
-    /// Takes the steps of another drainer of the same words over.
+    /// Ends another drainer of the same words and takes over its steps.
     pub fn join(&mut self, other: Drainer)
         requires { other.words ≡ self.old.words }
         ensures words { self.new.words ≡ self.old.words }

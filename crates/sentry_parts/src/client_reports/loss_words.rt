@@ -1,4 +1,4 @@
-//! The words of losses: how they begin and end.
+//! The loss words: how they begin and end.
 ghost use Rattle.std.specs.Prelude.{◌≡◌, ◌++◌, [], IfOk, IfErr};
 ghost use Rattle.sentry_base.specs.declared.protocol.refusal.Refusal.TheVariants.{OutOfMemory};
 ghost use Rattle.sentry_parts.specs.LossWords.{IsClosed};
@@ -10,12 +10,12 @@ use crate::client_reports::recorder::Recorder;
 use sentry_base::protocol::{Label, Losses, Refusal};
 use std::alloc::Global;
 
-/// The atomic words of losses, a counter for each quantity and a flag, which recorders and drainers share. Between any
-/// two steps of any threads both laws of the loss machine hold.
+/// Atomic words that recorders and drainers share: a counter for each quantity of losses, and a flag. Both laws of the
+/// loss machine hold between any two steps of any threads.
 pub struct LossWords;
 
 impl LossWords {
-    /// New words with all counters at 0: a recorder and a drainer, which have done nothing.
+    /// New words with all counters at 0, as a recorder and a drainer, which have taken no step.
     pub fn new(alloc: Global, label: Label) -> Result<(Recorder, Drainer), Refusal>
         ensures words { IfOk result (λ parts. parts.1.words ≡ parts.0.words) }
         ensures labels { IfOk result (λ parts. (parts.0.label ≡ label) × (parts.1.label ≡ label)) }
@@ -33,8 +33,8 @@ impl LossWords {
         ))
     }
 
-    /// What stands in the counters, which end here. Both parts come back while another part of these words is held.
-    /// It takes no memory.
+    /// Ends the words and returns what their counters have. While there is another part of the words, both parts come
+    /// back. It allocates no memory and never blocks.
     pub fn close(recorder: Recorder, drainer: Drainer) -> Result<Losses, (Recorder, Drainer)>
         requires { drainer.words ≡ recorder.words }
         ensures closed { IfOk result (λ losses. IsClosed (recorder.steps ++ drainer.steps) losses.quantities) }
@@ -63,8 +63,8 @@ impl LossWords {
         }
     }
 
-    /// What stands in the counters, which end here. The drainer comes back while another part of these words is held.
-    /// It takes no memory.
+    /// Ends the words and returns what their counters have. While there is another part of the words, the drainer comes
+    /// back. It allocates no memory and never blocks.
     pub fn close_drainer(drainer: Drainer) -> Result<Losses, Drainer>
         ensures closed { IfOk result (λ losses. IsClosed drainer.steps losses.quantities) }
         ensures back { IfErr result (λ part. part ≡ drainer) }

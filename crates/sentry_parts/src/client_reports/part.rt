@@ -1,8 +1,7 @@
-//! One thread's part in the words: a share of them, and a seat. Each step on the words is one method here.
-ghost use Rattle.std.specs.Prelude.{◌≡◌, ◌+◌, ◌-◌, ◌<◌, ◌==◌, not, [], ◌∷◌, ◌++◌, length, replicate, IfOk, IfErr};
+//! A part of the loss words: a shared handle, and a seat in the table. Each step on the words is one method here.
+ghost use Rattle.std.specs.Prelude.{◌≡◌, ◌+◌, ◌-◌, ◌<◌, ◌==◌, not, [], ◌∷◌, ◌++◌, IfOk};
 ghost use Rattle.std.specs.Arc.{arc_value};
-ghost use Rattle.atomic_table.specs.Seated.{TableId};
-ghost use Rattle.sentry_parts.specs.LossWords.{Kept, Quiet, IsClosed, the_counters, the_words, the_flags};
+ghost use Rattle.sentry_parts.specs.LossWords.{KeepsLaws, IsQuiet, the_counters, the_words, the_flags};
 ghost use Rattle.sentry_parts.specs.declared.client_reports.step.LossStep.TheVariants.{Add, Raise, Lower, Take};
 
 use crate::client_reports::step::View;
@@ -15,14 +14,14 @@ pub(crate) const COUNTERS: usize = LOSS_QUANTITIES;
 
 pub(crate) const FLAGS: usize = 1;
 
-// How many counters a flag stands for.
+// How many counters each flag has.
 pub(crate) const PER_FLAG: usize = 63;
 
-// The rule of the words: both laws of the loss machine hold between any two steps.
+// Both laws of the loss machine hold between any two steps.
 pub struct LossRule;
 
 impl TableRule<(), View, ()> for LossRule {
-    ghost holds = { λ _ s. Kept s.words s.views };
+    ghost holds = { λ _ s. KeepsLaws s.words s.views };
 
     ghost first = { λ _. [] };
 }
@@ -60,7 +59,8 @@ impl Split<View> for Cut {
     ghost right = { λ v. [] };
 }
 
-pub(crate) struct Both;
+// The first of two joined seats has the steps of both.
+struct Both;
 
 impl Join<View> for Both {
     ghost both = { λ v w. v ++ w };
@@ -70,6 +70,7 @@ impl Join<View> for Both {
 
 pub(crate) type Words = Table<(), View, (), LossRule, Global>;
 
+// The words, and this part's seat among those who share them.
 #[derive(Drop)]
 pub(crate) struct Part {
     pub(crate) words: Arc<Words>,
@@ -90,7 +91,7 @@ impl Part {
         Ok(Part { words, seat })
     }
 
-    // Another part of the words, which has done nothing.
+    // Another part of the words, which has taken no step.
     pub(crate) fn split(&mut self) -> Result<Part, AllocError>
         ensures words { self.new.seat.table_id ≡ self.old.seat.table_id }
         ensures steps { self.new.seat.me.0 ≡ self.old.seat.me.0 }
@@ -101,18 +102,19 @@ impl Part {
         Ok(Part { words, seat })
     }
 
-    // Takes the steps of another part over.
+    // Ends another part of the words and takes over its steps.
     pub(crate) fn join(&mut self, other: Part)
         requires same { other.seat.table_id ≡ self.old.seat.table_id }
-        requires quiet { Quiet self.old.seat.me.0 × Quiet other.seat.me.0 }
+        requires quiet { IsQuiet self.old.seat.me.0 × IsQuiet other.seat.me.0 }
         ensures words { self.new.seat.table_id ≡ self.old.seat.table_id }
         ensures steps { self.new.seat.me.0 ≡ self.old.seat.me.0 ++ other.seat.me.0 }
-        ensures quiet { Quiet self.new.seat.me.0 }
+        ensures quiet { IsQuiet self.new.seat.me.0 }
     {
         let Part { words: _, seat } = other;
         self.words.shared.join_seat::<Both>(&mut self.seat, seat);
     }
 
+    // Adds to a counter, modulo 2^64.
     pub(crate) fn add(&mut self, counter: usize, quantity: u64)
         requires { counter < the_counters }
         ensures words { self.new.seat.table_id ≡ self.old.seat.table_id }
@@ -123,6 +125,7 @@ impl Part {
             .fetch_add::<Adds>(&mut self.seat, counter, quantity);
     }
 
+    // Sets a flag.
     pub(crate) fn raise(&mut self, flag: usize)
         requires { flag < the_flags }
         ensures words { self.new.seat.table_id ≡ self.old.seat.table_id }
@@ -133,7 +136,7 @@ impl Part {
             .store::<Raises>(&mut self.seat, COUNTERS + flag, 1);
     }
 
-    // Whether the flag was up.
+    // Clears a flag, and returns whether it was up.
     pub(crate) fn lower(&mut self, flag: usize) -> bool
         requires { flag < the_flags }
         ensures words { self.new.seat.table_id ≡ self.old.seat.table_id }
@@ -146,7 +149,7 @@ impl Part {
         found != 0
     }
 
-    // What the counter had.
+    // Sets a counter to 0, and returns what it had.
     pub(crate) fn take(&mut self, counter: usize) -> u64
         requires { counter < the_counters }
         ensures words { self.new.seat.table_id ≡ self.old.seat.table_id }

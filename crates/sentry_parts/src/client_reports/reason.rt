@@ -4,23 +4,23 @@ ghost use Rattle.sentry_parts.specs.Reasons.{reason_of};
 
 use sentry_base::protocol::Reason;
 
-/// Why a transport lost data: those of all reasons that it can know of.
+/// Why a transport lost data.
 #[derive(Clone, Copy, Debug)]
 pub enum TransportLossReason {
     /// The server or the system refused to take an envelope.
     SendError,
-    /// The transport itself failed, as where an envelope can't be written down.
+    /// The transport itself failed, for example because an envelope cannot be serialized.
     InternalError,
-    /// The server wasn't reached, or didn't answer in time.
+    /// The server could not be reached, or did not answer in time.
     NetworkError,
-    /// The server had asked to be sent less.
+    /// The server had asked for fewer requests.
     RatelimitBackoff,
     /// The transport's queue was full.
     QueueOverflow,
 }
 
 impl TransportLossReason {
-    /// The reason that a report names.
+    /// The reason that a client report names.
     pub fn into_reason(self) -> Reason
         ensures { result ≡ reason_of self }
     {

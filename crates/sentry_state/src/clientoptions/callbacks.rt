@@ -1,7 +1,7 @@
-//! A client's callbacks.
-ghost use Rattle.std.specs.Prelude.{◌≡◌, ◌∷◌, ◌++◌, [], IfOk, OnOk, Some, map, option_map};
+//! The callbacks of a client.
+ghost use Rattle.std.specs.Prelude.{◌≡◌, IfOk, OnOk, map, option_map};
+ghost use Rattle.std.specs.Option.{option_and_then};
 ghost use Rattle.sentry_state.specs.Callbacks.{Meanings, set_up_all, process_by_all, call_if_any};
-ghost use Rattle.sentry_plain.specs.Texts.{Bytes};
 
 use crate::callbacks::{EventCallback, Integration};
 use crate::clientoptions::plain::PlainOptions;
@@ -9,33 +9,36 @@ use sentry_base::protocol::Event;
 use sentry_plain::{Items, Shared, Text};
 use std::alloc::{AllocError, Global};
 
-/// The callbacks of a client, whatever their types.
+/// The callbacks of a client, of any types. An event passes through them in place, and becomes `None` if one of them
+/// drops it. An event that is `None` already is passed to none of them.
 pub trait Callbacks: Drop {
-    /// What they are as functions.
+    /// The functions that the callbacks are.
     ghost meanings: { Self → Meanings };
 
     /// The names of the integrations, in order.
     fn integration_names(&self, alloc: Global) -> Result<Items<Text>, AllocError>
-        ensures { IfOk result (λ names. names ≡ map (λ integration. integration.name) (meanings self.now).integrations) };
+        ensures { IfOk result
+            (λ names. names ≡ map (λ integration. integration.name) (meanings self.now).integrations) };
 
-    /// Each integration's `setup` in turn. Where memory was wanting, some of them ran.
+    /// Calls `setup` of each integration in turn. If memory runs out, some of them were called.
     fn set_up(&self, options: &mut PlainOptions) -> Result<(), AllocError>
         ensures { OnOk result (options.new ≡ set_up_all (meanings self.now).integrations options.old) };
 
-    /// The event after each integration in turn, up to the first that drops it.
+    /// Passes the event through each integration in turn.
     fn process_event(
         &self,
-        event: Event,
+        event: &mut Option<Event>,
         options: &PlainOptions,
-    ) -> Result<Option<Event>, AllocError>
-        ensures { IfOk result (λ made. made ≡ process_by_all (meanings self.now).integrations options.now event) };
+    ) -> Result<(), AllocError>
+        ensures { OnOk result
+            (event.new ≡ option_and_then (process_by_all (meanings self.now).integrations options.now) event.old) };
 
-    /// The event after `before_send`, if that is set.
-    fn before_send(&self, event: Event) -> Result<Option<Event>, AllocError>
-        ensures { IfOk result (λ made. made ≡ call_if_any (meanings self.now).before_send event) };
+    /// Passes the event through `before_send`, if that is set.
+    fn before_send(&self, event: &mut Option<Event>) -> Result<(), AllocError>
+        ensures { OnOk result (event.new ≡ option_and_then (call_if_any (meanings self.now).before_send) event.old) };
 }
 
-/// The callbacks of a client, each kind of one type: boxes, where the kinds are to mix.
+/// The callbacks of a client, where all integrations have one type. With boxes several types can be mixed.
 #[derive(Drop)]
 pub struct ClientCallbacks<E, I> {
     pub integrations: Items<Shared<I>>,
@@ -43,7 +46,7 @@ pub struct ClientCallbacks<E, I> {
 }
 
 impl<E: Drop, I: Drop> Clone for ClientCallbacks<E, I> {
-    // The copy shares the callbacks.
+    // The clone shares the callbacks.
     ghost is_clone = { λ old new. new ≡ old };
 
     fn clone(&self) -> Result<ClientCallbacks<E, I>, AllocError> {
@@ -61,83 +64,42 @@ impl<E: EventCallback + Drop, I: Integration + Drop> Callbacks for ClientCallbac
     } };
 
     fn integration_names(&self, alloc: Global) -> Result<Items<Text>, AllocError> {
-        names_of(alloc, self.integrations.as_slice())
+        let mut names = Items::new(alloc);
+        for integration in self.integrations.as_slice() {
+            names.push(Text::new(alloc, integration.get().name())?)?;
+        }
+        Ok(names)
     }
 
     fn set_up(&self, options: &mut PlainOptions) -> Result<(), AllocError> {
-        set_up_all(self.integrations.as_slice(), options)
+        for integration in self.integrations.as_slice() {
+            integration.get().setup(options)?;
+        }
+        Ok(())
     }
 
     fn process_event(
         &self,
-        event: Event,
+        event: &mut Option<Event>,
         options: &PlainOptions,
-    ) -> Result<Option<Event>, AllocError> {
-        process_by_all(self.integrations.as_slice(), event, options)
-    }
-
-    fn before_send(&self, event: Event) -> Result<Option<Event>, AllocError> {
-        match &self.before_send {
-            None => Ok(Some(event)),
-            Some(callback) => callback.get().call(event),
+    ) -> Result<(), AllocError> {
+        for integration in self.integrations.as_slice() {
+            let Some(given) = event.take() else {
+                return Ok(());
+            };
+            *event = integration.get().process_event(given, options)?;
         }
+        Ok(())
     }
-}
 
-fn names_of<I: Integration>(
-    alloc: Global,
-    integrations: &[Shared<I>],
-) -> Result<Items<Text>, AllocError>
-    ensures { IfOk result (λ names. names ≡ map (λ integration. integration.name) (map I.meaning integrations.now)) }
-{
-    let mut names = Items::new(alloc);
-    for integration in integrations {
-        names.push(Text::new(alloc, integration.get().name())?)?;
+    fn before_send(&self, event: &mut Option<Event>) -> Result<(), AllocError> {
+        let Some(callback) = &self.before_send else {
+            return Ok(());
+        };
+        let Some(given) = event.take() else {
+            return Ok(());
+        };
+        *event = callback.get().call(given)?;
+        Ok(())
     }
-    Ok(names)
-}
-
-fn set_up_one<I: Integration>(integration: &I, options: &mut PlainOptions) -> Result<(), AllocError>
-    ensures { OnOk result (options.new ≡ (I.meaning integration.now).setup options.old) }
-{
-    integration.setup(options)
-}
-
-fn set_up_all<I: Integration>(
-    integrations: &[Shared<I>],
-    options: &mut PlainOptions,
-) -> Result<(), AllocError>
-    ensures { OnOk result (options.new ≡ set_up_all (map I.meaning integrations.now) options.old) }
-{
-    for integration in integrations {
-        set_up_one(integration.get(), options)?;
-    }
-    Ok(())
-}
-
-fn process_by_one<I: Integration>(
-    integration: &I,
-    event: Event,
-    options: &PlainOptions,
-) -> Result<Option<Event>, AllocError>
-    ensures { IfOk result (λ made. made ≡ (I.meaning integration.now).process_event options.now event) }
-{
-    integration.process_event(event, options)
-}
-
-fn process_by_all<I: Integration>(
-    integrations: &[Shared<I>],
-    event: Event,
-    options: &PlainOptions,
-) -> Result<Option<Event>, AllocError>
-    ensures { IfOk result (λ made. made ≡ process_by_all (map I.meaning integrations.now) options.now event) }
-{
-    let mut event = event;
-    for integration in integrations {
-        match process_by_one(integration.get(), event, options)? {
-            Some(made) => event = made,
-            None => return Ok(None),
-        }
-    }
-    Ok(Some(event))
 }

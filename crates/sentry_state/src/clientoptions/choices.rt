@@ -1,41 +1,41 @@
-//! Options that are one of a few.
+//! Options that choose one of a few alternatives.
 ghost use Rattle.std.specs.Prelude.{◌≡◌};
 ghost use Rattle.sentry_state.specs.Options.{is_within_size_limit};
 
 use sentry_base::protocol::SampleRate;
 
-/// What a session is of.
+/// What a session covers.
 #[derive(Clone, Copy, Debug, PartialEq, Eq)]
 pub enum SessionMode {
-    /// A run of the program. Each session is sent by itself.
+    /// A run of the program. Each session is sent on its own.
     Application,
-    /// A request. Sessions are sent as counts.
+    /// A request. Sessions are sent as aggregated counts.
     Request,
 }
 
-/// How long a request's body may be that is kept with an event.
+/// The maximum request body size to keep with an event.
 #[derive(Clone, Copy, Debug, PartialEq, Eq)]
 pub enum MaxRequestBodySize {
-    /// No body is kept.
+    /// Keep no body.
     None,
-    /// Up to 1000 bytes.
+    /// Keep bodies of at most 1000 bytes.
     Small,
-    /// Up to 10000 bytes.
+    /// Keep bodies of at most 10000 bytes.
     Medium,
-    /// Any.
+    /// Keep every body.
     Always,
-    /// Up to this many bytes.
+    /// Keep bodies of at most this many bytes.
     Explicit(usize),
 }
 
 impl MaxRequestBodySize {
-    /// The longest body at `Small`, in bytes.
+    /// The limit of `Small`, in bytes.
     pub const SMALL: usize = 1_000;
 
-    /// The longest body at `Medium`, in bytes.
+    /// The limit of `Medium`, in bytes.
     pub const MEDIUM: usize = 10_000;
 
-    /// Whether a body of this many bytes is kept. It takes no memory.
+    /// Returns `true` if a body of this many bytes is kept. It takes no memory.
     pub fn is_within_size_limit(&self, content_length: usize) -> bool
         ensures { result ≡ is_within_size_limit self.now content_length }
     {
@@ -44,15 +44,15 @@ impl MaxRequestBodySize {
             MaxRequestBodySize::Small => content_length <= MaxRequestBodySize::SMALL,
             MaxRequestBodySize::Medium => content_length <= MaxRequestBodySize::MEDIUM,
             MaxRequestBodySize::Always => true,
-            MaxRequestBodySize::Explicit(longest) => content_length <= *longest,
+            MaxRequestBodySize::Explicit(limit) => content_length <= *limit,
         }
     }
 }
 
-/// Which events are kept. By default all are.
+/// Which events are kept: by default, all.
 #[derive(Clone, Copy, Debug)]
 pub enum EventSamplingStrategy {
-    /// Those that are drawn at this rate.
+    /// Those that are sampled at this rate.
     FixedRate(SampleRate),
 }
 
@@ -67,12 +67,12 @@ impl Default for EventSamplingStrategy {
     }
 }
 
-/// Which traces are kept. By default tracing is disabled.
+/// Which traces are kept: by default, tracing is disabled.
 #[derive(Clone, Debug, Drop)]
 pub enum TracesSamplingStrategy {
-    /// Those that are drawn at this rate.
+    /// Those that are sampled at this rate.
     FixedRate(SampleRate),
-    /// None. Unlike at a rate of 0, none counts as lost.
+    /// None. Unlike at a rate of 0, none of them is counted as lost.
     Disabled,
 }
 

@@ -1,5 +1,5 @@
-//! The options but for integrations, callbacks and the sampling of traces.
-ghost use Rattle.std.specs.Prelude.{◌≡◌, IfOk};
+//! The options other than callbacks, integrations and the sampling of traces.
+ghost use Rattle.std.specs.Prelude.{◌≡◌};
 ghost use Rattle.sentry_state.specs.Options.{default_plain_options};
 
 use crate::clientoptions::choices::{EventSamplingStrategy, MaxRequestBodySize, SessionMode};
@@ -10,58 +10,58 @@ use sentry_plain::{Items, Text};
 use std::alloc::{AllocError, Global};
 use std::num::NonZeroUsize;
 
-/// The options but for integrations, callbacks and the sampling of traces. An integration's `setup` may change any of
-/// them. `ClientOptions` has a builder for each.
+/// The options other than callbacks, integrations and the sampling of traces. An integration's `setup` may change any
+/// of them. `ClientOptions` has a builder for each.
 pub struct PlainOptions {
-    /// Where events go. Without one, nothing is sent.
+    /// Where events are sent. Without a DSN, nothing is sent.
     pub dsn: Option<Dsn>,
-    /// Whether the SDK is to tell what it does.
+    /// Whether the SDK reports what it does.
     pub debug: bool,
-    /// The version of the program, which events without one get.
+    /// The version of the program, for events that have none.
     pub release: Option<Text>,
-    /// Where the program runs, as `production`, which events without one get.
+    /// The environment that the program runs in, such as `production`, for events that have none.
     pub environment: Option<Text>,
     /// Which events are kept.
     pub event_sampling_strategy: EventSamplingStrategy,
-    /// The organization by which incoming traces are judged, in place of the DSN's.
+    /// The organization that incoming traces are compared with, in place of the DSN's.
     pub org_id: Option<OrganizationId>,
-    /// Whether a trace is continued only where both sides name the same organization, or neither names one.
+    /// Whether a trace is continued only if both sides name the same organization, or neither names one.
     pub strict_trace_continuation: bool,
-    /// How many breadcrumbs a scope keeps.
+    /// The maximum number of breadcrumbs in a scope.
     pub max_breadcrumbs: usize,
-    /// Whether messages are to get a stack trace.
+    /// Whether messages get a stack trace.
     pub attach_stacktrace: bool,
-    /// Whether data that may name a person is sent.
+    /// Whether data that may identify a person is sent.
     pub send_default_pii: bool,
-    /// The name of the machine, which events without one get.
+    /// The name of the machine, for events that have none.
     pub server_name: Option<Text>,
-    /// Prefixes of modules that count as the program's own.
+    /// Prefixes of modules that belong to the program.
     pub in_app_include: Items<Text>,
-    /// Prefixes of modules that never count as the program's own.
+    /// Prefixes of modules that do not belong to the program.
     pub in_app_exclude: Items<Text>,
-    /// Whether the usual integrations are to be added.
+    /// Whether the default integrations are added.
     pub default_integrations: bool,
     /// The proxy for HTTP.
     pub http_proxy: Option<Text>,
     /// The proxy for HTTPS.
     pub https_proxy: Option<Text>,
-    /// How long a client may wait at its end for what is to be sent, in nanoseconds.
+    /// How long a client that is closed may wait for pending envelopes, in nanoseconds.
     pub shutdown_timeout: u64,
-    /// How long a request's body may be that is kept with an event.
+    /// The maximum request body size to keep with an event.
     pub max_request_body_size: MaxRequestBodySize,
     /// How many envelopes may wait in the transport.
     pub transport_channel_capacity: Option<NonZeroUsize>,
-    /// Whether integrations may capture logs by themselves. Logs that are captured by a call are sent in any case.
+    /// Whether integrations may capture logs by themselves. Logs that a call captures are sent in any case.
     pub enable_logs: bool,
-    /// Without effect: metrics are sent in any case.
+    /// Has no effect: metrics are sent in any case.
     pub enable_metrics: bool,
     /// Whether a server's certificate may be invalid.
     pub accept_invalid_certs: bool,
-    /// Whether sessions are to be started without a call.
+    /// Whether sessions are started automatically.
     pub auto_session_tracking: bool,
-    /// What a session is of.
+    /// What a session covers.
     pub session_mode: SessionMode,
-    /// What the transport tells the server of who sends.
+    /// The user agent that the transport sends.
     pub user_agent: UserAgent,
 }
 
@@ -98,7 +98,7 @@ impl Drop for PlainOptions {
 }
 
 impl PlainOptions {
-    /// The defaults. It takes no memory.
+    /// The default options. It takes no memory.
     pub fn new(alloc: Global) -> PlainOptions
         ensures { result ≡ default_plain_options }
     {
@@ -132,84 +132,27 @@ impl PlainOptions {
     }
 }
 
-// Options are cloned in two parts, since a proof grows with the square of what one function clones.
-
-#[derive(Drop)]
-struct Origin {
-    release: Option<Text>,
-    environment: Option<Text>,
-    server_name: Option<Text>,
-    in_app_include: Items<Text>,
-    in_app_exclude: Items<Text>,
-}
-
-#[derive(Drop)]
-struct Server {
-    dsn: Option<Dsn>,
-    http_proxy: Option<Text>,
-    https_proxy: Option<Text>,
-    user_agent: UserAgent,
-}
-
-impl PlainOptions {
-    fn origin(&self) -> Result<Origin, AllocError>
-        ensures { IfOk result (λ parts. parts ≡ record {
-          release = self.now.release;
-          environment = self.now.environment;
-          server_name = self.now.server_name;
-          in_app_include = self.now.in_app_include;
-          in_app_exclude = self.now.in_app_exclude;
-        }) }
-    {
-        Ok(Origin {
-            release: self.release.clone()?,
-            environment: self.environment.clone()?,
-            server_name: self.server_name.clone()?,
-            in_app_include: self.in_app_include.clone()?,
-            in_app_exclude: self.in_app_exclude.clone()?,
-        })
-    }
-
-    fn server(&self) -> Result<Server, AllocError>
-        ensures { IfOk result (λ parts. parts ≡ record {
-          dsn = self.now.dsn;
-          http_proxy = self.now.http_proxy;
-          https_proxy = self.now.https_proxy;
-          user_agent = self.now.user_agent;
-        }) }
-    {
-        Ok(Server {
-            http_proxy: self.http_proxy.clone()?,
-            https_proxy: self.https_proxy.clone()?,
-            user_agent: self.user_agent.clone()?,
-            dsn: self.dsn.clone()?,
-        })
-    }
-}
-
 impl Clone for PlainOptions {
     ghost is_clone = { λ old new. new ≡ old };
 
     fn clone(&self) -> Result<PlainOptions, AllocError> {
-        let origin = self.origin()?;
-        let server = self.server()?;
         Ok(PlainOptions {
-            dsn: server.dsn,
+            dsn: self.dsn.clone()?,
             debug: self.debug,
-            release: origin.release,
-            environment: origin.environment,
+            release: self.release.clone()?,
+            environment: self.environment.clone()?,
             event_sampling_strategy: self.event_sampling_strategy,
             org_id: self.org_id,
             strict_trace_continuation: self.strict_trace_continuation,
             max_breadcrumbs: self.max_breadcrumbs,
             attach_stacktrace: self.attach_stacktrace,
             send_default_pii: self.send_default_pii,
-            server_name: origin.server_name,
-            in_app_include: origin.in_app_include,
-            in_app_exclude: origin.in_app_exclude,
+            server_name: self.server_name.clone()?,
+            in_app_include: self.in_app_include.clone()?,
+            in_app_exclude: self.in_app_exclude.clone()?,
             default_integrations: self.default_integrations,
-            http_proxy: server.http_proxy,
-            https_proxy: server.https_proxy,
+            http_proxy: self.http_proxy.clone()?,
+            https_proxy: self.https_proxy.clone()?,
             shutdown_timeout: self.shutdown_timeout,
             max_request_body_size: self.max_request_body_size,
             transport_channel_capacity: self.transport_channel_capacity,
@@ -218,7 +161,7 @@ impl Clone for PlainOptions {
             accept_invalid_certs: self.accept_invalid_certs,
             auto_session_tracking: self.auto_session_tracking,
             session_mode: self.session_mode,
-            user_agent: server.user_agent,
+            user_agent: self.user_agent.clone()?,
         })
     }
 }

@@ -1,4 +1,4 @@
-//! What a transport tells the server of who sends.
+//! User agents.
 ghost use Rattle.std.specs.Prelude.{◌≡◌, ◌==◌, ◌↔◌, IsTrue, codes, unwrap_or};
 ghost use Rattle.std.proofs.Common.{rules};
 ghost use Rattle.std.specs.Cmp.Rules.{comparing};
@@ -10,11 +10,11 @@ use sentry_plain::Text;
 use std::alloc::AllocError;
 use std::marker::Model;
 
-/// What a transport tells the server of who sends: the SDK's own text, which takes no memory, or another one. Contracts
-/// see the list of its bytes.
+/// The user agent that a transport sends: the SDK's own, which takes no memory, or another text. Contracts see the list
+/// of its bytes.
 #[derive(Debug, Drop)]
 pub struct UserAgent {
-    // None stands for the SDK's.
+    // `None` stands for the SDK's user agent.
     text: Option<Text>,
 }
 
@@ -29,21 +29,21 @@ impl Model for UserAgent {
 }
 
 impl UserAgent {
-    /// The SDK's. It takes no memory.
+    /// The SDK's user agent. It takes no memory.
     pub fn of_sdk() -> UserAgent
         ensures { result ≡ sdk_user_agent }
     {
         UserAgent { text: None }
     }
 
-    /// Another text. It takes no memory.
+    /// A user agent of another text. It takes no memory.
     pub fn from_text(text: Text) -> UserAgent
         ensures { result ≡ text }
     {
         UserAgent { text: Some(text) }
     }
 
-    /// The text, to be read.
+    /// The user agent as a string slice.
     pub fn as_str(&self) -> &str
         ensures { result.now ≡ self.now }
     {

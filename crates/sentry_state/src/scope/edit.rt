@@ -1,14 +1,15 @@
-//! The setters of a scope, and their calls as values.
+//! The setters of a scope, and calls of them as values.
 ghost use Rattle.std.specs.Prelude.{◌≡◌, OnOk, OnErr};
-ghost use Rattle.sentry_state.specs.declared.scope.edit.ScopeEdit.TheVariants.{SetLevel, SetTag, RemoveTag, AddEventProcessor};
+ghost use Rattle.sentry_state.specs.declared.scope.edit.ScopeEdit.TheVariants.{SetLevel, SetTag, RemoveTag};
+ghost use Rattle.sentry_state.specs.declared.scope.edit.ScopeEdit.TheVariants.{AddEventProcessor};
 ghost use Rattle.sentry_state.specs.Scopes.{edit, edit_all};
 
 use crate::scope::Scope;
 use sentry_base::protocol::Level;
 use sentry_plain::{Shared, Text};
-use std::alloc::{AllocError, Global};
+use std::alloc::AllocError;
 
-/// The call of one setter of a scope.
+/// A call of one setter of a scope.
 #[derive(Drop)]
 pub enum ScopeEdit<P> {
     /// `set_level`
@@ -22,14 +23,14 @@ pub enum ScopeEdit<P> {
 }
 
 impl<P: Drop> Scope<P> {
-    /// Overrides the level of events, or no longer does.
+    /// Sets or clears the level that overrides the level of events.
     pub fn set_level(&mut self, level: Option<Level>)
         ensures { self.new ≡ edit (SetLevel level) self.old }
     {
         self.level = level;
     }
 
-    /// Sets a tag, in place of one with the same key.
+    /// Sets a tag. It replaces a tag with the same key.
     pub fn set_tag(&mut self, key: &str, value: &str) -> Result<(), AllocError>
         ensures ok { OnOk result (self.new ≡ edit (SetTag key.now value.now) self.old) }
         ensures err { OnErr result (self.new ≡ self.old) }
@@ -40,14 +41,14 @@ impl<P: Drop> Scope<P> {
         self.tags.insert(key, value)
     }
 
-    /// Removes a tag, if it is there.
+    /// Removes a tag, if the scope has it.
     pub fn remove_tag(&mut self, key: &str)
         ensures { self.new ≡ edit (RemoveTag key.now) self.old }
     {
         self.tags.remove(key);
     }
 
-    /// Puts a processor last.
+    /// Adds an event processor, after those that the scope has.
     pub fn add_event_processor(&mut self, processor: P) -> Result<(), AllocError>
         ensures ok { OnOk result (self.new ≡ edit (AddEventProcessor processor) self.old) }
         ensures err { OnErr result (self.new ≡ self.old) }
@@ -56,7 +57,7 @@ impl<P: Drop> Scope<P> {
         self.processors.push(share)
     }
 
-    /// Makes the call that the edit stands for.
+    /// Makes the call that the edit describes.
     pub fn edit(&mut self, setter: ScopeEdit<P>) -> Result<(), AllocError>
         ensures ok { OnOk result (self.new ≡ edit setter self.old) }
         ensures err { OnErr result (self.new ≡ self.old) }
@@ -75,7 +76,7 @@ impl<P: Drop> Scope<P> {
         }
     }
 
-    /// Does the calls in turn. Where memory was wanting, some of them are done.
+    /// Makes the calls in turn. If memory runs out, some of them were made.
     pub fn edit_all(&mut self, edits: Vec<ScopeEdit<P>>) -> Result<(), AllocError>
         ensures { OnOk result (self.new ≡ edit_all edits.items self.old) }
     {
@@ -83,9 +84,5 @@ impl<P: Drop> Scope<P> {
             self.edit(edit)?;
         }
         Ok(())
-    }
-
-    fn allocator(&self) -> Global {
-        self.processors.allocator()
     }
 }

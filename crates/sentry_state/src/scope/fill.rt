@@ -1,17 +1,19 @@
-//! What a scope makes of an event.
-ghost use Rattle.std.specs.Prelude.{◌≡◌, IfOk, codes};
+//! How a scope applies to an event.
+ghost use Rattle.std.specs.Prelude.{◌≡◌, IfOk, OnOk, codes};
+ghost use Rattle.std.specs.Option.{option_and_then};
 ghost use Rattle.sentry_plain.specs.Defaults.{with_default};
-ghost use Rattle.sentry_state.specs.Scopes.{fill, apply_to_event, trace_of};
+ghost use Rattle.sentry_base.specs.declared.protocol.event.Event.{Event};
+ghost use Rattle.sentry_state.specs.Callbacks.{process_all};
+ghost use Rattle.sentry_state.specs.Scopes.{fill, apply_to_event, trace_of, OverridesTags};
 
-use crate::callbacks::{EventCallback, process};
+use crate::callbacks::EventCallback;
 use crate::scope::Scope;
 use sentry_base::protocol::{Context, Event, TraceContext};
 use sentry_plain::{Text, TextMap, ValueMap};
 use std::alloc::{AllocError, Global};
-use std::mem;
 
 impl<P: Drop> Scope<P> {
-    // The context of an event that no span is active for.
+    // The trace of an event that no span is active for.
     fn trace_context(&self, alloc: Global) -> Context
         ensures { result ≡ trace_of self.now }
     {
@@ -27,41 +29,54 @@ impl<P: Drop> Scope<P> {
         })
     }
 
-    // The contexts with the scope's trace, if none is there.
-    fn fill_trace(&self, contexts: TextMap<Context>) -> Result<TextMap<Context>, AllocError>
-        ensures { IfOk result (λ made. made ≡ with_default (codes "trace") (trace_of self.now) contexts) }
+    // Inserts the scope's trace, unless the contexts have one.
+    fn fill_trace(&self, contexts: &mut TextMap<Context>) -> Result<(), AllocError>
+        ensures { OnOk result (contexts.new ≡ with_default (codes "trace") (trace_of self.now) contexts.old) }
     {
-        let mut contexts = contexts;
         if contexts.get("trace").is_some() {
-            return Ok(contexts);
+            return Ok(());
         }
-        let alloc = self.processors.allocator();
-        contexts.insert(Text::new(alloc, "trace")?, self.trace_context(alloc))?;
-        Ok(contexts)
+        let alloc = self.allocator();
+        contexts.insert(Text::new(alloc, "trace")?, self.trace_context(alloc))
     }
 
-    // The event under the scope, before the processors.
-    fn fill(&self, event: Event) -> Result<Event, AllocError>
-        ensures { IfOk result (λ made. made ≡ fill self.now event) }
+    /// Applies the scope to an event, except for its processors: a level that is set overrides the event's, the scope's
+    /// tags override the event's, and the trace is filled in if absent. If memory runs out, some of this was done.
+    pub fn fill_event(&self, event: &mut Event) -> Result<(), AllocError>
+        ensures fills { OnOk result (event.new ≡ fill self.now event.old) }
+        ensures tags { OnOk result (OverridesTags self.now event.old event.new) }
     {
-        let alloc = self.processors.allocator();
-        let mut event = event;
         event.level = self.level.unwrap_or(event.level);
-        let tags = mem::replace(&mut event.tags, TextMap::new(alloc));
-        event.tags = tags.merge(&self.tags)?;
-        let contexts = mem::replace(&mut event.contexts, TextMap::new(alloc));
-        event.contexts = self.fill_trace(contexts)?;
-        Ok(event)
+        event.tags.merge(&self.tags)?;
+        self.fill_trace(&mut event.contexts)
     }
 }
 
 impl<P: EventCallback + Drop> Scope<P> {
-    /// The event under this scope: a level that is set overrides the event's, the scope's tags win, the trace is
-    /// filled in if absent, and the processors run in order. None is answered where one of them drops the event.
-    pub fn apply_to_event(&self, event: Event) -> Result<Option<Event>, AllocError>
-        ensures { IfOk result (λ made. made ≡ apply_to_event P.gives self.now event) }
+    /// Passes an event through the processors of the scope, in order and in place. It becomes `None` if one of them
+    /// drops it.
+    pub fn process_event(&self, event: &mut Option<Event>) -> Result<(), AllocError>
+        ensures { OnOk result (event.new ≡ option_and_then (process_all P.gives self.now.processors) event.old) }
     {
-        let filled = self.fill(event)?;
-        process(self.processors.as_slice(), filled)
+        for processor in self.processors.as_slice() {
+            let Some(given) = event.take() else {
+                return Ok(());
+            };
+            *event = processor.get().call(given)?;
+        }
+        Ok(())
+    }
+
+    /// Applies the scope to an event, as `fill_event` does, and passes it through the processors. Returns `None` if one
+    /// of them drops the event.
+    pub fn apply_to_event(&self, mut event: Event) -> Result<Option<Event>, AllocError>
+        ensures applies { IfOk result (λ made. made ≡ apply_to_event P.gives self.now event) }
+        ensures tags { IfOk result (λ made. (filled : Event) × OverridesTags self.now event filled
+            × (made ≡ process_all P.gives self.now.processors filled)) }
+    {
+        self.fill_event(&mut event)?;
+        let mut event = Some(event);
+        self.process_event(&mut event)?;
+        Ok(event)
     }
 }

@@ -7,15 +7,14 @@ use sentry_base::protocol::ClientKey;
 use sentry_plain::Items;
 use std::alloc::Global;
 
-/// A client, or none, and a scope.
+/// A scope, and the client of its events, if any.
 #[derive(Drop)]
 pub struct StackLayer<P> {
     pub client: Option<ClientKey>,
     pub scope: Scope<P>,
 }
 
-/// The layers of a hub, of which there is always one: the top, on which calls act, and those below it, the lowest
-/// first.
+/// The layers of a hub: the top layer, which calls use, and the layers below it, the lowest first.
 #[derive(Drop)]
 pub struct Stack<P> {
     pub top: StackLayer<P>,
@@ -44,7 +43,7 @@ impl<P> Stack<P> {
         &self.top
     }
 
-    /// How many layers stand below the top.
+    /// The number of layers below the top.
     pub fn depth(&self) -> usize
         ensures { result ≡ length self.now.below }
     {

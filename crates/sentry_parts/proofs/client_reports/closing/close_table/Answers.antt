@@ -6,10 +6,10 @@ pub returns : goal.returns
 returns c = let f = c.close_with-closed.ensures.values.2 in let done = c.loop-i-test.false in record {
   words = f.0.words;
   views = f.0.views;
-  kept = f.1.0;
+  valid = f.1.0;
   seat = c.args.seat.id;
-  there = f.1.1;
-  left = λ i less. c.loop-i.invariant.copied i (omega arith) ∙ ap (λ ws. get_or ws i 0) (sym f.2);
+  my_view = f.1.1;
+  counters = λ i less. c.loop-i.invariant.copied i (omega arith) ∙ ap (λ ws. get_or ws i 0) (sym f.2);
 }
 
 pub loop-i-init : goal.loop-i-init

@@ -1,10 +1,10 @@
 use Rattle.std.proofs.Common.{◌≡◌}
-use Rattle.sentry_parts.specs.LossWords.{Quiet, IsDrain}
+use Rattle.sentry_parts.specs.LossWords.{IsQuiet, IsDrain}
 use Rattle.sentry_parts.proofs.client_reports.draining.drain_all.Given as goal
 
 abbrev pub invariant-loop-f : goal.invariant-loop-f
 invariant-loop-f l = record {
   words : l.part.seat.table_id ≡ l.fn.part.seat.table_id;
   drain : IsDrain l.f l.fn.part.seat.me.0 l.part.seat.me.0 l.taken;
-  quiet : Quiet l.part.seat.me.0;
+  quiet : IsQuiet l.part.seat.me.0;
 }

@@ -2,4 +2,4 @@ use Rattle.std.proofs.Common.{◌≡◌}
 use Rattle.sentry_parts.proofs.client_reports.tests.record_many.Given as goal
 
 abbrev pub invariant-loop : goal.invariant-loop
-invariant-loop g l = l.recorder.words ≡ l.fn.recorder.words
+invariant-loop l = l.recorder.words ≡ l.fn.recorder.words

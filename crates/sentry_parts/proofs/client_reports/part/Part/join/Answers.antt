@@ -1,5 +1,5 @@
 use Rattle.std.proofs.Common.{rules, subst, sym, ap}
-use Rattle.sentry_parts.specs.LossWords.{Quiet}
+use Rattle.sentry_parts.specs.LossWords.{IsQuiet}
 use Rattle.sentry_parts.proofs.LossParts.{joins}
 use Rattle.sentry_parts.proofs.LossQuiet.{quiet_append}
 use Rattle.sentry_parts.proofs.client_reports.part.Part.join.Goals as goal
@@ -8,4 +8,4 @@ pub join_seat-requires : goal.join_seat-requires
 join_seat-requires c = (search rules, search rules, search rules, search rules, joins _ _ _ _ c.requires.quiet.0 c.requires.quiet.1)
 
 pub returns-clause-quiet : goal.returns-clause-quiet
-returns-clause-quiet c = subst Quiet (sym (ap (λ m. m.0) c.join_seat.ensures.2)) (quiet_append c.args.self.now.seat.me.0 c.args.other.seat.me.0 c.requires.quiet.0 c.requires.quiet.1)
+returns-clause-quiet c = subst IsQuiet (sym (ap (λ m. m.0) c.join_seat.ensures.2)) (quiet_append c.args.self.now.seat.me.0 c.args.other.seat.me.0 c.requires.quiet.0 c.requires.quiet.1)

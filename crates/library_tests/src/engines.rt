@@ -1,0 +1,346 @@
+//! Engines over boxed callbacks, whole runs of calls, and keys and numbers that no command can name.
+use crate::callbacks::{boxed_adds, boxed_drops, boxed_hides, boxed_multiplies};
+use sentry_core::engine::{Answer, Call, Engine, Out, Reply};
+use sentry_core::protocol::{
+    ClientKey, Draw, EnvelopeItem, Event, Fresh, HubKey, Label, Refusal, SampleRate, SpanId,
+    TraceId, Uuid,
+};
+use sentry_core::types::Dsn;
+use sentry_core::{BoxedEventCallback, ClientOptions, Level, Scope, ScopeEdit};
+use sentry_plain::{Items, Text};
+use std::alloc::{AllocError, Global};
+use std::test::Fail;
+
+/// Where the clients of the tests send to.
+pub const DSN: &str = "https://public@sentry.invalid/1";
+
+const LABEL: Label = Label { tag: 0, number: 0 };
+
+/// A scope that sets nothing.
+pub fn scope(alloc: Global) -> Scope {
+    Scope::new(alloc, TraceId([7; 16]), SpanId([8; 8]))
+}
+
+/// The id of which every byte is this one.
+pub fn id(byte: u8) -> Uuid {
+    Uuid::from_bytes([byte; 16])
+}
+
+/// What a call is handed at a moment: ids of that number.
+pub fn fresh(number: u8) -> Fresh {
+    Fresh {
+        now: number as u64,
+        uuid: id(number),
+        trace_id: TraceId([number; 16]),
+        span_id: SpanId([number; 8]),
+        draw: Draw::new(0).unwrap(),
+    }
+}
+
+fn options(alloc: Global) -> Result<ClientOptions, Refusal> {
+    ClientOptions::from_dsn(alloc, DSN)
+}
+
+/// The edits that add these processors.
+fn processors(
+    alloc: Global,
+    first: BoxedEventCallback,
+    second: BoxedEventCallback,
+) -> Result<Vec<ScopeEdit>, AllocError> {
+    let first = ScopeEdit::AddEventProcessor(first);
+    let second = ScopeEdit::AddEventProcessor(second);
+    Ok(vec![in alloc; first, second]?)
+}
+
+fn only(alloc: Global, edit: ScopeEdit) -> Result<Vec<ScopeEdit>, AllocError> {
+    Ok(vec![in alloc; edit]?)
+}
+
+/// The moment of the only event of the only envelope, if that is all.
+fn moment(out: &Out<Uuid>) -> Option<u64> {
+    match out.sent.as_slice() {
+        [(_, envelope)] => match envelope.items.as_slice() {
+            [EnvelopeItem::Event(event)] => Some(event.timestamp),
+            _ => None,
+        },
+        _ => None,
+    }
+}
+
+/// What an event at moment 1 comes to: the id answered, its moment if it goes out, and the hub's last event id.
+type Captured = (Uuid, Option<u64>, Option<Uuid>);
+
+fn dropped() -> Captured {
+    (Uuid::nil(), None, Some(Uuid::nil()))
+}
+
+/// The same, on a hub of a client with these options, after these edits.
+fn captured(
+    alloc: Global,
+    options: ClientOptions,
+    transport: bool,
+    edits: Vec<ScopeEdit>,
+) -> Result<Captured, Refusal> {
+    let mut engine = Engine::new(alloc, 0);
+    let client = engine.add_client(options, transport, LABEL, 0)?.reply;
+    let hub = engine.new_hub(Some(client), scope(alloc))?.reply;
+    engine.configure(hub, edits, 0)?;
+    let event = Event::new(alloc, id(9), 1)?;
+    let out = engine.capture_event(hub, event, fresh(1))?;
+    Ok((out.reply, moment(&out), engine.last_event_id(hub)?.reply))
+}
+
+#[test]
+fn callbacks_run_in_order(rt: HostRuntime) -> Result<(), Fail> {
+    let alloc = rt.alloc();
+    let options = options(alloc)?
+        .before_send(boxed_adds(alloc, 100)?)?
+        .add_integration(boxed_multiplies(alloc, 3, None)?)?
+        .add_integration(boxed_multiplies(alloc, 5, Some(Dsn::parse(alloc, DSN)?))?)?;
+    let edits = processors(alloc, boxed_adds(alloc, 3)?, boxed_adds(alloc, 4)?)?;
+    // the processors, the integrations, the callback: (1 + 3 + 4) * 3 * 5 + 100
+    assert_eq!(rt;
+        captured(alloc, options, true, edits)?,
+        (id(9), Some(220), Some(id(9)))
+    );
+    Ok(())
+}
+
+#[test]
+fn what_drops_an_event_stops_what_follows(rt: HostRuntime) -> Result<(), Fail> {
+    let alloc = rt.alloc();
+    // What may not run is refused its memory, so that the capture would be.
+    let starves = options(alloc)?.before_send(boxed_adds(alloc, 0)?)?;
+    let options = starves
+        .clone()?
+        .add_integration(boxed_hides(alloc)?)?
+        .add_integration(boxed_multiplies(alloc, 0, None)?)?;
+    let edits = processors(alloc, boxed_drops(alloc)?, boxed_adds(alloc, 0)?)?;
+    assert_eq!(rt; captured(alloc, options.clone()?, true, edits)?, dropped());
+    assert_eq!(rt; captured(alloc, options, true, Vec::new(alloc))?, dropped());
+    // Without a transport nothing runs.
+    assert_eq!(rt;
+        captured(alloc, starves, false, Vec::new(alloc))?,
+        dropped()
+    );
+    Ok(())
+}
+
+#[test]
+fn want_of_memory_changes_nothing(rt: HostRuntime) -> Result<(), Fail> {
+    let alloc = rt.alloc();
+    let mut engine = Engine::new(alloc, 0);
+    let options = options(alloc)?.before_send(boxed_adds(alloc, 0)?)?;
+    let client = engine.add_client(options, true, LABEL, 0)?.reply;
+    let hub = engine.new_hub(Some(client), scope(alloc))?.reply;
+    let refusal = engine
+        .capture_message(hub, "m", Level::Error, fresh(1))
+        .err();
+    assert_eq!(rt; refusal, Some(Refusal::OutOfMemory));
+    assert_eq!(rt; engine.last_event_id(hub)?.reply, None);
+    Ok(())
+}
+
+/// Of a client with these options and a transport: whether it is enabled, has a DSN, and has the release that its
+/// options were given, and how many integrations it has.
+fn held(alloc: Global, options: ClientOptions) -> Result<(bool, bool, bool, usize), Refusal> {
+    let mut engine = Engine::new(alloc, 0);
+    let client = engine.add_client(options, true, LABEL, 0)?.reply;
+    let options = engine.options(client)?.reply;
+    Ok((
+        engine.is_enabled(client)?.reply,
+        engine.dsn(client)?.reply.is_some(),
+        options.release.is_some(),
+        options.callbacks.integrations.len(),
+    ))
+}
+
+#[test]
+fn set_up_changes_the_options(rt: HostRuntime) -> Result<(), Fail> {
+    let alloc = rt.alloc();
+    let plain = options(alloc)?.release("app@1")?;
+    assert_eq!(rt; held(alloc, plain.clone()?)?, (true, true, true, 0));
+    let hiding = plain.clone()?.add_integration(boxed_hides(alloc)?)?;
+    assert_eq!(rt; held(alloc, hiding)?, (true, true, false, 1));
+    // A DSN that is taken disables the client, but leaves its slot occupied.
+    let silenced = plain.add_integration(boxed_multiplies(alloc, 2, None)?)?;
+    assert_eq!(rt; held(alloc, silenced.clone()?)?, (false, false, true, 1));
+    let sent = captured(alloc, silenced, true, Vec::new(alloc))?;
+    assert_eq!(rt; sent, (id(9), Some(2), Some(id(9))));
+    // One that is given opens no slot.
+    let dsn = Dsn::parse(alloc, DSN)?;
+    let directed = ClientOptions::new(alloc).add_integration(boxed_multiplies(
+        alloc,
+        2,
+        Some(dsn),
+    )?)?;
+    assert_eq!(rt; held(alloc, directed.clone()?)?, (false, true, false, 1));
+    assert_eq!(rt;
+        captured(alloc, directed, true, Vec::new(alloc))?,
+        dropped()
+    );
+    Ok(())
+}
+
+/// How each call on a client or a hub is refused at these keys.
+fn refusals(
+    engine: &mut Engine,
+    client: ClientKey,
+    hub: HubKey,
+    alloc: Global,
+) -> Result<[Option<Refusal>; 8], Refusal> {
+    let edits = only(alloc, ScopeEdit::SetLevel(None))?;
+    let event = Event::new(alloc, id(1), 1)?;
+    Ok([
+        engine.options(client).err(),
+        engine.dsn(client).err(),
+        engine.is_enabled(client).err(),
+        engine.new_hub(Some(client), scope(alloc)).err(),
+        engine.configure(hub, edits, 0).err(),
+        engine.capture_event(hub, event, fresh(1)).err(),
+        engine
+            .capture_message(hub, "m", Level::Info, fresh(1))
+            .err(),
+        engine.last_event_id(hub).err(),
+    ])
+}
+
+#[test]
+fn keys_of_another_engine_are_stale(rt: HostRuntime) -> Result<(), Fail> {
+    let alloc = rt.alloc();
+    let mut engine = Engine::new(alloc, 3);
+    let foreign = Label { tag: 4, number: 0 };
+    let refusal = engine.add_client(options(alloc)?, true, foreign, 0).err();
+    assert_eq!(rt; refusal, Some(Refusal::ForeignLosses));
+    let label = Label { tag: 3, number: 9 };
+    let client = engine.add_client(options(alloc)?, true, label, 0)?.reply;
+    let hub = engine.new_hub(Some(client), scope(alloc))?.reply;
+    assert_eq!(rt;
+        (client, hub),
+        (
+            ClientKey { tag: 3, number: 0 },
+            HubKey { tag: 3, number: 0 }
+        )
+    );
+    let client = ClientKey { tag: 4, ..client };
+    let hub = HubKey { tag: 4, ..hub };
+    let refused = refusals(&mut engine, client, hub, alloc)?;
+    assert_eq!(rt; refused, [Some(Refusal::Stale); 8]);
+    Ok(())
+}
+
+#[test]
+fn numbers_are_used_up(rt: HostRuntime) -> Result<(), Fail> {
+    let alloc = rt.alloc();
+    let mut engine = Engine::starting_at(alloc, 0, u64::MAX - 1);
+    let client = engine.add_client(options(alloc)?, true, LABEL, 0)?.reply;
+    assert_eq!(rt; client.number, u64::MAX - 1);
+    let refusal = engine.add_client(options(alloc)?, true, LABEL, 0).err();
+    assert_eq!(rt; refusal, Some(Refusal::Full));
+    // the label is asked before the numbers
+    let foreign = Label { tag: 1, number: 0 };
+    let refusal = engine.add_client(options(alloc)?, true, foreign, 0).err();
+    assert_eq!(rt; refusal, Some(Refusal::ForeignLosses));
+    let hub = engine.new_hub(Some(client), scope(alloc))?.reply;
+    assert_eq!(rt; hub.number, u64::MAX - 1);
+    let refusal = engine.new_hub(None, scope(alloc)).err();
+    assert_eq!(rt; refusal, Some(Refusal::Full));
+    Ok(())
+}
+
+const CLIENT: ClientKey = ClientKey { tag: 0, number: 0 };
+
+const HUB: HubKey = HubKey { tag: 0, number: 0 };
+
+const UNKNOWN: HubKey = HubKey { tag: 0, number: 9 };
+
+/// Each call once, and one that is refused.
+fn calls(alloc: Global) -> Result<Vec<Call>, Refusal> {
+    let edit = ScopeEdit::SetTag(Text::new(alloc, "a")?, Text::new(alloc, "1")?);
+    let mut calls = Items::new(alloc);
+    calls.push(Call::AddClient {
+        options: options(alloc)?,
+        transport: true,
+        label: LABEL,
+        now: 0,
+    })?;
+    calls.push(Call::Options(CLIENT))?;
+    calls.push(Call::Dsn(CLIENT))?;
+    calls.push(Call::IsEnabled(CLIENT))?;
+    calls.push(Call::SampleShouldSend {
+        rate: SampleRate::new(300000)?,
+        draw: Draw::new(0).unwrap(),
+    })?;
+    calls.push(Call::NewHub {
+        client: Some(CLIENT),
+        scope: scope(alloc),
+    })?;
+    calls.push(Call::Configure {
+        hub: HUB,
+        edits: Items::from_vec(only(alloc, edit)?),
+        now: 0,
+    })?;
+    calls.push(Call::CaptureEvent {
+        hub: HUB,
+        event: Event::new(alloc, id(9), 1)?,
+        fresh: fresh(1),
+    })?;
+    calls.push(Call::LastEventId(UNKNOWN))?;
+    calls.push(Call::CaptureMessage {
+        hub: HUB,
+        message: Text::new(alloc, "m")?,
+        level: Level::Info,
+        fresh: fresh(3),
+    })?;
+    calls.push(Call::LastEventId(HUB))?;
+    Ok(calls.into_vec())
+}
+
+/// Whether the reply is the one that is expected of the call of this index.
+fn is_expected(reply: &Reply, index: usize) -> bool {
+    match (index, reply) {
+        (0, Reply::Client(key)) => *key == CLIENT,
+        (1, Reply::Options(options)) => options.max_breadcrumbs == 100,
+        (2, Reply::Dsn(Some(dsn))) => dsn.text() == DSN,
+        (3 | 4, Reply::Decision(decision)) => *decision,
+        (5, Reply::Hub(key)) => *key == HUB,
+        (6, Reply::Done) => true,
+        (7, Reply::Event(event)) => *event == id(9),
+        (9, Reply::Event(event)) => *event == id(3),
+        (10, Reply::LastEvent(event)) => *event == Some(id(3)),
+        _ => false,
+    }
+}
+
+/// Whether an event with the tag goes out where one is expected of the call of this index, and nothing else.
+fn sends_the_tag(out: &Out<Reply>, index: usize) -> bool {
+    match out.sent.as_slice() {
+        [] => index != 7 && index != 9,
+        [(CLIENT, envelope)] => match envelope.items.as_slice() {
+            [EnvelopeItem::Event(event)] => {
+                (index == 7 || index == 9) && event.tags.get("a").is_some()
+            }
+            _ => false,
+        },
+        _ => false,
+    }
+}
+
+fn is_expected_answer(answer: &Answer, index: usize) -> bool {
+    match answer {
+        Ok(out) => is_expected(&out.reply, index) && sends_the_tag(out, index),
+        Err(refusal) => index == 8 && *refusal == Refusal::Stale,
+    }
+}
+
+#[test]
+fn a_list_of_calls_answers_one_by_one(rt: HostRuntime) -> Result<(), Fail> {
+    let alloc = rt.alloc();
+    let (engine, answers) = Engine::run(alloc, 0, calls(alloc)?)?;
+    assert_eq!(rt; answers.len(), 11);
+    for (index, answer) in answers.iter().enumerate() {
+        assert!(rt; is_expected_answer(answer, index), "at {index}");
+    }
+    assert_eq!(rt; engine.last_event_id(HUB)?.reply, Some(id(3)));
+    Ok(())
+}

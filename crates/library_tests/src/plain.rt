@@ -1,0 +1,150 @@
+//! The values that records are made of: each call that takes memory, clones, and `==`.
+use sentry_plain::{Items, Shared, Table, Text, TextMap, Value, ValueMap, Values, is_same};
+use std::alloc::{AllocError, Global};
+use std::test::Fail;
+
+fn text(alloc: Global, text: &str) -> Result<Text, AllocError> {
+    Text::new(alloc, text)
+}
+
+#[test]
+fn texts_are_copied_and_compared(rt: HostRuntime) -> Result<(), Fail> {
+    let alloc = rt.alloc();
+    let one = text(alloc, "größe")?;
+    let copy = one.clone()?;
+    assert!(rt; copy == one && copy.as_str() == "größe");
+    assert!(rt; text(alloc, "grösse")? != one);
+    let string = copy.into_string();
+    assert!(rt; is_same(&Text::from_string(string), &one));
+    Ok(())
+}
+
+#[test]
+fn lists_grow_and_shrink(rt: HostRuntime) -> Result<(), Fail> {
+    let alloc = rt.alloc();
+    let mut list: Items<u64> = Items::new(alloc);
+    assert!(rt; list.is_empty());
+    list.push(1)?;
+    list.push(3)?;
+    list.insert(1, 2)?;
+    list.append(Items::from_vec(vec![in alloc; 4]?))?;
+    assert_eq!(rt; list.as_slice(), [1, 2, 3, 4].as_slice());
+    assert_eq!(rt;
+        [list.get(2).copied(), list.get(4).copied()],
+        [Some(3), None]
+    );
+    let copy = list.clone()?;
+    assert!(rt; copy == list && is_same(&copy, &list));
+    assert_eq!(rt; list.remove(0), 1);
+    assert_eq!(rt; list.pop(), Some(4));
+    assert!(rt; copy != list && list.len() == 2);
+    assert_eq!(rt; list.into_vec().as_slice(), [2, 3].as_slice());
+    Ok(())
+}
+
+fn numbers(
+    alloc: Global,
+    one: (&str, u64),
+    other: (&str, u64),
+) -> Result<TextMap<u64>, AllocError> {
+    let mut map = TextMap::new(alloc);
+    map.insert(text(alloc, one.0)?, one.1)?;
+    map.insert(text(alloc, other.0)?, other.1)?;
+    Ok(map)
+}
+
+#[test]
+fn the_winning_map_has_its_way(rt: HostRuntime) -> Result<(), Fail> {
+    let alloc = rt.alloc();
+    let old = numbers(alloc, ("b", 2), ("a", 1))?;
+    let wins = numbers(alloc, ("c", 30), ("b", 20))?;
+    let mut map = old.clone()?.merge(&wins)?;
+    let mut held = Vec::new(alloc);
+    for (key, number) in map.iter() {
+        held.push((key.as_str(), *number))?;
+    }
+    assert_eq!(rt;
+        held.as_slice(),
+        [("a", 1), ("b", 20), ("c", 30)].as_slice()
+    );
+    drop(held);
+    assert_eq!(rt;
+        [map.get("b").copied(), map.get("d").copied()],
+        [Some(20), None]
+    );
+    assert_eq!(rt; [map.remove("c"), map.remove("c")], [Some(30), None]);
+    assert!(rt; map != old && map.len() == 2);
+    map.insert(text(alloc, "b")?, 2)?;
+    assert!(rt; map == old && is_same(&map, &old));
+    Ok(())
+}
+
+#[test]
+fn tables_keep_their_numbers_in_order(rt: HostRuntime) -> Result<(), Fail> {
+    let alloc = rt.alloc();
+    let mut table = Table::new(alloc);
+    table.insert(9, text(alloc, "nine")?)?;
+    table.insert(2, text(alloc, "two")?)?;
+    table.set(9, text(alloc, "neuf")?);
+    let mut held = Vec::new(alloc);
+    for (number, name) in table.iter() {
+        held.push((*number, name.as_str()))?;
+    }
+    assert_eq!(rt; held.as_slice(), [(2, "two"), (9, "neuf")].as_slice());
+    drop(held);
+    let copy = table.clone()?;
+    assert!(rt; copy == table && is_same(&copy, &table));
+    assert!(rt; table.remove(2).is_some() && table.remove(2).is_none());
+    assert!(rt; copy != table && table.len() == 1);
+    Ok(())
+}
+
+#[test]
+fn a_share_is_what_it_shares(rt: HostRuntime) -> Result<(), Fail> {
+    let alloc = rt.alloc();
+    let share = Shared::new(alloc, text(alloc, "shared")?)?;
+    let other = share.clone()?;
+    assert!(rt; other == share && is_same(&other, &share));
+    assert_eq!(rt; other.get().as_str(), "shared");
+    Ok(())
+}
+
+/// `{"list": [1, "one", {}], "truth": true}`
+fn nested(alloc: Global) -> Result<ValueMap, AllocError> {
+    let mut list = Values::new(alloc);
+    list.push(Value::Int(1))?;
+    list.push(Value::Text(text(alloc, "one")?))?;
+    list.push(Value::Map(ValueMap::new(alloc)))?;
+    let mut map = ValueMap::new(alloc);
+    map.insert(text(alloc, "list")?, Value::List(list))?;
+    map.insert(text(alloc, "truth")?, Value::Bool(true))?;
+    Ok(map)
+}
+
+#[test]
+fn nested_values_are_copied_and_compared(rt: HostRuntime) -> Result<(), Fail> {
+    let alloc = rt.alloc();
+    let map = nested(alloc)?;
+    let copy = map.clone()?;
+    assert!(rt; copy == map && is_same(&copy, &map));
+    let mut wins = ValueMap::new(alloc);
+    wins.insert(text(alloc, "truth")?, Value::Null)?;
+    let mut merged = copy.merge(&wins)?;
+    assert!(rt; merged != map && merged.get("truth") == Some(&Value::Null));
+    assert!(rt; merged.remove("list").is_some() && merged == wins);
+    let value = Value::Map(map);
+    assert!(rt; value.clone()? == value && value != Value::Map(merged));
+    Ok(())
+}
+
+#[test]
+fn lists_of_values_are_copied_and_compared(rt: HostRuntime) -> Result<(), Fail> {
+    let alloc = rt.alloc();
+    let mut list = Values::from_vec(vec![in alloc; Value::Int(-1)]?);
+    let short = list.clone()?;
+    assert!(rt; list == short && is_same(&list, &short));
+    list.push(Value::Null)?;
+    assert!(rt; list != short && list.len() == 2);
+    assert_eq!(rt; list.into_vec().len(), 2);
+    Ok(())
+}

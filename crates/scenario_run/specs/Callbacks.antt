@@ -1,0 +1,47 @@
+-- The callbacks of a scenario, as partial functions on events.
+use Rattle.std.specs.Prelude.{Bool, ◌==◌, Some, None, [], if◌then◌else◌, codes, unwrap_or}
+use Rattle.std.specs.List.{starts_with}
+use Rattle.sentry_plain.specs.Texts.{Bytes, put}
+use Rattle.sentry_plain.specs.Defaults.{with_default}
+use Rattle.sentry_base.specs.declared.protocol.event.Event.{Event}
+use Rattle.sentry_base.specs.declared.protocol.context.Context.TheVariants as context
+use Rattle.sentry_state.specs.Callbacks.{Partial, IntegrationMeaning}
+use Rattle.scenario_run.specs.declared.callbacks.Handler.{Handler}
+use Rattle.scenario_run.specs.declared.callbacks.Handler.TheVariants as handler
+use Rattle.scenario_run.specs.declared.callbacks.Extension.{Extension}
+use Rattle.scenario_run.specs.declared.callbacks.Extension.TheVariants as extension
+
+-- no message is the empty text
+abbrev pub message_text : Event → Bytes
+message_text event = unwrap_or event.message []
+
+abbrev pub begins_with : Bytes → Bytes → Bool
+begins_with text prefix = starts_with ◌==◌ text prefix
+
+abbrev pub drop_if_begins : Bytes → Partial
+drop_if_begins prefix event = if begins_with (message_text event) prefix then None else Some event
+
+abbrev pub set_tag : Bytes → Bytes → Event → Event
+set_tag key value event = record event { tags = put event.tags key value }
+
+-- the event with the context `os`, if it has none of that name
+abbrev pub add_os : Event → Event
+add_os event = record event {
+  contexts = with_default (codes "os") (context.Os (Some (codes "plan")) (Some (codes "9"))) event.contexts;
+}
+
+abbrev pub handle : Handler → Partial
+handle (handler.Drop prefix) event = drop_if_begins prefix event
+handle (handler.SetTag key value) event = Some (set_tag key value event)
+
+abbrev pub extend : Extension → IntegrationMeaning
+extend extension.Os = record {
+  name = codes "os";
+  setup = λ options. options;
+  process_event = λ options event. Some (add_os event);
+}
+extend (extension.Drop prefix) = record {
+  name = codes "drop";
+  setup = λ options. options;
+  process_event = λ options. drop_if_begins prefix;
+}

@@ -1,0 +1,54 @@
+//! What commands come to.
+use sentry_base::dsn::{Dsn, ParseDsnError};
+use sentry_base::headers::{HeaderParseError, TracePropagationContext};
+use sentry_base::protocol::{ClientKey, Envelope, Refusal, Uuid};
+use sentry_engine::engine::Out;
+use sentry_plain::Items;
+use std::alloc::Global;
+use url::Url;
+
+/// What is to be printed of a command: the reply, and then a line for each envelope.
+pub struct Answer<'a> {
+    pub reply: Reply<'a>,
+    pub sent: Items<(ClientKey, Envelope)>,
+}
+
+impl Drop for Answer<'_> {
+    fn drop(self) {
+        let Answer { reply: _, sent: _ } = self;
+    }
+}
+
+/// What a command answers by itself.
+#[derive(Drop)]
+pub enum Reply<'a> {
+    /// Nothing is printed.
+    Nothing,
+    Refused(Refusal),
+    Sample(bool),
+    Enabled { client: u64, is_enabled: bool },
+    LastEvent { hub: u64, id: Option<Uuid> },
+    Headers(Result<TracePropagationContext, HeaderParseError>),
+    Dsn(Result<Option<Dsn>, ParseDsnError>),
+    DebugType(&'a str),
+    Sensitive(bool),
+    Scrubbed(Url),
+}
+
+impl<'a> Answer<'a> {
+    /// A reply without envelopes. It takes no memory.
+    pub fn new(alloc: Global, reply: Reply<'a>) -> Answer<'a> {
+        Answer {
+            reply,
+            sent: Items::new(alloc),
+        }
+    }
+
+    /// What a call handed out, whose reply isn't printed.
+    pub fn of_sent<T: Drop>(out: Out<T>) -> Answer<'a> {
+        Answer {
+            reply: Reply::Nothing,
+            sent: out.sent,
+        }
+    }
+}

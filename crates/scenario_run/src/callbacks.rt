@@ -1,0 +1,116 @@
+//! What scopes and clients of a scenario call on events: event processors, `before_send` and integrations.
+ghost use Rattle.std.specs.Prelude.{◌≡◌, IfOk};
+ghost use Rattle.scenario_run.specs.Callbacks.{handle, extend, drop_if_begins, message_text, begins_with, set_tag, add_os};
+
+use sentry_base::protocol::{Context, Event};
+use sentry_plain::Text;
+use sentry_state::callbacks::{EventCallback, Integration};
+use sentry_state::clientoptions::{ClientCallbacks, PlainOptions};
+use std::alloc::{AllocError, Global};
+
+/// The callbacks of a client.
+pub type Callbacks = ClientCallbacks<Handler, Extension>;
+
+/// An event processor or `before_send`.
+#[derive(Drop)]
+pub enum Handler {
+    /// Drops events whose message begins with this.
+    Drop(Text),
+    /// Sets a tag.
+    SetTag { key: Text, value: Text },
+}
+
+impl EventCallback for Handler {
+    ghost gives = { handle };
+
+    fn call(&self, event: Event) -> Result<Option<Event>, AllocError> {
+        match self {
+            Handler::Drop(prefix) => Ok(drop_if_begins(prefix.as_str(), event)),
+            Handler::SetTag { key, value } => Ok(Some(set_tag(key, value, event)?)),
+        }
+    }
+}
+
+/// An integration.
+#[derive(Drop)]
+pub enum Extension {
+    /// Named `os`: adds a context of that name, if there is none.
+    Os,
+    /// Named `drop`: drops events whose message begins with this.
+    Drop(Text),
+}
+
+impl Integration for Extension {
+    ghost meaning = { extend };
+
+    fn name(&self) -> &str {
+        match self {
+            Extension::Os => "os",
+            Extension::Drop(_) => "drop",
+        }
+    }
+
+    fn setup(&self, _options: &mut PlainOptions) -> Result<(), AllocError> {
+        Ok(())
+    }
+
+    fn process_event(
+        &self,
+        event: Event,
+        _options: &PlainOptions,
+    ) -> Result<Option<Event>, AllocError> {
+        match self {
+            Extension::Os => Ok(Some(add_os(event)?)),
+            Extension::Drop(prefix) => Ok(drop_if_begins(prefix.as_str(), event)),
+        }
+    }
+}
+
+/// The message of an event, or the empty text.
+fn message_text(event: &Event) -> &str
+    ensures { result.now ≡ message_text event.now }
+{
+    match &event.message {
+        Some(message) => message.as_str(),
+        None => "",
+    }
+}
+
+fn begins_with(text: &str, prefix: &str) -> bool
+    ensures { result ≡ begins_with text.now prefix.now }
+{
+    text.as_bytes().starts_with(prefix.as_bytes())
+}
+
+fn drop_if_begins(prefix: &str, event: Event) -> Option<Event>
+    ensures { result ≡ drop_if_begins prefix.now event }
+{
+    if begins_with(message_text(&event), prefix) {
+        return None;
+    }
+    Some(event)
+}
+
+fn set_tag(key: &Text, value: &Text, event: Event) -> Result<Event, AllocError>
+    ensures { IfOk result (λ made. made ≡ set_tag key.now value.now event) }
+{
+    let mut event = event;
+    event.tags.insert(key.clone()?, value.clone()?)?;
+    Ok(event)
+}
+
+fn add_os(event: Event) -> Result<Event, AllocError>
+    ensures { IfOk result (λ made. made ≡ add_os event) }
+{
+    let mut event = event;
+    if event.contexts.get("os").is_some() {
+        return Ok(event);
+    }
+    let alloc = event.breadcrumbs.allocator();
+    let context = Context::Os {
+        name: Some(Text::new(alloc, "plan")?),
+        version: Some(Text::new(alloc, "9")?),
+    };
+    event.contexts.insert(Text::new(alloc, "os")?, context)?;
+    Ok(event)
+}

@@ -1,0 +1,117 @@
+//! Lines that capture an event on a hub: `message`, `exception` and `rich`.
+use crate::answer::Answer;
+use crate::fault::Failure;
+use crate::rich::rich_event;
+use crate::scenario::{Scenario, hub_key};
+use crate::words::Words;
+use sentry_base::protocol::{Event, Exception, Fresh, Level, Mechanism};
+use sentry_plain::Text;
+use std::alloc::{AllocError, Global};
+
+/// What a line captures on a hub.
+#[derive(Clone, Copy)]
+pub struct CaptureCommand<'a> {
+    hub: u64,
+    capture: Capture<'a>,
+}
+
+#[derive(Clone, Copy)]
+enum Capture<'a> {
+    /// `message H LEVEL REST`
+    Message {
+        level: Level,
+        message: &'a str,
+    },
+    /// `exception H LEVEL HANDLED REST`
+    Exception {
+        level: Level,
+        handled: Option<bool>,
+        value: &'a str,
+    },
+    /// `rich H LEVEL REST`
+    Rich {
+        level: Level,
+        message: &'a str,
+    },
+}
+
+impl<'a> CaptureCommand<'a> {
+    /// The command of this name, read from the words that follow it.
+    pub fn read(name: &str, words: Words<'a>) -> Option<CaptureCommand<'a>> {
+        let mut words = words;
+        let hub = words.number()?;
+        let capture = match name {
+            "message" => Capture::Message {
+                level: words.level()?,
+                message: words.rest()?,
+            },
+            "exception" => Capture::Exception {
+                level: words.level()?,
+                handled: handled(words.word()?)?,
+                value: words.rest()?,
+            },
+            "rich" => Capture::Rich {
+                level: words.level()?,
+                message: words.rest()?,
+            },
+            _ => return None,
+        };
+        Some(CaptureCommand { hub, capture })
+    }
+}
+
+fn handled(word: &str) -> Option<Option<bool>> {
+    match word {
+        "true" => Some(Some(true)),
+        "false" => Some(Some(false)),
+        "-" => Some(None),
+        _ => None,
+    }
+}
+
+/// An event without a message, of one exception. It has a mechanism where it is known whether it was handled.
+fn exception_event(
+    alloc: Global,
+    level: Level,
+    handled: Option<bool>,
+    value: &str,
+    fresh: Fresh,
+) -> Result<Event, AllocError> {
+    let mechanism = match handled {
+        Some(_) => Some(Mechanism {
+            ty: Text::new(alloc, "generic")?,
+            handled,
+        }),
+        None => None,
+    };
+    let exception = Exception {
+        ty: Text::new(alloc, "Type")?,
+        value: Some(Text::new(alloc, value)?),
+        mechanism,
+    };
+    let mut event = Event::new(alloc, fresh.uuid, fresh.now)?;
+    event.level = level;
+    event.exception.push(exception)?;
+    Ok(event)
+}
+
+impl Scenario {
+    /// Captures what a line asks for.
+    pub fn capture<'a>(&mut self, command: &CaptureCommand<'_>) -> Result<Answer<'a>, Failure> {
+        let hub = hub_key(command.hub);
+        let fresh = self.fresh();
+        let event = match command.capture {
+            Capture::Message { level, message } => {
+                let out = self.engine.capture_message(hub, message, level, fresh)?;
+                return Ok(Answer::of_sent(out));
+            }
+            Capture::Exception {
+                level,
+                handled,
+                value,
+            } => exception_event(self.alloc, level, handled, value, fresh)?,
+            Capture::Rich { level, message } => rich_event(self.alloc, level, message, fresh)?,
+        };
+        Ok(Answer::of_sent(self.engine.capture_event(hub, event, fresh)?))
+    }
+}

@@ -1,0 +1,88 @@
+//! Lines on clients and on sampling: `client`, `enabled` and `sample`.
+use crate::answer::{Answer, Reply};
+use crate::fault::Failure;
+use crate::options::{ClientPlan, OptionWords};
+use crate::scenario::{Scenario, TAG, client_key};
+use crate::words::{Words, small};
+use sentry_base::protocol::{Draw, Label, Refusal, SampleRate};
+
+/// What a line asks of a client, or of the engine's sampling.
+#[derive(Clone, Copy)]
+pub enum ClientCommand<'a> {
+    /// `client RELEASE OPTION=VALUE ..`
+    Add {
+        release: Option<&'a str>,
+        options: OptionWords<'a>,
+    },
+    /// `enabled C`
+    IsEnabled(u64),
+    /// `sample MILLIONTHS DRAW`
+    Sample {
+        millionths: u32,
+        draw: Draw,
+    },
+}
+
+impl<'a> ClientCommand<'a> {
+    /// The command of this name, read from the words that follow it.
+    pub fn read(name: &str, words: Words<'a>) -> Option<ClientCommand<'a>> {
+        let mut words = words;
+        let command = match name {
+            "client" => ClientCommand::Add {
+                release: words.word_or_none()?,
+                options: OptionWords::read(words.rest())?,
+            },
+            "enabled" => ClientCommand::IsEnabled(words.number()?),
+            "sample" => ClientCommand::Sample {
+                millionths: small(words.number()?),
+                draw: words.draw()?,
+            },
+            _ => return None,
+        };
+        words.end()?;
+        Some(command)
+    }
+}
+
+impl Scenario {
+    /// Does a command on clients or sampling.
+    pub fn perform_on_client<'a>(
+        &mut self,
+        command: &ClientCommand<'_>,
+    ) -> Result<Answer<'a>, Failure> {
+        match command {
+            ClientCommand::Add { release, options } => Ok(self.add_client(*release, *options)?),
+            ClientCommand::IsEnabled(client) => Ok(self.is_enabled(*client)?),
+            ClientCommand::Sample { millionths, draw } => Ok(self.sample(*millionths, *draw)?),
+        }
+    }
+
+    // A client's losses go to a table of its own, which the number of its line names.
+    fn add_client<'a>(
+        &mut self,
+        release: Option<&str>,
+        options: OptionWords<'_>,
+    ) -> Result<Answer<'a>, Refusal> {
+        let plan = ClientPlan::new(self.alloc, release)?;
+        let ClientPlan { options, transport } = plan.set_all(self.alloc, options)?;
+        let label = Label {
+            tag: TAG,
+            number: self.line,
+        };
+        let now = self.moment();
+        let out = self.engine.add_client(options, transport, label, now)?;
+        Ok(Answer::of_sent(out))
+    }
+
+    fn is_enabled<'a>(&self, client: u64) -> Result<Answer<'a>, Refusal> {
+        let is_enabled = self.engine.is_enabled(client_key(client))?.reply;
+        let reply = Reply::Enabled { client, is_enabled };
+        Ok(Answer::new(self.alloc, reply))
+    }
+
+    fn sample<'a>(&self, millionths: u32, draw: Draw) -> Result<Answer<'a>, Refusal> {
+        let rate = SampleRate::new(millionths)?;
+        let decision = self.engine.sample_should_send(rate, draw)?.reply;
+        Ok(Answer::new(self.alloc, Reply::Sample(decision)))
+    }
+}

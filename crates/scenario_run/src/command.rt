@@ -1,0 +1,49 @@
+//! Commands, and the lines that spell them.
+use crate::captures::CaptureCommand;
+use crate::clients::ClientCommand;
+use crate::headers::HeaderCommand;
+use crate::hubs::HubCommand;
+use crate::scopes::ScopeCommand;
+use crate::settings::Setting;
+use crate::texts::TextCommand;
+use crate::words::Words;
+
+/// What a line asks for, by the group of its form. Each group has a file of its own.
+#[derive(Clone, Copy)]
+pub enum Command<'a> {
+    Setting(Setting),
+    Client(ClientCommand<'a>),
+    Hub(HubCommand),
+    Scope(ScopeCommand<'a>),
+    Capture(CaptureCommand<'a>),
+    Header(HeaderCommand<'a>),
+    Text(TextCommand<'a>),
+}
+
+impl<'a> Command<'a> {
+    /// The command that a line spells, or none where it fits no form. A form's first word is its name, and each group
+    /// reads the forms whose names it knows.
+    pub fn read(line: &'a str) -> Option<Command<'a>> {
+        let mut words = Words::new(line);
+        let name = words.word()?;
+        if let Some(setting) = Setting::read(name, words) {
+            return Some(Command::Setting(setting));
+        }
+        if let Some(command) = ClientCommand::read(name, words) {
+            return Some(Command::Client(command));
+        }
+        if let Some(command) = HubCommand::read(name, words) {
+            return Some(Command::Hub(command));
+        }
+        if let Some(command) = ScopeCommand::read(name, words) {
+            return Some(Command::Scope(command));
+        }
+        if let Some(command) = CaptureCommand::read(name, words) {
+            return Some(Command::Capture(command));
+        }
+        if let Some(command) = HeaderCommand::read(name, words) {
+            return Some(Command::Header(command));
+        }
+        TextCommand::read(name, words).map(Command::Text)
+    }
+}

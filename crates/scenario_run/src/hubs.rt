@@ -1,0 +1,55 @@
+//! Lines on hubs: `hub` and `last`.
+use crate::answer::{Answer, Reply};
+use crate::fault::Failure;
+use crate::scenario::{Scenario, client_key, hub_key};
+use crate::words::Words;
+use sentry_base::protocol::Refusal;
+use sentry_state::scope::Scope;
+
+/// What a line asks of a hub.
+#[derive(Clone, Copy)]
+pub enum HubCommand {
+    /// `hub C` or `hub -`
+    Add(Option<u64>),
+    /// `last H`
+    LastEvent(u64),
+}
+
+impl HubCommand {
+    /// The command of this name, read from the words that follow it.
+    pub fn read(name: &str, words: Words<'_>) -> Option<HubCommand> {
+        let mut words = words;
+        let command = match name {
+            "hub" => HubCommand::Add(words.number_or_none()?),
+            "last" => HubCommand::LastEvent(words.number()?),
+            _ => return None,
+        };
+        words.end()?;
+        Some(command)
+    }
+}
+
+impl Scenario {
+    /// Does a command on hubs.
+    pub fn perform_on_hub<'a>(&mut self, command: HubCommand) -> Result<Answer<'a>, Failure> {
+        match command {
+            HubCommand::Add(client) => Ok(self.add_hub(client)?),
+            HubCommand::LastEvent(hub) => Ok(self.last_event(hub)?),
+        }
+    }
+
+    fn add_hub<'a>(&mut self, client: Option<u64>) -> Result<Answer<'a>, Refusal> {
+        let client = match client {
+            Some(number) => Some(client_key(number)),
+            None => None,
+        };
+        let fresh = self.fresh();
+        let scope = Scope::new(self.alloc, fresh.trace_id, fresh.span_id);
+        Ok(Answer::of_sent(self.engine.new_hub(client, scope)?))
+    }
+
+    fn last_event<'a>(&self, hub: u64) -> Result<Answer<'a>, Refusal> {
+        let id = self.engine.last_event_id(hub_key(hub))?.reply;
+        Ok(Answer::new(self.alloc, Reply::LastEvent { hub, id }))
+    }
+}

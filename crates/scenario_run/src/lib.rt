@@ -1,0 +1,25 @@
+//! What the program `scenario` does with its input: commands, a line each, are done on an engine, and what each call
+//! answers is printed, with every envelope in full.
+#![tactic(auto)]
+
+mod answer;
+mod callbacks;
+mod captures;
+mod clients;
+mod command;
+mod fault;
+mod headers;
+mod hubs;
+mod lines;
+mod options;
+mod print;
+mod rich;
+mod run;
+mod scenario;
+mod scopes;
+mod settings;
+mod texts;
+mod words;
+
+pub use fault::ScenarioFault;
+pub use run::run_scenario;

@@ -1,0 +1,23 @@
+//! What is printed of answers and of records. A record's text is its impl of `Shown`.
+mod contexts;
+mod envelopes;
+mod events;
+mod lists;
+mod replies;
+mod values;
+
+use crate::answer::Answer;
+use crate::print::lists::push_joined;
+use std::alloc::AllocError;
+
+/// What is printed of a value. Where memory is refused, a part of it may stand in the text.
+pub trait Shown {
+    /// Puts it at the end of the text.
+    fn push_to(&self, text: &mut String) -> Result<(), AllocError>;
+}
+
+/// Puts the lines of an answer at the end of the text: the reply, and each envelope.
+pub fn push_answer(text: &mut String, answer: &Answer<'_>) -> Result<(), AllocError> {
+    answer.reply.push_to(text)?;
+    push_joined(text, answer.sent.as_slice(), "")
+}

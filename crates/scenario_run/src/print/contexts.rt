@@ -1,0 +1,63 @@
+//! Contexts.
+use crate::print::Shown;
+use crate::print::lists::push_labeled;
+use sentry_base::protocol::{Context, SpanId, SpanStatus, TraceContext};
+use std::alloc::AllocError;
+
+impl Shown for Context {
+    fn push_to(&self, text: &mut String) -> Result<(), AllocError> {
+        match self {
+            Context::Trace(trace) => trace.push_to(text),
+            Context::Os { name, version } => {
+                push_labeled(text, "os/", name)?;
+                push_labeled(text, "/", version)
+            }
+            Context::Other(values) => values.push_to(text),
+        }
+    }
+}
+
+impl Shown for TraceContext {
+    fn push_to(&self, text: &mut String) -> Result<(), AllocError> {
+        let trace = self.trace_id;
+        write!(text, "T{trace}/")?;
+        self.span_id.push_to(text)?;
+        push_labeled(text, "/", &self.parent_span_id)?;
+        push_labeled(text, "/op=", &self.op)?;
+        push_labeled(text, "/description=", &self.description)?;
+        push_labeled(text, "/status=", &self.status)?;
+        push_labeled(text, "/origin=", &self.origin)?;
+        push_labeled(text, "/data=", &self.data_)
+    }
+}
+
+impl Shown for SpanId {
+    fn push_to(&self, text: &mut String) -> Result<(), AllocError> {
+        let id = *self;
+        write!(text, "S{id}")
+    }
+}
+
+impl Shown for SpanStatus {
+    fn push_to(&self, text: &mut String) -> Result<(), AllocError> {
+        text.push_str(match self {
+            SpanStatus::Ok => "ok",
+            SpanStatus::DeadlineExceeded => "deadline_exceeded",
+            SpanStatus::Unauthenticated => "unauthenticated",
+            SpanStatus::PermissionDenied => "permission_denied",
+            SpanStatus::NotFound => "not_found",
+            SpanStatus::ResourceExhausted => "resource_exhausted",
+            SpanStatus::InvalidArgument => "invalid_argument",
+            SpanStatus::Unimplemented => "unimplemented",
+            SpanStatus::Unavailable => "unavailable",
+            SpanStatus::InternalError => "internal_error",
+            SpanStatus::UnknownError => "unknown_error",
+            SpanStatus::Cancelled => "cancelled",
+            SpanStatus::AlreadyExists => "already_exists",
+            SpanStatus::FailedPrecondition => "failed_precondition",
+            SpanStatus::Aborted => "aborted",
+            SpanStatus::OutOfRange => "out_of_range",
+            SpanStatus::DataLoss => "data_loss",
+        })
+    }
+}

@@ -1,0 +1,102 @@
+//! What commands answer by themselves.
+use crate::answer::Reply;
+use crate::print::Shown;
+use crate::print::lists::push_labeled;
+use sentry_base::dsn::{Dsn, ParseDsnError};
+use sentry_base::headers::{HeaderParseError, TracePropagationContext};
+use sentry_base::protocol::{OrganizationId, Uuid};
+use std::alloc::AllocError;
+
+impl Shown for Reply<'_> {
+    fn push_to(&self, text: &mut String) -> Result<(), AllocError> {
+        match self {
+            Reply::Nothing => Ok(()),
+            Reply::Refused(refusal) => {
+                let number = refusal.number();
+                writeln!(text, "refused E{number}")
+            }
+            Reply::Sample(decision) => writeln!(text, "sample {decision}"),
+            Reply::Enabled { client, is_enabled } => {
+                writeln!(text, "enabled {client} {is_enabled}")
+            }
+            Reply::LastEvent { hub, id } => push_last_event(text, *hub, *id),
+            Reply::Headers(parsed) => push_headers(text, parsed),
+            Reply::Dsn(read) => push_dsn_answer(text, read),
+            Reply::DebugType(name) => writeln!(text, "debugtype {name}"),
+            Reply::Sensitive(is_sensitive) => writeln!(text, "sensitive {is_sensitive}"),
+            Reply::Scrubbed(url) => {
+                let url = url.as_str();
+                writeln!(text, "scrub {url}")
+            }
+        }
+    }
+}
+
+fn push_last_event(text: &mut String, hub: u64, id: Option<Uuid>) -> Result<(), AllocError> {
+    match id {
+        None => writeln!(text, "last {hub} none"),
+        Some(id) if id.is_nil() => writeln!(text, "last {hub} nil"),
+        Some(id) => {
+            let id = id.simple();
+            writeln!(text, "last {hub} {id}")
+        }
+    }
+}
+
+impl Shown for OrganizationId {
+    fn push_to(&self, text: &mut String) -> Result<(), AllocError> {
+        let number = self.0;
+        write!(text, "{number}")
+    }
+}
+
+impl Shown for TracePropagationContext {
+    fn push_to(&self, text: &mut String) -> Result<(), AllocError> {
+        let trace = self.trace_id;
+        let span = self.span_id;
+        push_labeled(text, "org=", &self.org_id)?;
+        write!(text, " sentry-trace T{trace}-S{span}")?;
+        text.push_str(match self.sampled {
+            Some(true) => "-1",
+            Some(false) => "-0",
+            None => "",
+        })
+    }
+}
+
+fn push_headers(
+    text: &mut String,
+    parsed: &Result<TracePropagationContext, HeaderParseError>,
+) -> Result<(), AllocError> {
+    text.push_str("headers parsed ")?;
+    match parsed {
+        Ok(context) => context.push_to(text)?,
+        Err(cause) => write!(text, "{cause}")?,
+    }
+    text.push_str("\n")
+}
+
+impl Shown for Dsn {
+    fn push_to(&self, text: &mut String) -> Result<(), AllocError> {
+        let scheme = self.scheme();
+        let key = self.public_key();
+        let host = self.host();
+        let port = self.port();
+        let project = self.project_id().value();
+        write!(text, "{scheme} {key} {host} {port} {project} org=")?;
+        self.org_id().push_to(text)
+    }
+}
+
+fn push_dsn_answer(
+    text: &mut String,
+    read: &Result<Option<Dsn>, ParseDsnError>,
+) -> Result<(), AllocError> {
+    text.push_str("dsn ")?;
+    match read {
+        Ok(Some(dsn)) => dsn.push_to(text)?,
+        Ok(None) => text.push_str("none")?,
+        Err(cause) => write!(text, "{cause:?}")?,
+    }
+    text.push_str("\n")
+}

@@ -1,0 +1,99 @@
+//! A run over a whole input.
+use crate::answer::{Answer, Reply};
+use crate::command::Command;
+use crate::fault::{Failure, ScenarioFault};
+use crate::lines::next_line;
+use crate::print::push_answer;
+use crate::scenario::Scenario;
+use sentry_base::protocol::Refusal;
+use std::alloc::{AllocError, Global};
+use std::io::{BufRead, Write};
+
+/// What a line that begins with this says is skipped.
+const COMMENT: u8 = b'#';
+
+/// The command that a line spells, or none where it fits no form.
+fn read(line: &[u8]) -> Option<Command<'_>> {
+    match str::from_utf8(line) {
+        Ok(line) => Command::read(line),
+        Err(_) => None,
+    }
+}
+
+/// Does a command, and does it once more where memory is refused, since nothing has changed then. A refusal for another
+/// cause is an answer.
+fn answer<'a>(
+    scenario: &mut Scenario,
+    number: u64,
+    command: &Command<'a>,
+) -> Result<Answer<'a>, ScenarioFault> {
+    let performed = match scenario.perform(number, command) {
+        Err(Failure::Refused(Refusal::OutOfMemory)) => scenario.perform(number, command),
+        performed => performed,
+    };
+    match performed {
+        Ok(answer) => Ok(answer),
+        Err(Failure::BadCommand) => Err(ScenarioFault::BadCommand(number)),
+        Err(Failure::Refused(Refusal::OutOfMemory)) => Err(ScenarioFault::OutOfMemory),
+        Err(Failure::Refused(refusal)) => {
+            Ok(Answer::new(scenario.alloc, Reply::Refused(refusal)))
+        }
+    }
+}
+
+fn print(text: &mut String, answer: &Answer<'_>) -> Result<(), AllocError> {
+    text.clear();
+    push_answer(text, answer)
+}
+
+/// Does one line, and makes its text in `text`. Where memory is refused for that, the text is made once more, and the
+/// line isn't done again.
+fn play(
+    scenario: &mut Scenario,
+    number: u64,
+    line: &[u8],
+    text: &mut String,
+) -> Result<(), ScenarioFault> {
+    let Some(command) = read(line) else {
+        return Err(ScenarioFault::BadCommand(number));
+    };
+    let answer = answer(scenario, number, &command)?;
+    match print(text, &answer) {
+        Ok(()) => Ok(()),
+        Err(_) => Ok(print(text, &answer)?),
+    }
+}
+
+fn is_skipped(line: &[u8]) -> bool {
+    match line.first() {
+        Some(first) => *first == COMMENT,
+        None => true,
+    }
+}
+
+/// Reads commands, a line each, does each on a new engine, and writes what it answers and a line for each envelope.
+/// Each line is read, done and printed before the next one is read; the room taken is that of the engine and of the
+/// longest line. Where memory is refused, the same step is done once more: reading on, doing the command, or making its
+/// text. Past 2^64-1 lines the run ends as where the input fails.
+pub fn run_scenario<R: BufRead, W: Write>(
+    alloc: Global,
+    reader: &mut R,
+    writer: &mut W,
+) -> Result<(), ScenarioFault> {
+    let mut scenario = Scenario::new(alloc);
+    let mut line = Vec::new(alloc);
+    let mut text = String::new(alloc);
+    for index in 0..u64::MAX {
+        if !next_line(reader, &mut line)? {
+            return Ok(());
+        }
+        if is_skipped(line.as_slice()) {
+            continue;
+        }
+        play(&mut scenario, index + 1, line.as_slice(), &mut text)?;
+        if writer.write_all(text.as_bytes()).is_err() {
+            return Err(ScenarioFault::InputOutput);
+        }
+    }
+    Err(ScenarioFault::InputOutput)
+}

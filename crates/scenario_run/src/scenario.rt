@@ -1,0 +1,101 @@
+//! The engine that commands act on, and what lines set for those that follow.
+use crate::answer::Answer;
+use crate::callbacks::{Callbacks, Handler};
+use crate::command::Command;
+use crate::fault::Failure;
+use crate::headers::Header;
+use sentry_base::protocol::{ClientKey, Draw, Fresh, HubKey, SpanId, TraceId, Uuid};
+use sentry_engine::engine::Engine;
+use sentry_plain::Items;
+use std::alloc::Global;
+
+/// The tag of the one engine, by which its keys are told.
+pub const TAG: u64 = 0;
+
+const NANOSECONDS: u64 = 1_000_000_000;
+
+/// An engine, and what lines set for those that follow.
+pub struct Scenario {
+    pub alloc: Global,
+    pub engine: Engine<Handler, Callbacks>,
+    /// The number of the line that is being done.
+    pub line: u64,
+    /// The moment of each line in nanoseconds, or none where each has its own.
+    pub now: Option<u64>,
+    /// The draw of each line.
+    pub draw: Draw,
+    /// The headers that are kept for the next line that reads them.
+    pub headers: Items<Header>,
+}
+
+impl Drop for Scenario {
+    fn drop(self) {
+        let Scenario {
+            alloc: _,
+            engine: _,
+            line: _,
+            now: _,
+            draw: _,
+            headers: _,
+        } = self;
+    }
+}
+
+/// The key of the client of this number.
+pub fn client_key(number: u64) -> ClientKey {
+    ClientKey { tag: TAG, number }
+}
+
+/// The key of the hub of this number.
+pub fn hub_key(number: u64) -> HubKey {
+    HubKey { tag: TAG, number }
+}
+
+impl Scenario {
+    /// An engine that holds nothing, before the first line. It takes no memory.
+    pub fn new(alloc: Global) -> Scenario {
+        Scenario {
+            alloc,
+            engine: Engine::new(alloc, TAG),
+            line: 0,
+            now: None,
+            draw: Draw::new(0).unwrap(),
+            headers: Items::new(alloc),
+        }
+    }
+
+    /// The moment of the line: the one that was set, or a second for each line up to this one.
+    pub fn moment(&self) -> u64 {
+        match self.now {
+            Some(now) => now,
+            None => self.line.saturating_mul(NANOSECONDS),
+        }
+    }
+
+    /// What a call on the line is handed in place of a clock and a generator: ids are the line's number.
+    pub fn fresh(&self) -> Fresh {
+        let id = u128::from(self.line);
+        Fresh {
+            now: self.moment(),
+            uuid: Uuid::from_u128(id),
+            trace_id: TraceId(id.to_be_bytes()),
+            span_id: SpanId(self.line.to_be_bytes()),
+            draw: self.draw,
+        }
+    }
+
+    /// Does a command on the line of this number. Where memory is refused nothing has changed, so that the command may
+    /// be done once more.
+    pub fn perform<'a>(&mut self, line: u64, command: &Command<'a>) -> Result<Answer<'a>, Failure> {
+        self.line = line;
+        match command {
+            Command::Setting(setting) => Ok(self.set(*setting)),
+            Command::Client(command) => self.perform_on_client(command),
+            Command::Hub(command) => self.perform_on_hub(*command),
+            Command::Scope(command) => self.configure(command),
+            Command::Capture(command) => self.capture(command),
+            Command::Header(command) => self.perform_on_headers(command),
+            Command::Text(command) => self.read_text(command),
+        }
+    }
+}

@@ -1,0 +1,39 @@
+//! Lines that set what later lines are handed: `at` and `draw`.
+use crate::answer::{Answer, Reply};
+use crate::scenario::Scenario;
+use crate::words::Words;
+use sentry_base::protocol::Draw;
+
+/// What a line sets for those that follow.
+#[derive(Clone, Copy)]
+pub enum Setting {
+    /// `at NANOSECONDS` is their moment; `at -` gives each its own again.
+    Moment(Option<u64>),
+    /// `draw NUMBER`
+    Draw(Draw),
+}
+
+impl Setting {
+    /// The setting of this name, read from the words that follow it.
+    pub fn read(name: &str, words: Words<'_>) -> Option<Setting> {
+        let mut words = words;
+        let setting = match name {
+            "at" => Setting::Moment(words.number_or_none()?),
+            "draw" => Setting::Draw(words.draw()?),
+            _ => return None,
+        };
+        words.end()?;
+        Some(setting)
+    }
+}
+
+impl Scenario {
+    /// Sets what later lines are handed.
+    pub fn set<'a>(&mut self, setting: Setting) -> Answer<'a> {
+        match setting {
+            Setting::Moment(now) => self.now = now,
+            Setting::Draw(draw) => self.draw = draw,
+        }
+        Answer::new(self.alloc, Reply::Nothing)
+    }
+}

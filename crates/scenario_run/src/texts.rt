@@ -1,0 +1,69 @@
+//! Lines on texts alone: `dsn`, `debugtype`, `sensitive` and `scrub`.
+use crate::answer::{Answer, Reply};
+use crate::fault::Failure;
+use crate::scenario::Scenario;
+use crate::words::Words;
+use sentry_base::dsn::IntoDsn;
+use sentry_base::protocol::Refusal;
+use sentry_base::utils::{is_sensitive_header, parse_type_from_debug, scrub_pii_from_url};
+use std::alloc::Global;
+use url::{ParseError, Url};
+
+/// What a line asks of a text.
+#[derive(Clone, Copy)]
+pub enum TextCommand<'a> {
+    /// `dsn REST`
+    Dsn(&'a str),
+    /// `debugtype REST`
+    DebugType(&'a str),
+    /// `sensitive REST`
+    Sensitive(&'a str),
+    /// `scrub URL`
+    Scrub(&'a str),
+}
+
+impl<'a> TextCommand<'a> {
+    /// The command of this name, read from the words that follow it.
+    pub fn read(name: &str, words: Words<'a>) -> Option<TextCommand<'a>> {
+        let mut words = words;
+        let command = match name {
+            "dsn" => TextCommand::Dsn(words.rest()?),
+            "debugtype" => TextCommand::DebugType(words.rest()?),
+            "sensitive" => TextCommand::Sensitive(words.rest()?),
+            "scrub" => TextCommand::Scrub(words.word()?),
+            _ => return None,
+        };
+        words.end()?;
+        Some(command)
+    }
+}
+
+fn read_dsn<'a>(alloc: Global, text: &str) -> Result<Reply<'a>, Refusal> {
+    match text.into_dsn(alloc) {
+        Ok(dsn) => Ok(Reply::Dsn(Ok(dsn))),
+        Err(Refusal::InvalidDsn(cause)) => Ok(Reply::Dsn(Err(cause))),
+        Err(refusal) => Err(refusal),
+    }
+}
+
+/// A text that is no URL makes the line a bad command.
+fn scrub<'a>(alloc: Global, text: &str) -> Result<Reply<'a>, Failure> {
+    match Url::parse(alloc, text) {
+        Ok(url) => Ok(Reply::Scrubbed(scrub_pii_from_url(url)?)),
+        Err(ParseError::OutOfMemory) => Err(Failure::Refused(Refusal::OutOfMemory)),
+        Err(_) => Err(Failure::BadCommand),
+    }
+}
+
+impl Scenario {
+    /// Answers what a line asks of a text.
+    pub fn read_text<'a>(&self, command: &TextCommand<'a>) -> Result<Answer<'a>, Failure> {
+        let reply = match command {
+            TextCommand::Dsn(text) => read_dsn(self.alloc, text)?,
+            TextCommand::DebugType(text) => Reply::DebugType(parse_type_from_debug(text)),
+            TextCommand::Sensitive(text) => Reply::Sensitive(is_sensitive_header(text)),
+            TextCommand::Scrub(text) => scrub(self.alloc, text)?,
+        };
+        Ok(Answer::new(self.alloc, reply))
+    }
+}

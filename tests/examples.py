@@ -1,0 +1,114 @@
+"""The examples in examples/: what each gives to its program, and what the program must print.
+
+NAME.scenario and NAME.replay are what the program of that name reads. NAME.out is what it must print, NAME.err what it
+must say on standard error, and NAME.status its exit status; a file that lacks stands for nothing, and for status 0.
+NAME.scenario.bad and NAME.replay.bad list lines of which each is, by itself, a bad command of that program.
+"""
+import glob
+import os
+import sys
+from collections import namedtuple
+
+TOP = os.path.dirname(os.path.dirname(os.path.abspath(__file__)))
+FOLDER = os.path.join(TOP, "examples")
+PROGRAMS = ("scenario", "replay")
+
+# What a run of a program gives: its exit status, and what it wrote.
+Run = namedtuple("Run", "status out err")
+# An example: a name, its program, the input, and the run that is wanted.
+Example = namedtuple("Example", "name program input wanted")
+
+
+def program_path(name):
+    """Where the program is: where the environment says (SCENARIO, REPLAY), or where the gate leaves the proved one."""
+    return os.environ.get(name.upper()) or os.path.join(TOP, "crates", name, "out", name)
+
+
+def read(path, otherwise=b""):
+    if not os.path.isfile(path):
+        return otherwise
+    with open(path, "rb") as file:
+        return file.read()
+
+
+def plain_example(name, program, path):
+    beside = os.path.join(FOLDER, name)
+    wanted = Run(int(read(beside + ".status", b"0")), read(beside + ".out"), read(beside + ".err"))
+    return Example(name, program, read(path), wanted)
+
+
+def bad_lines(name, program, path):
+    """One example for each line of the file that is no comment: it stands on line 3, and ends the run."""
+    wanted = Run(2, b"refused E2\n", b"%s: line 3: bad command\n" % program.encode())
+    for number, line in enumerate(read(path).split(b"\n")[:-1], 1):
+        if not line.startswith(b"#"):
+            whole = b"message 0 info x\n\n%s\nmessage 0 info y\n" % line
+            yield Example(f"{name}.bad line {number}", program, whole, wanted)
+
+
+def stop_on_strays(inputs):
+    """Stops where two inputs share a name, and so what they must print, or where a file belongs to no input."""
+    names = [os.path.basename(it).partition(".")[0] for it in inputs]
+    shared = {it for it in names if names.count(it) > 1}
+    others = {it for it in os.listdir(FOLDER)} - {os.path.basename(it) for it in inputs}
+    strays = {it for it in others if it.partition(".")[0] not in names or not it.endswith((".out", ".err", ".status"))}
+    if shared or strays:
+        sys.exit(f"examples/: no input, or more than one, for {', '.join(sorted(shared | strays))}")
+
+
+def stop_without_programs(found):
+    """Stops where a program that the examples are for isn't there."""
+    for program in sorted({it.program for it in found}):
+        path = program_path(program)
+        if not os.access(path, os.X_OK):
+            count = sum(1 for it in found if it.program == program)
+            print(f"{path} is not there: rt ci, or rt run in crates/{program}, makes it")
+            print(f"0 passed, {count} failed")
+            sys.exit(1)
+
+
+def find(names):
+    """The examples, by name; those with these names alone, if there are any."""
+    endings = [f".{program}{kind}" for program in PROGRAMS for kind in ("", ".bad")]
+    inputs = sorted(path for end in endings for path in glob.glob(os.path.join(FOLDER, "*" + end)))
+    stop_on_strays(inputs)
+    found = []
+    for path in inputs:
+        name, program, *bad = os.path.basename(path).split(".")
+        if not names or name in names:
+            found += bad_lines(name, program, path) if bad else [plain_example(name, program, path)]
+    unknown = sorted(set(names) - {it.name.partition(".")[0] for it in found})
+    if unknown:
+        sys.exit(f"examples/: there is no example {', '.join(unknown)}")
+    stop_without_programs(found)
+    return found
+
+
+def around(line, at):
+    """The line near a column, on one line of a terminal."""
+    if line is None:
+        return "no line"
+    start = max(at - 40, 0)
+    return ("'.." if start else "'") + line[start : at + 80] + ("..'" if line[at + 80 :] else "'")
+
+
+def first_difference(what, got, wanted):
+    """Says in which line one text is not the other, and what stands there, if they differ."""
+    if got == wanted:
+        return None
+    lines = [[*text.decode("utf-8", "backslashreplace").split("\n"), None] for text in (got, wanted)]
+    number = next(i for i, (a, b) in enumerate(zip(*lines)) if a != b)
+    one, other = lines[0][number], lines[1][number]
+    at = len(os.path.commonprefix([one or "", other or ""]))
+    return f"line {number + 1} of {what} is {around(one, at)}, and not {around(other, at)}"
+
+
+def fault(got, wanted):
+    """What is wrong with a run, in one line, or none."""
+    if isinstance(got, str):
+        return got
+    return (
+        first_difference("the output", got.out, wanted.out)
+        or first_difference("standard error", got.err, wanted.err)
+        or (None if got.status == wanted.status else f"the status is {got.status}, and not {wanted.status}")
+    )

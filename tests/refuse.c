@@ -1,0 +1,26 @@
+// Preloaded into a program, refuses one of its requests for memory: the REFUSE-th since its start. At that moment it
+// writes a byte to the descriptor TELLS. A program that goes on for longer than SECONDS is stopped.
+#include <stdlib.h>
+#include <unistd.h>
+
+enum { SECONDS = 20 };
+
+extern void *__libc_malloc(size_t), *__libc_calloc(size_t, size_t), *__libc_realloc(void *, size_t);
+
+static long left, tells;
+
+static long number(const char *name) { return getenv(name) ? atol(getenv(name)) : 0; }
+
+__attribute__((constructor)) static void start(void) {
+    alarm(SECONDS);
+    tells = number("TELLS");
+    left = number("REFUSE");
+}
+
+static int is_refused(void) { return left > 0 && --left == 0 && write((int)tells, "!", 1) == 1; }
+
+void *malloc(size_t size) { return is_refused() ? NULL : __libc_malloc(size); }
+
+void *calloc(size_t count, size_t size) { return is_refused() ? NULL : __libc_calloc(count, size); }
+
+void *realloc(void *old, size_t size) { return is_refused() ? NULL : __libc_realloc(old, size); }
