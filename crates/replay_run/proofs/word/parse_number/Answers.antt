@@ -2,7 +2,7 @@ use Rattle.std.proofs.Common.{sym, ◌∙◌, lit<}
 use Rattle.std.proofs.lemmas.Bool.Decides.{not_from_Decides}
 use Rattle.std.proofs.lemmas.Str.Pattern.{starts_char}
 use Rattle.replay_run.proofs.ReadingLemmas.{number_parsed, number-plus}
-use Rattle.replay_run.proofs.word.number.Goals as goal
+use Rattle.replay_run.proofs.word.parse_number.Goals as goal
 
 pub returns-then-starts_with : goal.returns-then-starts_with
 returns-then-starts_with c =

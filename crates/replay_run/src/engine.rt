@@ -1,18 +1,26 @@
-//! The callbacks that this program doesn't have.
-ghost use Rattle.replay_run.specs.Uncalled.{unprocessed, no_callbacks};
+//! The engine of this program: its scopes have no processors, and its clients have no callbacks.
+ghost use Rattle.replay_run.specs.Engines.{same_event, no_callbacks};
 
 use sentry_base::protocol::Event;
+use sentry_engine::call::{Answer, Call};
+use sentry_engine::engine::Engine;
 use sentry_plain::{Items, Text};
 use sentry_state::callbacks::EventCallback;
 use sentry_state::clientoptions::{Callbacks, PlainOptions};
 use std::alloc::{AllocError, Global};
 
-/// An event processor that lets every event pass. No scope of this program gets one.
+pub type ReplayEngine = Engine<NoProcessor, NoCallbacks>;
+
+pub type ReplayCall = Call<NoProcessor, NoCallbacks>;
+
+pub type ReplayAnswer = Answer<NoProcessor, NoCallbacks>;
+
+/// An event processor that gives each event back. No scope of this program gets one.
 #[derive(Drop)]
 pub struct NoProcessor;
 
 impl EventCallback for NoProcessor {
-    ghost gives = { unprocessed };
+    ghost gives = { same_event };
 
     fn call(&self, event: Event) -> Result<Option<Event>, AllocError> {
         Ok(Some(event))

@@ -7,7 +7,7 @@ use Rattle.replay_run.specs.declared.command.Command.{Command}
 use Rattle.replay_run.specs.Reading.{command_of}
 use Rattle.replay_run.specs.Commands.{Spells}
 use Rattle.replay_run.proofs.CommandLemmas.{command-is, command_form}
-use Rattle.replay_run.proofs.command.parse.Goals as goal
+use Rattle.replay_run.proofs.command.parse_command.Goals as goal
 
 found_spelled : {E : Type 0} (r : Result (Option Command) E) (line : Bytes) → IsUtf8 line → IfOk r (λ found. found ≡ command_of line) → IfOk r (λ found. IfSome found (λ command. Spells line command))
 found_spelled (Ok None) line utf8 h = tt
@@ -21,8 +21,8 @@ none_spelled (Err e) line h = tt
 
 pub returns-in-Ok-clause-found : goal.returns-in-Ok-clause-found
 returns-in-Ok-clause-found c =
-    found_spelled c.read.result c.args.line.now c.in-Ok.ensures.cases.1 (subst (λ (t : Bytes). IfOk c.read.result (λ found. found ≡ command_of t)) c.in-Ok.ensures.cases.0 c.read.ensures)
+    found_spelled c.parse_text.result c.args.line.now c.in-Ok.ensures.cases.1 (subst (λ (t : Bytes). IfOk c.parse_text.result (λ found. found ≡ command_of t)) c.in-Ok.ensures.cases.0 c.parse_text.ensures)
 
 pub returns-in-Ok-clause-none : goal.returns-in-Ok-clause-none
 returns-in-Ok-clause-none c =
-    none_spelled c.read.result c.args.line.now (subst (λ (t : Bytes). IfOk c.read.result (λ found. found ≡ command_of t)) c.in-Ok.ensures.cases.0 c.read.ensures)
+    none_spelled c.parse_text.result c.args.line.now (subst (λ (t : Bytes). IfOk c.parse_text.result (λ found. found ≡ command_of t)) c.in-Ok.ensures.cases.0 c.parse_text.ensures)
