@@ -183,8 +183,8 @@ fn envelopes_are_their_clones(rt: HostRuntime) -> Result<(), Fail> {
 #[test]
 fn an_envelope_has_the_id_of_its_first_event(rt: HostRuntime) -> Result<(), Fail> {
     let alloc = rt.alloc();
-    let first = envelope(alloc, "public")?.header.event_id;
-    assert_eq!(rt; first, Some(Uuid::from_bytes([9; 16])));
+    let sent = envelope(alloc, "public")?;
+    assert_eq!(rt; sent.header.event_id, Some(Uuid::from_bytes([9; 16])));
     let mut attached = Envelope::new(alloc);
     attached.add_item(attachment(alloc)?)?;
     assert_eq!(rt; attached.header.event_id, None);
