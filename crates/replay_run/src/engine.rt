@@ -44,13 +44,13 @@ impl Callbacks for NoCallbacks {
 
     fn process_event(
         &self,
-        event: Event,
+        _event: &mut Option<Event>,
         _options: &PlainOptions,
-    ) -> Result<Option<Event>, AllocError> {
-        Ok(Some(event))
+    ) -> Result<(), AllocError> {
+        Ok(())
     }
 
-    fn before_send(&self, event: Event) -> Result<Option<Event>, AllocError> {
-        Ok(Some(event))
+    fn before_send(&self, _event: &mut Option<Event>) -> Result<(), AllocError> {
+        Ok(())
     }
 }
