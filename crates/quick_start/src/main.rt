@@ -1,5 +1,5 @@
-//! A first program: a client with a `before_send` and an integration, a hub with a tag, a message, and the envelope that
-//! comes of it, printed.
+//! A first program: a client with a `before_send` and an integration, a hub with a tag, a message, and the envelope of
+//! that message, printed.
 #![tactic(auto)]
 
 mod callbacks;
@@ -7,9 +7,11 @@ mod callbacks;
 use anyhow::Result;
 use callbacks::{Deployment, HideServer};
 use sentry_core::engine::Engine;
-use sentry_core::protocol::{Draw, EnvelopeItem, Event, Fresh, Label, SpanId, TraceId, Uuid};
+use sentry_core::protocol::{
+    ClientKey, Draw, EnvelopeItem, Event, Fresh, Label, SpanId, TraceId, Uuid,
+};
 use sentry_core::{
-    BoxedEventCallback, BoxedIntegration, ClientOptions, Level, Scope, ScopeEdit, Text,
+    BoxedEventCallback, BoxedIntegration, ClientOptions, Envelope, Level, Scope, ScopeEdit, Text,
 };
 
 /// What an engine is handed in place of a clock and of random numbers. A real program asks for them at each call.
@@ -46,6 +48,19 @@ fn print_event(rt: &impl Print, event: &Event) -> Result<()> {
     Ok(())
 }
 
+fn print_sent(rt: &impl Print, sent: &[(ClientKey, Envelope)]) -> Result<()> {
+    for (client, envelope) in sent {
+        println!(rt; "client {} sends an envelope", client.number)?;
+        for item in envelope.items.as_slice() {
+            match item {
+                EnvelopeItem::Event(event) => print_event(rt, event)?,
+                _ => println!(rt; "another item")?,
+            }
+        }
+    }
+    Ok(())
+}
+
 fn main(rt: HostRuntime) -> Result<()> {
     let alloc = rt.alloc();
     let fresh = fresh();
@@ -69,14 +84,5 @@ fn main(rt: HostRuntime) -> Result<()> {
     engine.configure(hub, vec![in alloc; tag]?, fresh.now)?;
     let out = engine.capture_message(hub, "the till is slow", Level::Warning, fresh)?;
 
-    for (client, envelope) in out.sent.as_slice() {
-        println!(rt; "client {} sends an envelope", client.number)?;
-        for item in envelope.items.as_slice() {
-            match item {
-                EnvelopeItem::Event(event) => print_event(&rt, event)?,
-                _ => println!(rt; "another item")?,
-            }
-        }
-    }
-    Ok(())
+    print_sent(&rt, out.sent.as_slice())
 }

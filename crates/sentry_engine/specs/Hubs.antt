@@ -17,20 +17,19 @@ use Rattle.sentry_state.specs.declared.scope.edit.ScopeEdit.{ScopeEdit}
 use Rattle.sentry_state.specs.Scopes.{edit_all}
 use Rattle.sentry_state.specs.Stacks.{one_layer}
 use Rattle.sentry_state.specs.Callbacks.{Partial, Meanings}
-use Rattle.sentry_parts.specs.Pipeline.{prepare_event}
-use Rattle.sentry_parts.specs.declared.pipeline.Prepared.{Prepared}
-use Rattle.sentry_parts.specs.declared.pipeline.Prepared.TheVariants.{Kept, Dropped}
+use Rattle.sentry_parts.specs.Pipeline.{Prepared, kept, dropped, prepare_event}
 use Rattle.sentry_engine.specs.declared.engine.Client.{Client}
 use Rattle.sentry_engine.specs.Worlds.{World}
 use Rattle.sentry_engine.specs.Outcomes.{Outcome, require_some, let_some, require, reply_with, hub_at, plain_client_at, is_held_or_none, with_hub, with_scope}
 
 -- the event that was kept, if any
 abbrev pub kept_event : Prepared → Option Event
-kept_event (Kept event) = Some event
-kept_event (Dropped place) = None
+kept_event (kept event) = Some event
+kept_event (dropped place) = None
 
 -- the event that a client sends; on an empty slot nothing runs
-unfoldable pub captured_event : {P C : Type 0} → (P → Partial) → (C → Meanings) → Client C → Scope P → List ℕ → Event → Option Event
+unfoldable pub captured_event : {P C : Type 0}
+    → (P → Partial) → (C → Meanings) → Client C → Scope P → List ℕ → Event → Option Event
 captured_event gives meanings client scope fresh event =
     if client.occupied then kept_event (prepare_event gives meanings client.options scope fresh event) else None
 

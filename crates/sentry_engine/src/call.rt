@@ -124,7 +124,7 @@ impl<P: EventCallback + Drop, C: Callbacks> Engine<P, C> {
                 message,
                 level,
                 fresh,
-            } => answer_of(self.capture_message(hub, message.as_str(), level, fresh)),
+            } => answer_of(self.capture_text(hub, message, level, fresh)),
             Call::LastEventId(hub) => answer_of(self.last_event_id(hub)),
         }
     }

@@ -1,5 +1,5 @@
 -- What becomes of an event between its capture and its envelope.
-use Rattle.std.specs.Prelude.{ℕ, Option, Some, None, List, [], ◌∷◌, if◌then◌else◌, codes, map}
+use Rattle.std.specs.Prelude.{◌≡◌, ℕ, Option, Some, None, List, [], ◌∷◌, if◌then◌else◌, codes, map}
 use Rattle.std.specs.Option.{option_or}
 use Rattle.std.specs.Str.{bytes_eq}
 use Rattle.sentry_base.specs.Events.{is_nil}
@@ -13,8 +13,11 @@ use Rattle.sentry_state.specs.Callbacks.{Partial, Meanings, process_by_all, call
 use Rattle.sentry_state.specs.Scopes.{apply_to_event}
 use Rattle.sentry_parts.specs.declared.pipeline.Place.{Place}
 use Rattle.sentry_parts.specs.declared.pipeline.Place.TheVariants.{EventProcessor, Integration, BeforeSend}
-use Rattle.sentry_parts.specs.declared.pipeline.Prepared.{Prepared}
-use Rattle.sentry_parts.specs.declared.pipeline.Prepared.TheVariants.{Kept, Dropped}
+
+-- what becomes of an event: it is kept as it is to be sent, or dropped at a place
+pub data Prepared : Type 0 where
+  kept : Event → Prepared
+  dropped : Place → Prepared
 
 -- a nil id is replaced by the fresh one
 abbrev pub with_id : List ℕ → Event → Event
@@ -44,7 +47,7 @@ with_defaults options event = record event {
 
 -- goes on with the event, or tells the place where it was dropped
 abbrev pub continue_or_drop : Place → Option Event → (Event → Prepared) → Prepared
-continue_or_drop place None go = Dropped place
+continue_or_drop place None go = dropped place
 continue_or_drop place (Some event) go = go event
 
 -- the event as it is to be sent, or the place that dropped it
@@ -56,4 +59,11 @@ prepare_event gives meanings options scope fresh event =
     continue_or_drop EventProcessor (apply_to_event gives scope identified) (λ processed.
     continue_or_drop Integration (process_by_all client.integrations options.plain processed) (λ integrated.
     continue_or_drop BeforeSend (call_if_any client.before_send (with_defaults options.plain integrated)) (λ made.
-    Kept made)))
+    kept made)))
+
+-- the code tells an event that is kept by the event and no place, and one that was dropped by the place and no event
+abbrev pub IsOutcome : Prepared → Option Place → Option Event → Type 0
+IsOutcome (kept event) None slot = slot ≡ Some event
+IsOutcome (dropped place) (Some told) slot = (told ≡ place) × (slot ≡ None)
+IsOutcome (kept event) (Some told) slot = ⊥
+IsOutcome (dropped place) None slot = ⊥

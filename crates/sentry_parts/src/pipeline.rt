@@ -1,7 +1,9 @@
 //! What becomes of an event between its capture and its envelope.
 ghost use Rattle.std.specs.Prelude.{◌≡◌, Some, IfOk, OnOk};
 ghost use Rattle.std.specs.Option.{option_or};
-ghost use Rattle.sentry_parts.specs.Pipeline.{with_id, with_sdk, sdk_info, with_defaults, prepare_event};
+ghost use Rattle.sentry_base.specs.declared.protocol.event.Event.{Event};
+ghost use Rattle.sentry_state.specs.Scopes.{fill};
+ghost use Rattle.sentry_parts.specs.Pipeline.{with_id, with_sdk, sdk_info, with_defaults, prepare_event, IsOutcome};
 
 use sentry_base::protocol::{ClientSdkInfo, ClientSdkPackage, Event, Uuid};
 use sentry_plain::{Items, Text};
@@ -20,13 +22,6 @@ pub enum Place {
     Integration,
     /// The client's `before_send`.
     BeforeSend,
-}
-
-/// An event as it is to be sent, or what dropped it.
-#[derive(Drop)]
-pub enum Prepared {
-    Kept(Event),
-    Dropped(Place),
 }
 
 // Replaces a nil id by the fresh one.
@@ -96,30 +91,54 @@ fn fill_in_defaults(
     Ok(())
 }
 
-/// The event as it is to be sent: with an id and the SDK, under the scope, after its processors and the integrations,
-/// with the options' defaults, after `before_send`. The first callback that returns `None` drops it.
+// Gives an event what it has before any callback: an id, the SDK, and what the scope fills in.
+fn fill_in_before_callbacks<P: Drop, C: Callbacks>(
+    alloc: Global,
+    callbacks: &C,
+    scope: &Scope<P>,
+    fresh: Uuid,
+    event: &mut Event,
+) -> Result<(), AllocError>
+    ensures { OnOk result
+        (event.new ≡ fill scope.now (with_sdk (sdk_info (C.meanings callbacks.now)) (with_id fresh event.old))) }
+{
+    fill_in_id(fresh, event);
+    fill_in_sdk(alloc, callbacks, event)?;
+    scope.fill_event(event)
+}
+
+/// Prepares an event for sending, in place: it gets an id and the SDK, goes under the scope, through its processors and
+/// the integrations, gets the defaults of the options, and goes through `before_send`. The first callback that returns
+/// `None` drops it: then the event becomes `None`, and the place that dropped it is returned. Given `None`, it does
+/// nothing. If memory runs out, some of this was done.
 #[tactic(auto, unfolding(crate::specs::Pipeline::prepare_event))]
 pub fn prepare_event<P: EventCallback + Drop, C: Callbacks>(
     alloc: Global,
     options: &ClientOptions<C>,
     scope: &Scope<P>,
     fresh: Uuid,
-    mut event: Event,
-) -> Result<Prepared, AllocError>
-    ensures { IfOk result (λ made. made ≡ prepare_event P.gives C.meanings options.now scope.now fresh event) }
+    event: &mut Option<Event>,
+) -> Result<Option<Place>, AllocError>
+    ensures { (captured : Event) → event.old ≡ Some captured → IfOk result
+        (λ place. IsOutcome (prepare_event P.gives C.meanings options.now scope.now fresh captured) place event.new) }
 {
     let callbacks = &options.callbacks;
-    fill_in_id(fresh, &mut event);
-    fill_in_sdk(alloc, callbacks, &mut event)?;
-    let Some(event) = scope.apply_to_event(event)? else {
-        return Ok(Prepared::Dropped(Place::EventProcessor));
+    let Some(captured) = event else {
+        return Ok(None);
     };
-    let Some(mut event) = callbacks.process_event(event, &options.plain)? else {
-        return Ok(Prepared::Dropped(Place::Integration));
-    };
-    fill_in_defaults(alloc, &options.plain, &mut event)?;
-    match callbacks.before_send(event)? {
-        None => Ok(Prepared::Dropped(Place::BeforeSend)),
-        Some(event) => Ok(Prepared::Kept(event)),
+    fill_in_before_callbacks(alloc, callbacks, scope, fresh, captured)?;
+    scope.process_event(event)?;
+    if event.is_none() {
+        return Ok(Some(Place::EventProcessor));
     }
+    callbacks.process_event(event, &options.plain)?;
+    let Some(integrated) = event else {
+        return Ok(Some(Place::Integration));
+    };
+    fill_in_defaults(alloc, &options.plain, integrated)?;
+    callbacks.before_send(event)?;
+    if event.is_none() {
+        return Ok(Some(Place::BeforeSend));
+    }
+    Ok(None)
 }

@@ -1,5 +1,5 @@
 //! Envelopes: what a transport sends at once.
-ghost use Rattle.std.specs.Prelude.{◌≡◌, [], None, OnOk, OnErr};
+ghost use Rattle.std.specs.Prelude.{◌≡◌, [], None, IfOk, OnOk, OnErr};
 ghost use Rattle.sentry_base.specs.Envelopes.{item_event_id, with_item, empty_envelope};
 
 use crate::protocol::attachment::Attachment;
@@ -79,6 +79,17 @@ impl Envelope {
             },
             items: Items::new(alloc),
         }
+    }
+
+    /// Makes an empty envelope with room for this many items.
+    pub fn with_capacity(alloc: Global, capacity: usize) -> Result<Envelope, AllocError>
+        ensures { IfOk result (λ envelope. envelope ≡ empty_envelope) }
+    {
+        let items = Items::from_vec(Vec::with_capacity(alloc, capacity)?);
+        Ok(Envelope {
+            items,
+            ..Envelope::new(alloc)
+        })
     }
 
     /// Adds an item at the end. The first event gives the envelope its id.

@@ -1,10 +1,11 @@
 //! The calls on hubs.
-ghost use Rattle.std.specs.Prelude.{◌≡◌, IfOk, IfErr, OnOk, OnErr, Some, [], ◌∷◌};
+ghost use Rattle.std.specs.Prelude.{◌≡◌, IfOk, IfErr, OnOk, OnErr, Some, [], ◌∷◌, is_some, if◌then◌else◌};
 ghost use Rattle.sentry_plain.specs.Tables.{value_at, replace_at};
 ghost use Rattle.sentry_state.specs.Scopes.{edit};
 ghost use Rattle.sentry_engine.specs.declared.engine.Hub.{Hub};
 ghost use Rattle.sentry_engine.specs.Worlds.{World, Stands};
-ghost use Rattle.sentry_engine.specs.Outcomes.{Does, DoesWithoutMemory, with_scope};
+ghost use Rattle.sentry_engine.specs.Outcomes.{Does, DoesWithoutMemory, hub_at, with_scope};
+ghost use Rattle.sentry_base.specs.declared.protocol.event.Event.{Event};
 ghost use Rattle.sentry_engine.specs.Hubs.{captured_event, captured_id, captured_envelopes, message_event};
 ghost use Rattle.sentry_engine.specs.Hubs as call;
 
@@ -12,38 +13,38 @@ use crate::engine::{Client, Engine, Hub, Out};
 use sentry_base::protocol::{
     ClientKey, Envelope, EnvelopeItem, Event, Fresh, HubKey, Level, Refusal, Uuid,
 };
-use sentry_parts::pipeline::{Prepared, prepare_event};
+use sentry_parts::pipeline::prepare_event;
 use sentry_plain::{Items, Text};
 use sentry_state::callbacks::EventCallback;
 use sentry_state::clientoptions::Callbacks;
 use sentry_state::scope::{Scope, ScopeEdit, Stack};
 use std::alloc::{AllocError, Global};
 
-// The event that a client sends, if any.
+// Makes of a captured event the one that the client sends, in place; `None` if it sends none.
 #[tactic(auto, unfolding(crate::specs::Hubs::captured_event))]
-fn captured_event<P: EventCallback + Drop, C: Callbacks>(
+fn prepare_captured<P: EventCallback + Drop, C: Callbacks>(
     alloc: Global,
     client: &Client<C>,
     scope: &Scope<P>,
     fresh: Uuid,
-    event: Event,
-) -> Result<Option<Event>, AllocError>
-    ensures { IfOk result (λ made. made ≡ captured_event P.gives C.meanings client.now scope.now fresh event) }
+    event: &mut Option<Event>,
+) -> Result<(), AllocError>
+    ensures { (given : Event) → event.old ≡ Some given →
+        OnOk result (event.new ≡ captured_event P.gives C.meanings client.now scope.now fresh given) }
 {
     if !client.occupied {
-        return Ok(None);
+        *event = None;
+        return Ok(());
     }
-    match prepare_event(alloc, client.options.get(), scope, fresh, event)? {
-        Prepared::Kept(event) => Ok(Some(event)),
-        Prepared::Dropped(_) => Ok(None),
-    }
+    prepare_event(alloc, client.options.get(), scope, fresh, event)?;
+    Ok(())
 }
 
 // The id that a capture answers.
-fn captured_id(made: &Option<Event>) -> Uuid
-    ensures { result ≡ captured_id made.now }
+fn captured_id(event: &Option<Event>) -> Uuid
+    ensures { result ≡ captured_id event.now }
 {
-    match made {
+    match event {
         None => Uuid::nil(),
         Some(event) => event.event_id,
     }
@@ -53,35 +54,34 @@ fn captured_id(made: &Option<Event>) -> Uuid
 fn captured_envelopes(
     alloc: Global,
     key: ClientKey,
-    made: Option<Event>,
+    event: Option<Event>,
 ) -> Result<Items<(ClientKey, Envelope)>, AllocError>
-    ensures { IfOk result (λ sent. sent ≡ captured_envelopes key made) }
+    ensures { IfOk result (λ sent. sent ≡ captured_envelopes key event) }
 {
-    let mut sent = Items::new(alloc);
-    let Some(event) = made else {
-        return Ok(sent);
+    let Some(event) = event else {
+        return Ok(Items::new(alloc));
     };
-    let mut envelope = Envelope::new(alloc);
+    let mut envelope = Envelope::with_capacity(alloc, 1)?;
     envelope.add_item(EnvelopeItem::Event(event))?;
-    sent.push((key, envelope))?;
-    Ok(sent)
+    let mut sent = Vec::with_capacity(alloc, 1)?;
+    sent.push_reserved((key, envelope));
+    Ok(Items::from_vec(sent))
 }
 
-// The event of a message.
+// The event of a message, as an event that is to be captured.
 fn message_event(
     alloc: Global,
-    message: &str,
+    message: Text,
     level: Level,
     id: Uuid,
     now: u64,
-) -> Result<Event, AllocError>
-    ensures { IfOk result (λ event. event ≡ message_event message.now level id now) }
+) -> Result<Option<Event>, AllocError>
+    ensures { IfOk result (λ event. event ≡ Some (message_event message level id now)) }
 {
-    let message = Text::new(alloc, message)?;
     let mut event = Event::new(alloc, id, now)?;
     event.message = Some(message);
     event.level = level;
-    Ok(event)
+    Ok(Some(event))
 }
 
 // The only item, or all of them back.
@@ -225,19 +225,16 @@ impl<P: EventCallback + Drop, C: Callbacks> Engine<P, C> {
         Ok(self.out(held.last_event_id))
     }
 
-    /// Captures an event on a hub: it goes through the pipeline of the top layer's client, under that layer's scope,
-    /// and out in an envelope. Its id is answered; the nil id where it was dropped, or there is no client, or no
-    /// transport.
-    ///
-    /// `Stale`: the hub isn't held. `OutOfMemory`.
+    // Captures the event that is there; none is left.
     #[tactic(auto, unfolding(crate::specs::Hubs::capture_event))]
-    pub fn capture_event(
+    fn capture(
         &mut self,
         hub: HubKey,
-        event: Event,
+        mut event: Option<Event>,
         fresh: Fresh,
     ) -> Result<Out<Uuid>, Refusal>
-        ensures { Does self.old self.new result (call.capture_event P.gives C.meanings hub event fresh) }
+        ensures { (given : Event) → event ≡ Some given →
+            Does self.old self.new result (call.capture_event P.gives C.meanings hub given fresh) }
     {
         let Some(held) = self.hub_at(hub) else {
             return Err(Refusal::Stale);
@@ -248,11 +245,55 @@ impl<P: EventCallback + Drop, C: Callbacks> Engine<P, C> {
         let Some(client) = self.client_at(key) else {
             return Ok(self.out(Uuid::nil()));
         };
-        let made = captured_event(self.alloc, client, &held.stack.top.scope, fresh.uuid, event)?;
-        let reply = captured_id(&made);
-        let sent = captured_envelopes(self.alloc, key, made)?;
+        prepare_captured(self.alloc, client, &held.stack.top.scope, fresh.uuid, &mut event)?;
+        let reply = captured_id(&event);
+        let sent = captured_envelopes(self.alloc, key, event)?;
         self.set_last_event_id(hub.number, reply);
         Ok(Out { reply, sent })
+    }
+
+    /// Captures an event on a hub: it goes through the pipeline of the top layer's client, under that layer's scope,
+    /// and out in an envelope. Its id is the reply; the nil id if it was dropped, or if the layer has no client, or the
+    /// client no transport.
+    ///
+    /// `Stale`: the hub isn't held. `OutOfMemory`.
+    pub fn capture_event(
+        &mut self,
+        hub: HubKey,
+        event: Event,
+        fresh: Fresh,
+    ) -> Result<Out<Uuid>, Refusal>
+        ensures { Does self.old self.new result (call.capture_event P.gives C.meanings hub event fresh) }
+    {
+        self.capture(hub, Some(event), fresh)
+    }
+
+    // The refusal of a call on a hub for which there is no memory.
+    fn hub_refusal(&self, hub: HubKey) -> Refusal
+        ensures { (world : World P C) → Stands self.now world →
+            result ≡ if is_some (hub_at world hub) then Refusal.OutOfMemory else Refusal.Stale }
+    {
+        if self.hub_at(hub).is_some() {
+            return Refusal::OutOfMemory;
+        }
+        Refusal::Stale
+    }
+
+    // The same as `capture_message`, of a text that needs no copy.
+    #[tactic(auto, unfolding(crate::specs::Hubs::capture_message, crate::specs::Hubs::capture_event))]
+    pub(crate) fn capture_text(
+        &mut self,
+        hub: HubKey,
+        message: Text,
+        level: Level,
+        fresh: Fresh,
+    ) -> Result<Out<Uuid>, Refusal>
+        ensures { Does self.old self.new result (call.capture_message P.gives C.meanings hub message level fresh) }
+    {
+        match message_event(self.alloc, message, level, fresh.uuid, fresh.now) {
+            Ok(event) => self.capture(hub, event, fresh),
+            Err(_) => Err(self.hub_refusal(hub)),
+        }
     }
 
     /// Captures an event of a message and a level on a hub, as `capture_event` does.
@@ -268,10 +309,9 @@ impl<P: EventCallback + Drop, C: Callbacks> Engine<P, C> {
     ) -> Result<Out<Uuid>, Refusal>
         ensures { Does self.old self.new result (call.capture_message P.gives C.meanings hub message.now level fresh) }
     {
-        if self.hub_at(hub).is_none() {
-            return Err(Refusal::Stale);
+        match Text::new(self.alloc, message) {
+            Ok(message) => self.capture_text(hub, message, level, fresh),
+            Err(_) => Err(self.hub_refusal(hub)),
         }
-        let event = message_event(self.alloc, message, level, fresh.uuid, fresh.now)?;
-        self.capture_event(hub, event, fresh)
     }
 }
