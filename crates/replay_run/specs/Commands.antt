@@ -9,12 +9,12 @@ use Rattle.sentry_base.specs.declared.protocol.level.Level.TheVariants.{Debug, I
 use Rattle.replay_run.specs.declared.command.Command.{Command}
 use Rattle.replay_run.specs.declared.command.Command.TheVariants.{Client, Hub, Tag, Message}
 
--- a word: one byte at least, and no space
+-- a word: at least one byte, and no space
 pub record IsWord (text : Bytes) : Type 0 where
   pub some : 0 < length text
   pub solid : AllByRecursion (λ b. b ≢ 32) text
 
--- a number below 2^64 in decimal digits, one at least; leading zeros are digits
+-- a number below 2^64 in decimal digits, of which there is at least one; leading zeros are digits
 pub record IsNumber (text : Bytes) (n : ℕ) : Type 0 where
   pub digits : IsNumeral 10 text
   pub value : digits_value 10 text ≡ n
@@ -28,19 +28,25 @@ level_word Warning = codes "warning"
 level_word Error = codes "error"
 level_word Fatal = codes "fatal"
 
--- a release is a word, and `-` stands for none
+-- a release is a word, and `-` stands for no release
 abbrev pub IsRelease : Bytes → Option Bytes → Type 0
 IsRelease text None = text ≡ codes "-"
 IsRelease text (Some release) = (text ≡ release) × IsWord release × (release ≢ codes "-")
 
--- the forms of a line; the last word of a tag and of a message may be empty or hold spaces
+-- the forms of a line; the last part of a tag and of a message may be empty or hold spaces
 abbrev pub HasForm : Bytes → Command → Type 0
-HasForm line (Client release) = (text : Bytes) × IsRelease text release × (line ≡ codes "client " ++ text)
-HasForm line (Hub client) = (number : Bytes) × IsNumber number client × (line ≡ codes "hub " ++ number)
-HasForm line (Tag hub key value) = (number : Bytes) × IsNumber number hub × IsWord key × (line ≡ codes "tag " ++ number ++ codes " " ++ key ++ codes " " ++ value)
-HasForm line (Message hub level text) = (number : Bytes) × IsNumber number hub × (line ≡ codes "message " ++ number ++ codes " " ++ level_word level ++ codes " " ++ text)
+HasForm line (Client release) =
+    (text : Bytes) × IsRelease text release × (line ≡ codes "client " ++ text)
+HasForm line (Hub client) =
+    (number : Bytes) × IsNumber number client × (line ≡ codes "hub " ++ number)
+HasForm line (Tag hub key value) =
+    (number : Bytes) × IsNumber number hub × IsWord key
+    × (line ≡ codes "tag " ++ number ++ codes " " ++ key ++ codes " " ++ value)
+HasForm line (Message hub level text) =
+    (number : Bytes) × IsNumber number hub
+    × (line ≡ codes "message " ++ number ++ codes " " ++ level_word level ++ codes " " ++ text)
 
--- the line is a text, and of the form of this command
+-- the line is text in UTF-8, and of the form of this command
 pub record Spells (line : Bytes) (command : Command) : Type 0 where
   pub utf8 : IsUtf8 line
   pub form : HasForm line command

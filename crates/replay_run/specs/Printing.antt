@@ -1,5 +1,5 @@
 -- What is printed of envelopes and of answers.
-use Rattle.std.specs.Prelude.{◌++◌, Result, Ok, Err, List, [], ◌∷◌, codes, unwrap_or, flat_map}
+use Rattle.std.specs.Prelude.{◌++◌, Ok, Err, List, [], ◌∷◌, codes, unwrap_or, flat_map}
 use Rattle.std.specs.List.{join_by}
 use Rattle.std.specs.Fmt.{decimal}
 use Rattle.uuid.specs.Text.{simple_text, lower}
@@ -14,12 +14,8 @@ use Rattle.sentry_base.specs.declared.protocol.envelope.Envelope.{Envelope}
 use Rattle.sentry_base.specs.declared.protocol.envelope.EnvelopeItem.{EnvelopeItem}
 use Rattle.sentry_base.specs.declared.protocol.envelope.EnvelopeItem.TheVariants as item
 use Rattle.sentry_base.specs.declared.protocol.keys.ClientKey.{ClientKey}
-use Rattle.sentry_base.specs.declared.protocol.refusal.Refusal.{Refusal}
-use Rattle.sentry_engine.specs.declared.engine.Out.{Out}
-use Rattle.sentry_engine.specs.declared.call.Reply.{Reply}
-use Rattle.replay_run.specs.declared.uncalled.NoProcessor.{NoProcessor}
-use Rattle.replay_run.specs.declared.uncalled.NoCallbacks.{NoCallbacks}
 use Rattle.replay_run.specs.Commands.{level_word}
+use Rattle.replay_run.specs.Engines.{ReplayAnswer}
 
 abbrev pub tag_text : Bytes × Bytes → Bytes
 tag_text tag = tag.0 ++ codes "=" ++ tag.1
@@ -31,15 +27,19 @@ tags_text (tag ∷ tags) = join_by tag_text (codes ",") (tag ∷ tags)
 
 -- the id in hexadecimal digits, the level, the tags and the message
 abbrev pub event_text : Event → Bytes
-event_text event = codes "event " ++ simple_text lower event.event_id ++ codes " " ++ level_word event.level ++ codes " " ++ tags_text event.tags ++ codes " " ++ unwrap_or event.message []
+event_text event =
+    codes "event " ++ simple_text lower event.event_id ++ codes " " ++ level_word event.level
+    ++ codes " " ++ tags_text event.tags ++ codes " " ++ unwrap_or event.message []
 
--- an attachment is told by its name; no command makes one yet
+-- the name of an attachment; no command sends one yet
 abbrev pub attachment_text : Attachment → Bytes
 attachment_text attachment = codes "attachment " ++ attachment.filename
 
--- so much of a category was lost for a reason
+-- how much of a category was lost for a reason
 abbrev pub loss_text : ClientReportItem → Bytes
-loss_text loss = category_name loss.category ++ codes "/" ++ reason_name loss.reason ++ codes "=" ++ decimal loss.quantity
+loss_text loss =
+    category_name loss.category ++ codes "/" ++ reason_name loss.reason ++ codes "="
+    ++ decimal loss.quantity
 
 abbrev pub report_text : ClientReport → Bytes
 report_text report = codes "report " ++ join_by loss_text (codes ",") report.items
@@ -49,11 +49,13 @@ item_text (item.Event event) = event_text event
 item_text (item.Attachment attachment) = attachment_text attachment
 item_text (item.ClientReport report) = report_text report
 
--- the line of an envelope
-abbrev pub envelope_line : ClientKey → Envelope → Bytes
-envelope_line client envelope = codes "envelope " ++ decimal client.number ++ codes " " ++ join_by item_text (codes " | ") envelope.items ++ 10 ∷ []
+-- the line of an envelope of this client
+abbrev pub envelope_line : ClientKey × Envelope → Bytes
+envelope_line sent =
+    codes "envelope " ++ decimal sent.0.number ++ codes " "
+    ++ join_by item_text (codes " | ") sent.1.items ++ 10 ∷ []
 
--- a line for each envelope that was handed out, or one for the refusal
-abbrev pub answer_text : Result (Out (Reply NoProcessor NoCallbacks)) Refusal → Bytes
-answer_text (Ok out) = flat_map (λ sent. envelope_line sent.0 sent.1) out.sent
+-- one line for each envelope that is to be sent, or one for the refusal
+abbrev pub answer_text : ReplayAnswer → Bytes
+answer_text (Ok out) = flat_map envelope_line out.sent
 answer_text (Err refusal) = codes "refused E" ++ decimal (refusal_number refusal) ++ 10 ∷ []

@@ -1,35 +1,38 @@
 //! The calls that commands make.
-ghost use Rattle.std.specs.Prelude.{◌≡◌, ◌<◌, ◌^◌, length, IfOk};
-ghost use Rattle.replay_run.specs.Replays.{moment_of, fresh_of, spelled_dsn, client_options, call_of};
+ghost use Rattle.std.specs.Prelude.{◌≡◌, Ok, IfOk};
+ghost use Rattle.sentry_base.specs.DsnTexts.{dsn_of_text};
+ghost use Rattle.replay_run.specs.Calls.{moment_of, fresh_of, client_dsn_text, client_dsn, client_options, call_of};
 
 use crate::command::Command;
-use crate::uncalled::{NoCallbacks, NoProcessor};
+use crate::engine::{NoCallbacks, ReplayCall};
 use sentry_base::dsn::Dsn;
-use sentry_base::protocol::{
-    ClientKey, Draw, Fresh, HubKey, Label, Refusal, SpanId, TraceId, Uuid,
-};
+use sentry_base::protocol::{ClientKey, Draw, Fresh, HubKey, Label, SpanId, TraceId, Uuid};
 use sentry_engine::call::Call;
 use sentry_plain::{Items, Text};
 use sentry_state::clientoptions::{ClientOptions, PlainOptions, TracesSamplingStrategy};
 use sentry_state::scope::{Scope, ScopeEdit};
 use std::alloc::{AllocError, Global};
 
-/// The tag of the one engine, by which its keys are told.
+/// The tag of the engine, which all of its keys carry.
 pub const TAG: u64 = 0;
 
-/// Where the events of every client go.
-const DSN: &str = "https://public@sentry.invalid/1";
+const CLIENT_DSN: &str = "https://public@sentry.invalid/1";
 
-const NANOSECONDS: u64 = 1_000_000_000;
+const NANOSECONDS_PER_SECOND: u64 = 1_000_000_000;
 
-/// The moment of the line of this number, in nanoseconds: a second for each line.
+/// The text of the clients' DSN is the text of a DSN, which has the parts that the options of every client name.
+pub fn client_dsn_has_its_parts()
+    ensures { dsn_of_text client_dsn_text ≡ Ok client_dsn }
+{}
+
+// The moment of the line of this number, in nanoseconds: one second for each line.
 fn moment(number: u64) -> u64
     ensures { result ≡ moment_of number }
 {
-    number.saturating_mul(NANOSECONDS)
+    number.saturating_mul(NANOSECONDS_PER_SECOND)
 }
 
-/// What a call on the line of this number is handed in place of a clock and a generator.
+// What a call on the line of this number is handed in place of a clock and a generator of random numbers.
 fn fresh(number: u64) -> Fresh
     ensures { result ≡ fresh_of number }
 {
@@ -43,24 +46,19 @@ fn fresh(number: u64) -> Fresh
     }
 }
 
-/// The DSN that a text spells, if it spells one.
-fn dsn(alloc: Global, text: &str) -> Result<Option<Dsn>, AllocError>
-    requires { length text.now < 2 ^ 24 }
-    ensures { IfOk result (λ dsn. dsn ≡ spelled_dsn text.now) }
+// The DSN of every client. It is refused for nothing but memory, by `client_dsn_has_its_parts`.
+fn dsn(alloc: Global) -> Result<Dsn, AllocError>
+    ensures { IfOk result (λ dsn. dsn ≡ client_dsn) }
 {
-    match Dsn::parse(alloc, text) {
-        Ok(dsn) => Ok(Some(dsn)),
-        Err(Refusal::InvalidDsn(_)) => Ok(None),
-        Err(_) => Err(AllocError),
-    }
+    Dsn::parse(alloc, CLIENT_DSN).or(Err(AllocError))
 }
 
-/// The options of a client of this release.
+// The options of a client of this release.
 fn options(alloc: Global, release: Option<Text>) -> Result<ClientOptions<NoCallbacks>, AllocError>
     ensures { IfOk result (λ options. options ≡ client_options release) }
 {
     let mut plain = PlainOptions::new(alloc);
-    plain.dsn = dsn(alloc, DSN)?;
+    plain.dsn = Some(dsn(alloc)?);
     plain.release = release;
     Ok(ClientOptions {
         plain,
@@ -69,58 +67,46 @@ fn options(alloc: Global, release: Option<Text>) -> Result<ClientOptions<NoCallb
     })
 }
 
-/// The call that a command on the line of this number makes.
-pub fn call(
-    alloc: Global,
-    number: u64,
-    command: Command,
-) -> Result<Call<NoProcessor, NoCallbacks>, AllocError>
+/// Builds the call of the command on the line of this number.
+pub fn build_call(alloc: Global, number: u64, command: Command) -> Result<ReplayCall, AllocError>
     ensures { IfOk result (λ call. call ≡ call_of number command) }
 {
     let now = moment(number);
     let fresh = fresh(number);
     match command {
-        Command::Client(release) => {
-            let options = options(alloc, release)?;
-            let label = Label { tag: TAG, number };
-            Ok(Call::AddClient {
-                options,
-                transport: true,
-                label,
-                now,
-            })
-        }
-        Command::Hub(client) => {
-            let client = ClientKey {
+        Command::Client(release) => Ok(Call::AddClient {
+            options: options(alloc, release)?,
+            transport: true,
+            label: Label { tag: TAG, number },
+            now,
+        }),
+        Command::Hub(client) => Ok(Call::NewHub {
+            client: Some(ClientKey {
                 tag: TAG,
                 number: client,
-            };
-            let scope = Scope::new(alloc, fresh.trace_id, fresh.span_id);
-            Ok(Call::NewHub {
-                client: Some(client),
-                scope,
-            })
-        }
+            }),
+            scope: Scope::new(alloc, fresh.trace_id, fresh.span_id),
+        }),
         Command::Tag { hub, key, value } => {
             let mut edits = Items::new(alloc);
             edits.push(ScopeEdit::SetTag(key, value))?;
-            let hub = HubKey {
-                tag: TAG,
-                number: hub,
-            };
-            Ok(Call::Configure { hub, edits, now })
-        }
-        Command::Message { hub, level, text } => {
-            let hub = HubKey {
-                tag: TAG,
-                number: hub,
-            };
-            Ok(Call::CaptureMessage {
-                hub,
-                message: text,
-                level,
-                fresh,
+            Ok(Call::Configure {
+                hub: HubKey {
+                    tag: TAG,
+                    number: hub,
+                },
+                edits,
+                now,
             })
         }
+        Command::Message { hub, level, text } => Ok(Call::CaptureMessage {
+            hub: HubKey {
+                tag: TAG,
+                number: hub,
+            },
+            message: text,
+            level,
+            fresh,
+        }),
     }
 }

@@ -5,7 +5,7 @@ ghost use Rattle.replay_run.specs.Commands.{Spells};
 ghost use Rattle.replay_run.specs.declared.command.Command.{Command};
 ghost use Rattle.sentry_plain.specs.Texts.{Bytes};
 
-use crate::word::{cut, is_word, level, number};
+use crate::word::{cut, is_word, parse_level, parse_number};
 use sentry_base::protocol::Level;
 use sentry_plain::Text;
 use std::alloc::{AllocError, Global};
@@ -13,18 +13,18 @@ use std::alloc::{AllocError, Global};
 /// What a line asks for. Clients and hubs are named by their numbers.
 #[derive(Drop)]
 pub enum Command {
-    /// A client, with this release or with none.
+    /// Adds a client, of this release or of none.
     Client(Option<Text>),
-    /// A hub on the client of this number.
+    /// Adds a hub on the client of this number.
     Hub(u64),
-    /// A tag on a hub.
+    /// Sets a tag on a hub.
     Tag { hub: u64, key: Text, value: Text },
-    /// A message on a hub.
+    /// Captures a message on a hub.
     Message { hub: u64, level: Level, text: Text },
 }
 
 #[tactic(auto, unfolding(crate::specs::Reading::client_of))]
-fn client(alloc: Global, text: &str) -> Result<Option<Command>, AllocError>
+fn parse_client(alloc: Global, text: &str) -> Result<Option<Command>, AllocError>
     ensures { IfOk result (λ found. found ≡ client_of text.now) }
 {
     if text == "-" {
@@ -37,20 +37,20 @@ fn client(alloc: Global, text: &str) -> Result<Option<Command>, AllocError>
 }
 
 #[tactic(auto, unfolding(crate::specs::Reading::hub_of))]
-fn hub(text: &str) -> Option<Command>
+fn parse_hub(text: &str) -> Option<Command>
     ensures { result ≡ hub_of text.now }
 {
-    Some(Command::Hub(number(text)?))
+    Some(Command::Hub(parse_number(text)?))
 }
 
 #[tactic(auto, unfolding(crate::specs::Reading::tag_of))]
-fn tag(alloc: Global, text: &str) -> Result<Option<Command>, AllocError>
+fn parse_tag(alloc: Global, text: &str) -> Result<Option<Command>, AllocError>
     ensures { IfOk result (λ found. found ≡ tag_of text.now) }
 {
     let Some((hub, rest)) = cut(text) else {
         return Ok(None);
     };
-    let Some(hub) = number(hub) else {
+    let Some(hub) = parse_number(hub) else {
         return Ok(None);
     };
     let Some((key, value)) = cut(rest) else {
@@ -65,19 +65,19 @@ fn tag(alloc: Global, text: &str) -> Result<Option<Command>, AllocError>
 }
 
 #[tactic(auto, unfolding(crate::specs::Reading::message_of))]
-fn message(alloc: Global, text: &str) -> Result<Option<Command>, AllocError>
+fn parse_message(alloc: Global, text: &str) -> Result<Option<Command>, AllocError>
     ensures { IfOk result (λ found. found ≡ message_of text.now) }
 {
     let Some((hub, rest)) = cut(text) else {
         return Ok(None);
     };
-    let Some(hub) = number(hub) else {
+    let Some(hub) = parse_number(hub) else {
         return Ok(None);
     };
     let Some((word, rest)) = cut(rest) else {
         return Ok(None);
     };
-    let Some(level) = level(word) else {
+    let Some(level) = parse_level(word) else {
         return Ok(None);
     };
     let text = Text::new(alloc, rest)?;
@@ -85,33 +85,33 @@ fn message(alloc: Global, text: &str) -> Result<Option<Command>, AllocError>
 }
 
 #[tactic(auto, unfolding(crate::specs::Reading::form_of, crate::specs::Reading::command_of))]
-fn read(alloc: Global, line: &str) -> Result<Option<Command>, AllocError>
+fn parse_text(alloc: Global, line: &str) -> Result<Option<Command>, AllocError>
     ensures { IfOk result (λ found. found ≡ command_of line.now) }
 {
     let Some((word, rest)) = cut(line) else {
         return Ok(None);
     };
     match word {
-        "client" => client(alloc, rest),
-        "hub" => Ok(hub(rest)),
-        "tag" => tag(alloc, rest),
-        "message" => message(alloc, rest),
+        "client" => parse_client(alloc, rest),
+        "hub" => Ok(parse_hub(rest)),
+        "tag" => parse_tag(alloc, rest),
+        "message" => parse_message(alloc, rest),
         _ => Ok(None),
     }
 }
 
-/// A line spells one command at most.
-pub fn one_command()
+/// A line spells at most one command.
+pub fn line_spells_at_most_one_command()
     ensures { (line : Bytes) (a b : Command) → Spells line a → Spells line b → a ≡ b }
 {}
 
 /// The command that a line spells, if it spells one.
-pub fn parse(alloc: Global, line: &[u8]) -> Result<Option<Command>, AllocError>
+pub fn parse_command(alloc: Global, line: &[u8]) -> Result<Option<Command>, AllocError>
     ensures found { IfOk result (λ found. IfSome found (λ command. Spells line.now command)) }
     ensures none { IfOk result (λ found. IfNone found ((command : _) → Spells line.now command → ⊥)) }
 {
     match str::from_utf8(line) {
-        Ok(line) => read(alloc, line),
+        Ok(line) => parse_text(alloc, line),
         Err(_) => Ok(None),
     }
 }

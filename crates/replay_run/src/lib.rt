@@ -1,17 +1,16 @@
-//! What the program `replay` does with its input: commands, a line each, are done on an engine, and its envelopes are
-//! printed.
+//! What the program `replay` does: it executes commands, one a line, on an engine, and prints the engine's envelopes.
 #![tactic(auto)]
 
 mod call;
 mod command;
+mod engine;
 mod fault;
 mod lines;
 mod print;
 mod run;
-#[cfg(test)]
-mod tests;
-mod uncalled;
 mod word;
 
+pub use call::client_dsn_has_its_parts;
+pub use command::line_spells_at_most_one_command;
 pub use fault::ReplayFault;
 pub use run::run_replay;

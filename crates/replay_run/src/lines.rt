@@ -17,7 +17,7 @@ fn strip_line_feed(line: &mut Vec<u8>)
     }
 }
 
-/// What a failed read is: want of memory for the line, or a failure of the input.
+// The fault of a failed read: out of memory for the line, or a failure of the input.
 fn read_fault(error: &Error) -> ReplayFault
     ensures { (number : ℕ) → result ≢ ReplayFault.BadCommand number }
 {
@@ -27,9 +27,10 @@ fn read_fault(error: &Error) -> ReplayFault
     }
 }
 
-/// Reads the next line into `line`, without its line feed. False tells that the input is at its end.
+/// Reads the next line into `line`, without its line feed. The answer is false at the end of the input.
 pub fn next_line<R: BufRead>(reader: &mut R, line: &mut Vec<u8>) -> Result<bool, ReplayFault>
-    ensures taken { IfOk result (λ found. TakesLine (R.remaining reader.old) (R.remaining reader.new) found line.new.items) }
+    ensures taken { IfOk result (λ found.
+        TakesLine (R.remaining reader.old) (R.remaining reader.new) found line.new.items) }
     ensures fault { IfErr result (λ fault. (number : ℕ) → fault ≢ ReplayFault.BadCommand number) }
 {
     line.clear();

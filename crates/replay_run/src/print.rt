@@ -1,18 +1,40 @@
 //! What is printed of envelopes and of answers.
-ghost use Rattle.std.specs.Prelude.{◌≡◌, ◌++◌, codes, OnOk, string_bytes, flat_map};
-ghost use Rattle.sentry_plain.specs.Texts.{by_bytes};
+ghost use Rattle.std.specs.Prelude.{◌≡◌, ◌++◌, OnOk, string_bytes};
 ghost use Rattle.std.specs.List.{join_by};
+ghost use Rattle.sentry_plain.specs.Texts.{Bytes};
 ghost use Rattle.replay_run.specs.Commands.{level_word};
 ghost use Rattle.replay_run.specs.Printing.{tag_text, tags_text, event_text, attachment_text, loss_text, report_text, item_text, envelope_line, answer_text};
 
-use crate::uncalled::{NoCallbacks, NoProcessor};
+use crate::engine::ReplayAnswer;
 use sentry_base::protocol::{
     Attachment, ClientKey, ClientReport, ClientReportItem, Envelope, EnvelopeItem, Event, Level,
 };
-use sentry_engine::call::Answer;
 use sentry_plain::{Text, TextMap};
 use std::alloc::AllocError;
-use std::collections::btree_map::Iter;
+
+/// What is printed of a value.
+pub trait Print {
+    ghost shown: { Self → Bytes };
+
+    /// Appends what is printed of the value.
+    fn print(&self, text: &mut String) -> Result<(), AllocError>
+        ensures { OnOk result (string_bytes text.new ≡ string_bytes text.old ++ shown self.now) };
+}
+
+fn print_joined<T: Print>(items: &[T], separator: &str, text: &mut String) -> Result<(), AllocError>
+    ensures { OnOk result (string_bytes text.new ≡ string_bytes text.old
+        ++ join_by T.shown separator.now items.now) }
+{
+    let Some((first, more)) = items.split_first() else {
+        return Ok(());
+    };
+    first.print(text)?;
+    for item in more {
+        text.push_str(separator)?;
+        item.print(text)?;
+    }
+    Ok(())
+}
 
 fn level_word(level: Level) -> &'static str
     ensures { result.now ≡ level_word level }
@@ -26,7 +48,7 @@ fn level_word(level: Level) -> &'static str
     }
 }
 
-fn push_tag(text: &mut String, key: &str, value: &str) -> Result<(), AllocError>
+fn print_tag(key: &str, value: &str, text: &mut String) -> Result<(), AllocError>
     ensures { OnOk result (string_bytes text.new ≡ string_bytes text.old ++ tag_text (key.now, value.now)) }
 {
     text.push_str(key)?;
@@ -34,145 +56,106 @@ fn push_tag(text: &mut String, key: &str, value: &str) -> Result<(), AllocError>
     text.push_str(value)
 }
 
-fn push_more_tags(text: &mut String, tags: Iter<'_, String, Text>) -> Result<(), AllocError>
-    ensures { OnOk result (string_bytes text.new ≡ string_bytes text.old ++ flat_map (λ tag. codes "," ++ tag_text tag) (by_bytes (λ value. value) tags.entry)) }
-{
-    for (key, value) in tags {
-        text.push_str(",")?;
-        push_tag(text, key.as_str(), value.as_str())?;
-    }
-    Ok(())
-}
-
-fn push_tags(text: &mut String, tags: &TextMap<Text>) -> Result<(), AllocError>
+// The tags are no slice, so they are joined here.
+fn print_tags(tags: &TextMap<Text>, text: &mut String) -> Result<(), AllocError>
     ensures { OnOk result (string_bytes text.new ≡ string_bytes text.old ++ tags_text tags.now) }
 {
     let mut entries = tags.iter();
     let Some((key, value)) = entries.next() else {
         return text.push_str("-");
     };
-    push_tag(text, key.as_str(), value.as_str())?;
-    push_more_tags(text, entries)
-}
-
-fn push_event(text: &mut String, event: &Event) -> Result<(), AllocError>
-    ensures { OnOk result (string_bytes text.new ≡ string_bytes text.old ++ event_text event.now) }
-{
-    let id = event.event_id.simple();
-    let level = level_word(event.level);
-    write!(text, "event {id} {level} ")?;
-    push_tags(text, &event.tags)?;
-    text.push_str(" ")?;
-    match &event.message {
-        Some(message) => text.push_str(message.as_str()),
-        None => Ok(()),
-    }
-}
-
-fn push_attachment(text: &mut String, attachment: &Attachment) -> Result<(), AllocError>
-    ensures { OnOk result (string_bytes text.new ≡ string_bytes text.old ++ attachment_text attachment.now) }
-{
-    let name = attachment.filename.as_str();
-    write!(text, "attachment {name}")
-}
-
-fn push_loss(text: &mut String, loss: &ClientReportItem) -> Result<(), AllocError>
-    ensures { OnOk result (string_bytes text.new ≡ string_bytes text.old ++ loss_text loss.now) }
-{
-    let category = loss.category.as_str();
-    let reason = loss.reason.as_str();
-    let quantity = loss.quantity;
-    write!(text, "{category}/{reason}={quantity}")
-}
-
-fn push_more_losses(text: &mut String, losses: &[ClientReportItem]) -> Result<(), AllocError>
-    ensures { OnOk result (string_bytes text.new ≡ string_bytes text.old ++ flat_map (λ loss. codes "," ++ loss_text loss) losses.now) }
-{
-    for loss in losses {
+    print_tag(key.as_str(), value.as_str(), text)?;
+    for (key, value) in entries {
         text.push_str(",")?;
-        push_loss(text, loss)?;
+        print_tag(key.as_str(), value.as_str(), text)?;
     }
     Ok(())
 }
 
-fn push_losses(text: &mut String, losses: &[ClientReportItem]) -> Result<(), AllocError>
-    ensures { OnOk result (string_bytes text.new ≡ string_bytes text.old ++ join_by loss_text (codes ",") losses.now) }
-{
-    let Some((first, more)) = losses.split_first() else {
-        return Ok(());
-    };
-    push_loss(text, first)?;
-    push_more_losses(text, more)
-}
+impl Print for Event {
+    ghost shown = { event_text };
 
-fn push_report(text: &mut String, report: &ClientReport) -> Result<(), AllocError>
-    ensures { OnOk result (string_bytes text.new ≡ string_bytes text.old ++ report_text report.now) }
-{
-    write!(text, "report ")?;
-    push_losses(text, report.items.as_slice())
-}
-
-fn push_item(text: &mut String, item: &EnvelopeItem) -> Result<(), AllocError>
-    ensures { OnOk result (string_bytes text.new ≡ string_bytes text.old ++ item_text item.now) }
-{
-    match item {
-        EnvelopeItem::Event(event) => push_event(text, event),
-        EnvelopeItem::Attachment(attachment) => push_attachment(text, attachment),
-        EnvelopeItem::ClientReport(report) => push_report(text, report),
+    fn print(&self, text: &mut String) -> Result<(), AllocError> {
+        let id = self.event_id.simple();
+        let level = level_word(self.level);
+        write!(text, "event {id} {level} ")?;
+        print_tags(&self.tags, text)?;
+        text.push_str(" ")?;
+        match &self.message {
+            Some(message) => text.push_str(message.as_str()),
+            None => Ok(()),
+        }
     }
 }
 
-fn push_more_items(text: &mut String, items: &[EnvelopeItem]) -> Result<(), AllocError>
-    ensures { OnOk result (string_bytes text.new ≡ string_bytes text.old ++ flat_map (λ item. codes " | " ++ item_text item) items.now) }
-{
-    for item in items {
-        text.push_str(" | ")?;
-        push_item(text, item)?;
+impl Print for Attachment {
+    ghost shown = { attachment_text };
+
+    fn print(&self, text: &mut String) -> Result<(), AllocError> {
+        let name = self.filename.as_str();
+        write!(text, "attachment {name}")
     }
-    Ok(())
 }
 
-fn push_items(text: &mut String, items: &[EnvelopeItem]) -> Result<(), AllocError>
-    ensures { OnOk result (string_bytes text.new ≡ string_bytes text.old ++ join_by item_text (codes " | ") items.now) }
-{
-    let Some((first, more)) = items.split_first() else {
-        return Ok(());
-    };
-    push_item(text, first)?;
-    push_more_items(text, more)
-}
+impl Print for ClientReportItem {
+    ghost shown = { loss_text };
 
-fn push_envelope(
-    text: &mut String,
-    client: ClientKey,
-    envelope: &Envelope,
-) -> Result<(), AllocError>
-    ensures { OnOk result (string_bytes text.new ≡ string_bytes text.old ++ envelope_line client envelope.now) }
-{
-    let number = client.number;
-    write!(text, "envelope {number} ")?;
-    push_items(text, envelope.items.as_slice())?;
-    text.push_str("\n")
-}
-
-fn push_envelopes(text: &mut String, sent: &[(ClientKey, Envelope)]) -> Result<(), AllocError>
-    ensures { OnOk result (string_bytes text.new ≡ string_bytes text.old ++ flat_map (λ sent. envelope_line sent.0 sent.1) sent.now) }
-{
-    for (client, envelope) in sent {
-        push_envelope(text, *client, envelope)?;
+    fn print(&self, text: &mut String) -> Result<(), AllocError> {
+        let category = self.category.as_str();
+        let reason = self.reason.as_str();
+        let quantity = self.quantity;
+        write!(text, "{category}/{reason}={quantity}")
     }
-    Ok(())
 }
 
-/// Appends what is printed of an answer: a line for each envelope, or one for the refusal.
-pub fn push_answer(text: &mut String, answer: &Answer<NoProcessor, NoCallbacks>) -> Result<(), AllocError>
-    ensures { OnOk result (string_bytes text.new ≡ string_bytes text.old ++ answer_text answer.now) }
-{
-    match answer {
-        Ok(out) => push_envelopes(text, out.sent.as_slice()),
-        Err(refusal) => {
-            let number = refusal.number();
-            writeln!(text, "refused E{number}")
+impl Print for ClientReport {
+    ghost shown = { report_text };
+
+    fn print(&self, text: &mut String) -> Result<(), AllocError> {
+        text.push_str("report ")?;
+        print_joined(self.items.as_slice(), ",", text)
+    }
+}
+
+impl Print for EnvelopeItem {
+    ghost shown = { item_text };
+
+    fn print(&self, text: &mut String) -> Result<(), AllocError> {
+        match self {
+            EnvelopeItem::Event(event) => event.print(text),
+            EnvelopeItem::Attachment(attachment) => attachment.print(text),
+            EnvelopeItem::ClientReport(report) => report.print(text),
+        }
+    }
+}
+
+impl Print for (ClientKey, Envelope) {
+    ghost shown = { envelope_line };
+
+    fn print(&self, text: &mut String) -> Result<(), AllocError> {
+        let (client, envelope) = self;
+        let number = client.number;
+        write!(text, "envelope {number} ")?;
+        print_joined(envelope.items.as_slice(), " | ", text)?;
+        text.push_str("\n")
+    }
+}
+
+impl Print for ReplayAnswer {
+    ghost shown = { answer_text };
+
+    fn print(&self, text: &mut String) -> Result<(), AllocError> {
+        match self {
+            Ok(out) => {
+                for envelope in out.sent.as_slice() {
+                    envelope.print(text)?;
+                }
+                Ok(())
+            }
+            Err(refusal) => {
+                let number = refusal.number();
+                writeln!(text, "refused E{number}")
+            }
         }
     }
 }

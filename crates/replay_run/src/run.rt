@@ -1,23 +1,23 @@
 //! A run over a whole input.
 ghost use Rattle.std.specs.Prelude.{◌≡◌, IfOk};
-ghost use Rattle.sentry_engine.specs.Worlds.{World, Stands};
-ghost use Rattle.replay_run.specs.Replays.{wants_memory, Answers, call_of, DoesLine, Writes};
+ghost use Rattle.sentry_engine.specs.Worlds.{Stands};
+ghost use Rattle.replay_run.specs.Calls.{call_of};
+ghost use Rattle.replay_run.specs.Engines.{ReplayWorld};
+ghost use Rattle.replay_run.specs.Replays.{is_out_of_memory, MayAnswer, ExecutesLine, Writes};
 
-use crate::call::{TAG, call};
-use crate::command::{Command, parse};
+use crate::call::{TAG, build_call};
+use crate::command::{Command, parse_command};
+use crate::engine::{ReplayAnswer, ReplayEngine};
 use crate::fault::ReplayFault;
 use crate::lines::next_line;
-use crate::print::push_answer;
-use crate::uncalled::{NoCallbacks, NoProcessor};
+use crate::print::Print;
 use sentry_base::protocol::Refusal;
-use sentry_engine::call::Answer;
 use sentry_engine::engine::Engine;
 use std::alloc::{AllocError, Global};
 use std::io::{BufRead, Write};
 
-/// Whether memory was wanting.
-fn wants_memory(answer: &Answer<NoProcessor, NoCallbacks>) -> bool
-    ensures { result ≡ wants_memory answer.now }
+fn is_out_of_memory(answer: &ReplayAnswer) -> bool
+    ensures { result ≡ is_out_of_memory answer.now }
 {
     match answer {
         Err(Refusal::OutOfMemory) => true,
@@ -25,53 +25,55 @@ fn wants_memory(answer: &Answer<NoProcessor, NoCallbacks>) -> bool
     }
 }
 
-/// Does the command on the line of this number.
-fn answer(
+// Executes the command on the line of this number, and gives the engine's answer.
+fn execute(
     alloc: Global,
-    engine: &mut Engine<NoProcessor, NoCallbacks>,
+    engine: &mut ReplayEngine,
     number: u64,
     command: Command,
-) -> Result<Answer<NoProcessor, NoCallbacks>, AllocError>
-    ensures { IfOk result (λ answer. (world : World NoProcessor NoCallbacks) → Stands engine.old world →
-        (next : World NoProcessor NoCallbacks) × Answers world (call_of number command) answer next × Stands engine.new next) }
+) -> Result<ReplayAnswer, AllocError>
+    ensures { IfOk result (λ answer. (world : ReplayWorld) → Stands engine.old world →
+        (next : ReplayWorld) × MayAnswer world (call_of number command) answer next × Stands engine.new next) }
 {
-    let call = call(alloc, number, command)?;
+    let call = build_call(alloc, number, command)?;
     let answer = engine.apply(call);
-    if wants_memory(&answer) {
+    if is_out_of_memory(&answer) {
         return Err(AllocError);
     }
     Ok(answer)
 }
 
-/// Does one line, and writes what it prints. `text` is room for that.
-fn do_line<W: Write>(
+// Executes one line, and writes what it prints. `text` is room for that, used again for each line.
+fn execute_line<W: Write>(
     alloc: Global,
-    engine: &mut Engine<NoProcessor, NoCallbacks>,
+    engine: &mut ReplayEngine,
     number: u64,
     line: &[u8],
     text: &mut String,
     writer: &mut W,
 ) -> Result<(), ReplayFault>
-    ensures { DoesLine engine.old engine.new (W.contents writer.old) (W.contents writer.new) number line.now result }
+    ensures { ExecutesLine engine.old engine.new (W.contents writer.old) (W.contents writer.new)
+        number line.now result }
 {
     if line.is_empty() {
         return Ok(());
     }
-    let Some(command) = parse(alloc, line)? else {
+    let Some(command) = parse_command(alloc, line)? else {
         return Err(ReplayFault::BadCommand(number));
     };
-    let answer = answer(alloc, engine, number, command)?;
+    let answer = execute(alloc, engine, number, command)?;
     text.clear();
-    push_answer(text, &answer)?;
+    answer.print(text)?;
     match writer.write_all(text.as_bytes()) {
         Ok(()) => Ok(()),
         Err(_) => Err(ReplayFault::InputOutput),
     }
 }
 
-/// Reads commands, a line each, does each on a new engine, and writes a line for each envelope. Each line is read, done
-/// and printed before the next one is read; the room taken is that of the engine and of the longest line. Past 2^64-1
-/// lines the run ends as where the input fails.
+/// Reads commands, one a line, executes them on a new engine, and writes one line for each envelope.
+///
+/// Each line is read, executed and printed before the next one is read, so the memory in use is that of the engine and
+/// of the longest line. After 2^64-1 lines the run ends with `InputOutput`.
 pub fn run_replay<R: BufRead, W: Write>(
     alloc: Global,
     reader: &mut R,
@@ -86,7 +88,7 @@ pub fn run_replay<R: BufRead, W: Write>(
         if !next_line(reader, &mut line)? {
             return Ok(());
         }
-        do_line(
+        execute_line(
             alloc,
             &mut engine,
             index + 1,

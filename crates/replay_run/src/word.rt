@@ -12,8 +12,8 @@ pub fn cut(text: &str) -> Option<(&str, &str)>
     text.split_once(' ')
 }
 
-/// The number below 2^64 that a text spells in decimal digits.
-pub fn number(text: &str) -> Option<u64>
+/// The number below 2^64 that a text spells in decimal digits, if it spells one.
+pub fn parse_number(text: &str) -> Option<u64>
     ensures { result ≡ number_of text.now }
 {
     if text.starts_with('+') {
@@ -22,9 +22,9 @@ pub fn number(text: &str) -> Option<u64>
     text.parse().ok()
 }
 
-/// The level that a word names.
+/// The level that a word names, if it names one.
 #[tactic(auto, unfolding(crate::specs::Reading::level_of))]
-pub fn level(word: &str) -> Option<Level>
+pub fn parse_level(word: &str) -> Option<Level>
     ensures { result ≡ level_of word.now }
 {
     match word {
@@ -37,7 +37,7 @@ pub fn level(word: &str) -> Option<Level>
     }
 }
 
-/// Whether a text has one byte at least, and no space.
+/// Whether a text has at least one byte, and no space.
 pub fn is_word(text: &str) -> bool
     ensures { result ≡ is_word text.now }
 {

@@ -1,0 +1,24 @@
+use Rattle.std.proofs.Common.{◌≡◌, ◌≢◌, ap, sym, ◌∙◌, ◌++◌, [], length, subst, Option}
+use Rattle.std.specs.Prelude.{IfSome}
+use Rattle.std.specs.Io.KnownBytes.{Appends}
+use Rattle.std.proofs.lemmas.Bool.{eqb-false}
+use Rattle.sentry_plain.specs.Texts.{Bytes}
+use Rattle.replay_run.specs.declared.command.Command.{Command}
+use Rattle.replay_run.specs.Commands.{Spells}
+use Rattle.replay_run.specs.Printing.{answer_text}
+use Rattle.replay_run.proofs.ReplayLemmas.{prints}
+use Rattle.replay_run.proofs.run.execute_line.Goals as goal
+
+pub returns-in-Ok : goal.returns-in-Ok
+returns-in-Ok g c = λ world stands.
+    let some : c.args.line.now ≢ [] = λ e. eqb-false (length c.args.line.now) 0 (sym c.is_empty.ensures ∙ c.if-is_empty.false) (ap length e) in
+    let spells : Spells c.args.line.now c.in-Some.command = subst (λ (found : Option Command). IfSome found (λ command. Spells c.args.line.now command)) c.in-Some.is c.in_ok-command.ensures.found in
+    let written : c.as_bytes.result.now ≡ answer_text c.in_ok-answer.answer =
+    c.as_bytes.ensures.value ∙ c.in_ok-print.ensures ∙ ap (λ (before : Bytes). before ++ answer_text c.in_ok-answer.answer) c.clear.ensures.bytes in
+    let done = c.in_ok-answer.ensures world stands in (
+      answer_text c.in_ok-answer.answer,
+      done.0,
+      prints world done.0 c.args.number c.args.line.now c.in-Some.command c.in_ok-answer.answer some spells done.1,
+      done.2,
+      subst (Appends (g.W.Write.contents c.args.writer.now) (g.W.Write.contents c.write_all.new.self)) written c.in-Ok.ensures.bytes,
+    )

@@ -1,0 +1,63 @@
+-- The calls that commands make.
+use Rattle.std.specs.Prelude.{ℕ, ◌*◌, ◌-◌, ◌^◌, min, true, Option, Some, None, [], ◌∷◌, codes}
+use Rattle.std.specs.Int.{to_be_bytes, w64, w128}
+use Rattle.sentry_plain.specs.Texts.{Bytes}
+use Rattle.sentry_base.specs.declared.dsn.Scheme.TheVariants.{Https}
+use Rattle.sentry_base.specs.DsnParts.{DsnParts}
+use Rattle.sentry_base.specs.declared.protocol.fresh.Fresh.{Fresh}
+use Rattle.sentry_state.specs.Options.{default_plain_options, default_options_with}
+use Rattle.sentry_state.specs.declared.clientoptions.ClientOptions.{ClientOptions}
+use Rattle.sentry_state.specs.Scopes.{new_scope}
+use Rattle.sentry_state.specs.declared.scope.edit.ScopeEdit.TheVariants.{SetTag}
+use Rattle.sentry_engine.specs.declared.call.Call.TheVariants.{AddClient, NewHub, Configure, CaptureMessage}
+use Rattle.replay_run.specs.declared.engine.NoCallbacks.{NoCallbacks}
+use Rattle.replay_run.specs.declared.command.Command.{Command}
+use Rattle.replay_run.specs.declared.command.Command.TheVariants.{Client, Hub, Tag, Message}
+use Rattle.replay_run.specs.Engines.{ReplayCall}
+
+-- the moment of the line of this number, which stops at 2^64-1
+abbrev pub moment_of : ℕ → ℕ
+moment_of number = min (number * 10 ^ 9) (2 ^ 64 - 1)
+
+-- what a call on the line of this number is handed
+abbrev pub fresh_of : ℕ → Fresh
+fresh_of number = record {
+  now = moment_of number;
+  uuid = to_be_bytes w128 number;
+  trace_id = record { 0 = to_be_bytes w128 number };
+  span_id = record { 0 = to_be_bytes w64 number };
+  draw = 0;
+}
+
+-- the DSN of every client, as text and in its parts
+abbrev pub client_dsn_text : Bytes
+client_dsn_text = codes "https://public@sentry.invalid/1"
+
+abbrev pub client_dsn : DsnParts
+client_dsn = record {
+  scheme = Https;
+  public_key = codes "public";
+  host = codes "sentry.invalid";
+  port = 443;
+  project = codes "1";
+  organization = None;
+  text = client_dsn_text;
+}
+
+-- the options of a client of this release
+abbrev pub client_options : Option Bytes → ClientOptions NoCallbacks
+client_options release = record (default_options_with (record {})) {
+  plain = record default_plain_options { dsn = Some client_dsn; release = release };
+}
+
+-- the call of the command on the line of this number; a client's label is the number of its line
+abbrev pub call_of : ℕ → Command → ReplayCall
+call_of number (Client release) =
+    AddClient (client_options release) true (record { tag = 0; number = number }) (moment_of number)
+call_of number (Hub client) =
+    NewHub (Some (record { tag = 0; number = client }))
+    (new_scope (fresh_of number).trace_id (fresh_of number).span_id)
+call_of number (Tag hub key value) =
+    Configure (record { tag = 0; number = hub }) (SetTag key value ∷ []) (moment_of number)
+call_of number (Message hub level text) =
+    CaptureMessage (record { tag = 0; number = hub }) text level (fresh_of number)

@@ -1,0 +1,56 @@
+//! The engine of this program: its scopes have no processors, and its clients have no callbacks.
+ghost use Rattle.replay_run.specs.Engines.{same_event, no_callbacks};
+
+use sentry_base::protocol::Event;
+use sentry_engine::call::{Answer, Call};
+use sentry_engine::engine::Engine;
+use sentry_plain::{Items, Text};
+use sentry_state::callbacks::EventCallback;
+use sentry_state::clientoptions::{Callbacks, PlainOptions};
+use std::alloc::{AllocError, Global};
+
+pub type ReplayEngine = Engine<NoProcessor, NoCallbacks>;
+
+pub type ReplayCall = Call<NoProcessor, NoCallbacks>;
+
+pub type ReplayAnswer = Answer<NoProcessor, NoCallbacks>;
+
+/// An event processor that gives each event back. No scope of this program gets one.
+#[derive(Drop)]
+pub struct NoProcessor;
+
+impl EventCallback for NoProcessor {
+    ghost gives = { same_event };
+
+    fn call(&self, event: Event) -> Result<Option<Event>, AllocError> {
+        Ok(Some(event))
+    }
+}
+
+/// The callbacks of a client that has none.
+#[derive(Drop)]
+pub struct NoCallbacks;
+
+impl Callbacks for NoCallbacks {
+    ghost meanings = { no_callbacks };
+
+    fn integration_names(&self, alloc: Global) -> Result<Items<Text>, AllocError> {
+        Ok(Items::new(alloc))
+    }
+
+    fn set_up(&self, _options: &mut PlainOptions) -> Result<(), AllocError> {
+        Ok(())
+    }
+
+    fn process_event(
+        &self,
+        _event: &mut Option<Event>,
+        _options: &PlainOptions,
+    ) -> Result<(), AllocError> {
+        Ok(())
+    }
+
+    fn before_send(&self, _event: &mut Option<Event>) -> Result<(), AllocError> {
+        Ok(())
+    }
+}
