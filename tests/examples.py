@@ -58,13 +58,12 @@ def stop_on_strays(inputs):
 
 def stop_without_programs(found):
     """Stops where a program that the examples are for isn't there."""
-    for program in sorted({it.program for it in found}):
-        path = program_path(program)
-        if not os.access(path, os.X_OK):
-            count = sum(1 for it in found if it.program == program)
-            print(f"{path} is not there: rt ci, or rt run in crates/{program}, makes it")
-            print(f"0 passed, {count} failed")
-            sys.exit(1)
+    missing = [it for it in sorted({it.program for it in found}) if not os.access(program_path(it), os.X_OK)]
+    for program in missing:
+        print(f"{program_path(program)} is not there: rt ci, or rt run in crates/{program}, makes it")
+    if missing:
+        print(f"0 passed, {len(found)} failed")
+        sys.exit(1)
 
 
 def find(names):

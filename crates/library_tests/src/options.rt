@@ -230,8 +230,6 @@ fn integrations_replace_those_before(rt: HostRuntime) -> Result<(), Fail> {
         .add_integration(boxed_multiplies(alloc, 3, None)?)?
         .integrations(two)?;
     assert_eq!(rt; options.callbacks.integrations.len(), 2);
-    let options = options.integrations(Vec::new(alloc))?;
-    assert_eq!(rt; options.callbacks.integrations.len(), 0);
     Ok(())
 }
 

@@ -1,9 +1,9 @@
 //! Records: each is equal to its clone, and to no other.
 use sentry_base::protocol::{
     Attachment, Breadcrumb, Category, ClientReport, ClientReportItem, ClientSdkInfo,
-    ClientSdkPackage, Context, DynamicSamplingContext, Envelope, EnvelopeItem, ErrorLink, Event,
-    Exception, Level, Mechanism, Reason, Request, SampleRate, SpanId, SpanStatus, TraceContext,
-    TraceId, User, Uuid,
+    ClientSdkPackage, Context, DynamicSamplingContext, Envelope, EnvelopeItem, Event, Exception,
+    Level, Mechanism, Reason, Request, SampleRate, SpanId, SpanStatus, TraceContext, TraceId, User,
+    Uuid,
 };
 use sentry_plain::{Items, Text, TextMap, Value, ValueMap};
 use std::alloc::{AllocError, Global};
@@ -156,24 +156,6 @@ fn report(alloc: Global, quantity: u64) -> Result<ClientReport, AllocError> {
     })
 }
 
-fn link(alloc: Global, shown: &str) -> Result<ErrorLink, AllocError> {
-    Ok(ErrorLink {
-        debug: Text::new(alloc, "Broken")?,
-        shown: Text::new(alloc, shown)?,
-        quoted: Text::new(alloc, "\"broken\"")?,
-    })
-}
-
-#[test]
-fn events_and_what_goes_with_them_are_their_clones(rt: HostRuntime) -> Result<(), Fail> {
-    let alloc = rt.alloc();
-    assert!(rt; is_its_clone(&event(alloc, "linux")?, &event(alloc, "macos")?)?);
-    assert!(rt; is_its_clone(&attachment(alloc, 1)?, &attachment(alloc, 2)?)?);
-    assert!(rt; is_its_clone(&report(alloc, 1)?, &report(alloc, 2)?)?);
-    assert!(rt; is_its_clone(&link(alloc, "broken")?, &link(alloc, "whole")?)?);
-    Ok(())
-}
-
 /// An envelope of an attachment, two events and a report, with the trace of an event.
 fn envelope(alloc: Global, public_key: &str) -> Result<Envelope, AllocError> {
     let mut envelope = Envelope::new(alloc);
@@ -191,8 +173,11 @@ fn envelope(alloc: Global, public_key: &str) -> Result<Envelope, AllocError> {
 }
 
 #[test]
-fn an_envelope_has_the_id_of_its_first_event(rt: HostRuntime) -> Result<(), Fail> {
+fn events_and_envelopes_are_their_clones(rt: HostRuntime) -> Result<(), Fail> {
     let alloc = rt.alloc();
+    assert!(rt; is_its_clone(&event(alloc, "linux")?, &event(alloc, "macos")?)?);
+    assert!(rt; is_its_clone(&attachment(alloc, 1)?, &attachment(alloc, 2)?)?);
+    assert!(rt; is_its_clone(&report(alloc, 1)?, &report(alloc, 2)?)?);
     let one = envelope(alloc, "public")?;
     assert!(rt; is_its_clone(&one, &envelope(alloc, "other")?)?);
     assert_eq!(rt; one.header.event_id, Some(Uuid::from_bytes([9; 16])));

@@ -1,6 +1,5 @@
-//! Runs of `replay` over streams that fail, and what is told of each fault.
+//! Runs of `replay` over streams that fail.
 use replay_run::{ReplayFault, run_replay};
-use std::alloc::{AllocError, Global};
 use std::io::{BufReader, Error, ErrorKind, Read, Write};
 use std::test::Fail;
 
@@ -44,23 +43,5 @@ fn failed_reads_and_writes_end_the_run(rt: HostRuntime) -> Result<(), Fail> {
     assert!(rt; written.as_slice() == b"refused E2\n".as_slice());
     let mut input: &[u8] = b"client -\nmessage 0 info x\nclient -\n";
     assert!(rt; run_replay(alloc, &mut input, &mut Full) == Err(ReplayFault::InputOutput));
-    Ok(())
-}
-
-fn is_told_as(alloc: Global, fault: ReplayFault, text: &str) -> Result<bool, AllocError> {
-    let told = format!(in alloc; "{fault}")?;
-    Ok(told.as_str() == text)
-}
-
-#[test]
-fn each_fault_has_its_status_and_its_text(rt: HostRuntime) -> Result<(), Fail> {
-    let alloc = rt.alloc();
-    for (fault, status, text) in [
-        (ReplayFault::BadCommand(2), 2, "line 2: bad command"),
-        (ReplayFault::OutOfMemory, 4, "out of memory"),
-        (ReplayFault::InputOutput, 5, "input or output failed"),
-    ] {
-        assert!(rt; fault.status() == status && is_told_as(alloc, fault, text)?);
-    }
     Ok(())
 }

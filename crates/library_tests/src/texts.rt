@@ -144,6 +144,7 @@ fn an_event_has_the_innermost_error_first(rt: HostRuntime) -> Result<(), Fail> {
         link(alloc, "ParseIntError(Empty)", "no digits")?,
         link(alloc, "\"a bare message\"", "a bare message")?,
     ];
+    assert!(rt; links[0].clone()? == links[0] && links[1] != links[0]);
     let event = event_from_error(alloc, &links, Uuid::nil(), 5)?;
     assert!(rt; event.level == Level::Error && event.timestamp == 5);
     let exceptions = event.exception.as_slice();
