@@ -3,10 +3,10 @@ ghost use Rattle.std.specs.Prelude.{◌≡◌, IfOk, option_copied};
 ghost use Rattle.sentry_base.specs.TraceHeaders.{headers_left};
 ghost use Rattle.sentry_state.specs.Scopes.{new_scope, propagation_of, propagation_headers};
 
-mod breadcrumbs;
 mod edit;
 mod fill;
 mod stack;
+mod trail;
 
 pub use edit::ScopeEdit;
 use sentry_base::headers::{TraceHeadersIter, TracePropagationContext};
@@ -16,6 +16,7 @@ use sentry_base::protocol::{
 use sentry_plain::{Items, Shared, Text, TextMap};
 pub use stack::{Stack, StackLayer};
 use std::alloc::{AllocError, Global};
+pub use trail::Trail;
 
 /// What a hub knows about the surroundings of the events that are captured while the scope is its top one.
 pub struct Scope<P> {
@@ -30,7 +31,7 @@ pub struct Scope<P> {
     pub extra: ValueMap,
     pub contexts: TextMap<Context>,
     /// The trail that leads to the next event, oldest first.
-    pub breadcrumbs: Items<Breadcrumb>,
+    pub breadcrumbs: Trail<Breadcrumb>,
     /// Sent along with each event.
     pub attachments: Items<Attachment>,
     /// The trace of events outside of any span.
@@ -73,7 +74,7 @@ impl<P> Scope<P> {
             tags: TextMap::new(alloc),
             extra: ValueMap::new(alloc),
             contexts: TextMap::new(alloc),
-            breadcrumbs: Items::new(alloc),
+            breadcrumbs: Trail::new(alloc),
             attachments: Items::new(alloc),
             trace_id,
             span_id,

@@ -1,11 +1,11 @@
 //! The setters of a scope, and calls of them as values.
 ghost use Rattle.std.specs.Prelude.{◌≡◌, OnOk, OnErr, map, option_map, option_copied};
 ghost use Rattle.sentry_state.specs.declared.scope.edit.ScopeEdit.TheVariants as call;
-ghost use Rattle.sentry_state.specs.Scopes.{edit, edit_all};
+ghost use Rattle.sentry_state.specs.Scopes.{breadcrumb_trail, edit, edit_all};
 
-use crate::scope::Scope;
+use crate::scope::{Scope, Trail};
 use crate::texts::copy_texts;
-use sentry_base::protocol::{Attachment, Context, Level, SpanId, TraceId, User, Value};
+use sentry_base::protocol::{Attachment, Breadcrumb, Context, Level, SpanId, TraceId, User, Value};
 use sentry_plain::{Items, Shared, Text};
 use std::alloc::AllocError;
 
@@ -147,7 +147,21 @@ impl<P: Drop> Scope<P> {
     pub fn clear_breadcrumbs(&mut self)
         ensures { self.new ≡ edit call.ClearBreadcrumbs self.old }
     {
-        self.breadcrumbs = Items::new(self.allocator());
+        self.breadcrumbs = Trail::new(self.allocator());
+    }
+
+    /// Appends breadcrumbs, and keeps the last `max_breadcrumbs` of all. It costs what is added and what is cut.
+    pub fn add_breadcrumbs(
+        &mut self,
+        added: Items<Breadcrumb>,
+        max_breadcrumbs: usize,
+    ) -> Result<(), AllocError>
+        ensures ok { OnOk result (self.new ≡ record self.old {
+          breadcrumbs = breadcrumb_trail max_breadcrumbs self.old.breadcrumbs added;
+        }) }
+        ensures err { OnErr result (self.new ≡ self.old) }
+    {
+        self.breadcrumbs.append(added, max_breadcrumbs)
     }
 
     /// Adds an attachment, after those that the scope has.

@@ -116,7 +116,7 @@ impl<P: Drop> Scope<P> {
     {
         event.level = self.level.unwrap_or(event.level);
         fill_if_absent(&mut event.user, &self.user)?;
-        event.breadcrumbs.append(self.breadcrumbs.clone()?)?;
+        event.breadcrumbs.append(self.breadcrumbs.to_items()?)?;
         self.fill_maps(event)?;
         fill_if_absent(&mut event.transaction, &self.transaction)?;
         self.fill_fingerprint(&mut event.fingerprint)
