@@ -1,5 +1,5 @@
 use Rattle.std.proofs.Common.{◌≡◌, map, take}
-use Rattle.sentry_state.proofs.clientoptions.builders.copy_texts.Given as goal
+use Rattle.sentry_state.proofs.texts.copy_texts.Given as goal
 
 -- the copies so far
 abbrev pub invariant-loop-text : goal.invariant-loop-text
