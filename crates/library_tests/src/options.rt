@@ -4,15 +4,13 @@ use crate::engines::DSN;
 use sentry_core::protocol::{OrganizationId, Refusal};
 use sentry_core::types::ParseDsnError;
 use sentry_core::{
-    ClientOptions, EventSamplingStrategy, MaxRequestBodySize, PlainOptions, SessionMode,
-    TracesSamplingStrategy,
+    ClientOptions, EventSamplingStrategy, MaxRequestBodySize, SessionMode, TracesSamplingStrategy,
 };
 use sentry_plain::Text;
-use std::alloc::Global;
 use std::test::Fail;
 
 /// The options that are on or off.
-fn switches(options: &PlainOptions) -> [bool; 9] {
+fn switches(options: &ClientOptions) -> [bool; 9] {
     [
         options.debug,
         options.strict_trace_continuation,
@@ -30,6 +28,7 @@ fn switches(options: &PlainOptions) -> [bool; 9] {
 #[derive(Clone, Copy, Debug, PartialEq)]
 struct Choices {
     event_rate: u32,
+    traces_rate: Option<u32>,
     org_id: Option<OrganizationId>,
     max_breadcrumbs: usize,
     shutdown_timeout: u64,
@@ -38,10 +37,14 @@ struct Choices {
     session_mode: SessionMode,
 }
 
-fn choices_of(options: &PlainOptions) -> Choices {
+fn choices_of(options: &ClientOptions) -> Choices {
     let EventSamplingStrategy::FixedRate(rate) = options.event_sampling_strategy;
     Choices {
         event_rate: rate.millionths(),
+        traces_rate: match &options.traces_sampling_strategy {
+            TracesSamplingStrategy::FixedRate(rate) => Some(rate.millionths()),
+            TracesSamplingStrategy::Disabled => None,
+        },
         org_id: options.org_id,
         max_breadcrumbs: options.max_breadcrumbs,
         shutdown_timeout: options.shutdown_timeout,
@@ -51,36 +54,40 @@ fn choices_of(options: &PlainOptions) -> Choices {
     }
 }
 
-fn text_of(text: &Option<Text>) -> &str {
+/// How many prefixes of modules and integrations there are.
+fn lengths(options: &ClientOptions) -> [usize; 3] {
+    [
+        options.in_app_include.len(),
+        options.in_app_exclude.len(),
+        options.callbacks.integrations.len(),
+    ]
+}
+
+fn text_of(text: Option<&Text>) -> &str {
     match text {
         Some(text) => text.as_str(),
         None => "-",
     }
 }
 
-/// The options that are texts, `-` for none.
-fn texts(options: &PlainOptions) -> [&str; 7] {
+/// The options that are texts, and the last prefixes of modules; `-` for none.
+fn texts(options: &ClientOptions) -> [&str; 9] {
     [
         options.dsn.as_ref().map_or("-", |dsn| dsn.text()),
-        text_of(&options.release),
-        text_of(&options.environment),
-        text_of(&options.server_name),
-        text_of(&options.http_proxy),
-        text_of(&options.https_proxy),
+        text_of(options.release.as_ref()),
+        text_of(options.environment.as_ref()),
+        text_of(options.server_name.as_ref()),
+        text_of(options.http_proxy.as_ref()),
+        text_of(options.https_proxy.as_ref()),
         options.user_agent.as_str(),
+        text_of(options.in_app_include.as_slice().last()),
+        text_of(options.in_app_exclude.as_slice().last()),
     ]
-}
-
-/// The rate of traces, if one is set.
-fn traces_rate(options: &ClientOptions) -> Option<u32> {
-    match &options.traces_sampling_strategy {
-        TracesSamplingStrategy::FixedRate(rate) => Some(rate.millionths()),
-        TracesSamplingStrategy::Disabled => None,
-    }
 }
 
 const DEFAULTS: Choices = Choices {
     event_rate: 1000000,
+    traces_rate: None,
     org_id: None,
     max_breadcrumbs: 100,
     shutdown_timeout: 2000000000,
@@ -92,16 +99,12 @@ const DEFAULTS: Choices = Choices {
 #[test]
 fn options_of_which_nothing_was_set(rt: HostRuntime) -> Result<(), Fail> {
     let options = ClientOptions::new(rt.alloc());
-    assert_eq!(rt;
-        texts(&options),
-        ["-", "-", "-", "-", "-", "-", "sentry.rust/0.49.3"]
-    );
+    let expected = ["-", "-", "-", "-", "-", "-", "sentry.rust/0.49.3", "-", "-"];
+    assert_eq!(rt; texts(&options), expected);
     let expected = [false, false, false, false, true, true, true, false, false];
     assert_eq!(rt; switches(&options), expected);
     assert_eq!(rt; choices_of(&options), DEFAULTS);
-    assert_eq!(rt; traces_rate(&options), None);
-    assert!(rt; options.in_app_include.is_empty() && options.in_app_exclude.is_empty());
-    assert!(rt; options.callbacks.integrations.is_empty());
+    assert_eq!(rt; lengths(&options), [0; 3]);
     assert!(rt; options.callbacks.before_send.is_none());
     Ok(())
 }
@@ -121,7 +124,6 @@ fn texts_are_set(rt: HostRuntime) -> Result<(), Fail> {
         .in_app_include(&["app", "lib"])?
         .in_app_exclude(&["vendored"])?
         .maybe_release(None)?;
-    let copy = options.clone()?;
     let expected = [
         DSN,
         "app@1",
@@ -130,15 +132,15 @@ fn texts_are_set(rt: HostRuntime) -> Result<(), Fail> {
         "http://proxy",
         "https://proxy",
         "agent/1",
+        "lib",
+        "vendored",
     ];
     assert_eq!(rt; texts(&options), expected);
+    assert_eq!(rt; lengths(&options), [2, 1, 0]);
+    let copy = options.clone()?;
     assert_eq!(rt; texts(&copy), expected);
-    let prefixes = copy.in_app_include.as_slice();
-    assert_eq!(rt; prefixes.len(), 2);
-    assert!(rt; prefixes[0].as_str() == "app" && prefixes[1].as_str() == "lib");
-    assert_eq!(rt; copy.in_app_exclude.len(), 1);
     let options = options.maybe_release(Some("app@2"))?;
-    assert_eq!(rt; text_of(&options.release), "app@2");
+    assert_eq!(rt; texts(&options)[1], "app@2");
     Ok(())
 }
 
@@ -166,6 +168,7 @@ fn switches_and_choices_are_set(rt: HostRuntime) -> Result<(), Fail> {
     assert_eq!(rt; switches(&options), expected);
     let expected = Choices {
         event_rate: 250000,
+        traces_rate: Some(0),
         org_id: Some(OrganizationId(42)),
         max_breadcrumbs: 2,
         shutdown_timeout: 5,
@@ -175,7 +178,6 @@ fn switches_and_choices_are_set(rt: HostRuntime) -> Result<(), Fail> {
         session_mode: SessionMode::Request,
     };
     assert_eq!(rt; choices_of(&options), expected);
-    assert_eq!(rt; traces_rate(&options), Some(0));
     let options = options.transport_channel_capacity(42);
     assert_eq!(rt; choices_of(&options).capacity, Some(42));
     Ok(())
@@ -213,9 +215,10 @@ fn what_is_read_as_no_dsn_takes_it_away(rt: HostRuntime) -> Result<(), Fail> {
     assert_eq!(rt; texts(&options)[0], DSN);
     let options = options.with_dsn("http://key@host/2")?;
     assert_eq!(rt; texts(&options)[0], "http://key@host/2");
-    assert!(rt; options.with_dsn(())?.dsn.is_none());
+    let options = options.with_dsn(())?;
+    assert_eq!(rt; texts(&options)[0], "-");
     let options: ClientOptions = ClientOptions::from_dsn(alloc, "")?;
-    assert!(rt; options.dsn.is_none());
+    assert_eq!(rt; texts(&options)[0], "-");
     Ok(())
 }
 
@@ -229,7 +232,7 @@ fn integrations_replace_those_before(rt: HostRuntime) -> Result<(), Fail> {
     let options = ClientOptions::new(alloc)
         .add_integration(boxed_multiplies(alloc, 3, None)?)?
         .integrations(two)?;
-    assert_eq!(rt; options.callbacks.integrations.len(), 2);
+    assert_eq!(rt; lengths(&options)[2], 2);
     Ok(())
 }
 
