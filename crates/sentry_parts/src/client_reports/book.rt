@@ -10,8 +10,8 @@ use sentry_plain::Items;
 use std::alloc::{AllocError, Global};
 use std::marker::Model;
 
-/// The losses that are still to be reported. A contract holds for every history of records, absorbs and reports that the
-/// book may stand for.
+/// The losses that are still to be reported. Each contract holds for every history of records, absorbs and reports that
+/// the book may stand for.
 #[derive(Drop)]
 pub struct LossBook {
     pending: Losses,
