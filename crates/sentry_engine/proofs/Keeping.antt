@@ -6,7 +6,9 @@ use Rattle.std.specs.declared.cmp.Ordering.{Ordering}
 use Rattle.std.specs.declared.cmp.Ordering.TheVariants.{Less, Equal, Greater}
 use Rattle.std.specs.Ordering.{match_ordering, nat_cmp}
 use Rattle.std.specs.BTreeMap.{is_at}
-use Rattle.sentry_plain.specs.Tables.{value_at, put, replace_at}
+use Rattle.std.specs.Cmp.{nat_cmp_is}
+use Rattle.std.specs.Ordering.{is_eq}
+use Rattle.sentry_plain.specs.Tables.{value_at, put, replace_at, without}
 use Rattle.sentry_parts.specs.LossBooks.{Book, LossEntry, book_of}
 use Rattle.sentry_engine.specs.declared.engine.Client.{Client}
 use Rattle.sentry_engine.specs.declared.engine.Engine.{Engine}
@@ -89,23 +91,32 @@ module _ {X : Type 0} where
   replace_absent [] n x h = refl
   replace_absent (e ∷ es) n x h = replace_absent-at (is_at (nat_cmp n) e.0) e es (replace_at es n x) (value_at es n) x h (replace_absent es n x)
 
+nat_cmp-same : (n : ℕ) → Equal ≡ nat_cmp n n
+nat_cmp-same n = nat_cmp_is n n Equal refl
+
 module _ {X : Type 0} where
-  without_put-at : (o : Ordering) (b : Bool) (n : ℕ) (e : ℕ × X) (es rest : List (ℕ × X)) (x : X) → b ≡ false
-      → without ((n, x) ∷ e ∷ es) n ≡ e ∷ es → without (e ∷ rest) n ≡ e ∷ es → o ≢ Equal
-      → without (match_ordering o ((n, x) ∷ e ∷ es) ((e.0, x) ∷ es) (e ∷ rest)) n ≡ e ∷ es
-  without_put-at Less b n e es rest x h first other ne = first
-  without_put-at Equal b n e es rest x h first other ne = absurd (ne refl)
-  without_put-at Greater b n e es rest x h first other ne = other
+  without_put-at : (o : Ordering) (e : ℕ × X) (es : List (ℕ × X)) (n : ℕ) (x : X) → nat_cmp n e.0 ≡ o
+      → cond (is_eq o) (Some e.1) (value_at es n) ≡ None → (value_at es n ≡ None → without (put es n x) n ≡ es)
+      → without (match_ordering o ((n, x) ∷ e ∷ es) ((e.0, x) ∷ es) (e ∷ put es n x)) n ≡ e ∷ es
+  without_put-at Less e es n x q h rest = ap (λ o. cond (is_eq o) (e ∷ es) ((n, x) ∷ without (e ∷ es) n)) (sym (nat_cmp-same n))
+  without_put-at Equal e es n x q h rest = cc
+  without_put-at Greater e es n x q h rest =
+      ap (λ o. cond (is_eq o) (put es n x) (e ∷ without (put es n x) n)) q ∙ ap (λ l. e ∷ l) (rest h)
+
+  -- a table without a number that was not there is as it was before the number was put in
+  pub without_put : (m : List (ℕ × X)) (n : ℕ) (x : X) → value_at m n ≡ None → without (put m n x) n ≡ m
+  without_put [] n x h = ap (λ o. cond (is_eq o) [] ((n, x) ∷ [])) (sym (nat_cmp-same n))
+  without_put (e ∷ es) n x h = without_put-at (nat_cmp n e.0) e es n x refl h (without_put es n x)
+
+no_history : (o : Option (List LossEntry)) → None ≡ option_map book_of o → o ≡ None
+no_history None e = refl
+no_history (Some history) e = cc
+
+some_history : (o : Option (List LossEntry)) (book : Book) → Some book ≡ option_map book_of o → book ≡ book_of (unwrap_or o [])
+some_history None book e = cc
+some_history (Some history) book e = cc
 
 module _ {P C : Type 0} where
-  no_history : (o : Option (List LossEntry)) → None ≡ option_map book_of o → o ≡ None
-  no_history None e = refl
-  no_history (Some history) e = cc
-
-  some_history : (o : Option (List LossEntry)) (book : Book) → Some book ≡ option_map book_of o → book ≡ book_of (unwrap_or o [])
-  some_history None book e = cc
-  some_history (Some history) book e = cc
-
   -- where a label has no book, the engine stands for the world with an entry for it
   pub entry_absent : (engine : Engine P C) (world : World P C) → Stands engine world → (n : ℕ) (entry : LossEntry)
       → value_at engine.books n ≡ None → engine.books ≡ map_values book_of (replace_at world.books n (entry ∷ unwrap_or (value_at world.books n) []))
