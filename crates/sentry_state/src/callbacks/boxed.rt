@@ -1,5 +1,5 @@
-//! Callbacks in boxes, so that one client or scope can have callbacks of several types. The instances stand beside their
-//! traits, since another crate may not write them. Nothing else below the top crate uses boxes.
+//! Callbacks in boxes, so that one client or scope can have callbacks of several types. The instances stand beside
+//! their traits, since another crate may not write them. Nothing else below the top crate uses boxes.
 use crate::callbacks::{EventCallback, Integration};
 use crate::clientoptions::PlainOptions;
 use sentry_base::protocol::Event;
