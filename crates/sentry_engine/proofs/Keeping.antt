@@ -1,7 +1,7 @@
 -- What an engine finds and stores is what the world has, without the histories.
 use Rattle.std.proofs.Common.{◌≡◌, refl, ap, ◌∙◌, sym, ℕ, List, [], ◌∷◌, Bool, true, false, cond}
 use Rattle.std.specs.Prelude.{Option, Some, None, nat_eq, unwrap_or}
-use Rattle.std.specs.Option.{option_map}
+use Rattle.std.specs.Option.{option_map, is_some, option_and_then}
 use Rattle.std.specs.declared.cmp.Ordering.{Ordering}
 use Rattle.std.specs.declared.cmp.Ordering.TheVariants.{Less, Equal, Greater}
 use Rattle.std.specs.Ordering.{match_ordering, nat_cmp}
@@ -9,7 +9,16 @@ use Rattle.std.specs.BTreeMap.{is_at}
 use Rattle.std.specs.Cmp.{nat_cmp_is}
 use Rattle.std.specs.Ordering.{is_eq}
 use Rattle.sentry_plain.specs.Tables.{value_at, put, replace_at, without}
-use Rattle.sentry_parts.specs.LossBooks.{Book, LossEntry, book_of}
+use Rattle.sentry_base.specs.declared.protocol.event.Event.{Event}
+use Rattle.sentry_base.specs.declared.protocol.keys.Label.{Label}
+use Rattle.sentry_base.specs.declared.protocol.losses.Reason.{Reason}
+use Rattle.sentry_parts.specs.LossBooks.{Book, LossEntry, book_of, pending_losses, report_items, report_of}
+use Rattle.sentry_parts.specs.Pipeline.{loss_reason}
+use Rattle.sentry_parts.specs.declared.pipeline.Preparation.{Preparation}
+use Rattle.sentry_parts.specs.declared.pipeline.Preparation.TheVariants.{Kept, SampledOut, Dropped}
+use Rattle.sentry_parts.specs.declared.pipeline.Place.TheVariants.{EventProcessor, Integration, BeforeSend}
+use Rattle.sentry_engine.specs.Books.{with_book, pending_report}
+use Rattle.sentry_engine.specs.Captures.{event_to_send}
 use Rattle.sentry_engine.specs.declared.engine.Client.{Client}
 use Rattle.sentry_engine.specs.declared.engine.Engine.{Engine}
 use Rattle.sentry_engine.specs.Worlds.{World, ClientState, plain_client, map_values, Stands}
@@ -18,6 +27,10 @@ module _ {X Y : Type 0} (f : X → Y) where
   option_map-cond : (b : Bool) (x y : Option X) → cond b (option_map f x) (option_map f y) ≡ option_map f (cond b x y)
   option_map-cond true x y = refl
   option_map-cond false x y = refl
+
+  is_some-option_map : (o : Option X) → is_some (option_map f o) ≡ is_some o
+  is_some-option_map None = refl
+  is_some-option_map (Some x) = refl
 
   map_values-match : (o : Ordering) (x y z : List (ℕ × X))
       → map_values f (match_ordering o x y z) ≡ match_ordering o (map_values f x) (map_values f y) (map_values f z)
@@ -47,6 +60,31 @@ module _ {X Y : Type 0} (f : X → Y) where
       map_values-cond (is_at (nat_cmp n) c.0) _ _
       ∙ ap (λ rest. cond (is_at (nat_cmp n) c.0) ((c.0, f x) ∷ map_values f cs) ((c.0, f c.1) ∷ rest)) (replace_at-map_values cs n x)
 
+report_of_book : (o : Option (List LossEntry)) (book : Book) → Some book ≡ option_map book_of o
+    → report_of (report_items book.pending) ≡ option_and_then (λ history. report_of (report_items (pending_losses history))) o
+report_of_book None book e = cc
+report_of_book (Some history) book e = let is : book ≡ book_of history = cc in ap (λ b. report_of (report_items b.pending)) is
+
+no_report : (o : Option (List LossEntry)) → None ≡ option_map book_of o
+    → None ≡ option_and_then (λ history. report_of (report_items (pending_losses history))) o
+no_report None e = refl
+no_report (Some history) e = cc
+
+-- an event that is not lost is the one that is to be sent
+pub kept_is_sent : (preparation : Preparation) (event : Option Event) → loss_reason preparation ≡ None → event_to_send preparation event ≡ event
+kept_is_sent Kept event e = refl
+kept_is_sent SampledOut event e = cc
+kept_is_sent (Dropped EventProcessor) event e = cc
+kept_is_sent (Dropped Integration) event e = cc
+kept_is_sent (Dropped BeforeSend) event e = cc
+
+-- an event that is lost is not to be sent
+pub lost_is_unsent : (preparation : Preparation) (event : Option Event) (why : Reason) → loss_reason preparation ≡ Some why
+    → event_to_send preparation event ≡ None
+lost_is_unsent Kept event why e = cc
+lost_is_unsent SampledOut event why e = refl
+lost_is_unsent (Dropped place) event why e = refl
+
 module _ {P C : Type 0} where
   -- the client that the engine finds, in a world that it stands for
   pub found_in_world : (engine : Engine P C) (world : World P C) → Stands engine world → (n : ℕ)
@@ -64,11 +102,42 @@ module _ {P C : Type 0} where
       → value_at engine.books n ≡ option_map book_of (value_at world.books n)
   book_in_world engine world s n = ap (λ books. value_at books n) s.books ∙ value_at-map_values book_of world.books n
 
-  -- an engine with a new book stands for the world with a new book
+  -- the engine has a book where the world has one
+  pub has_book_in_world : (engine : Engine P C) (world : World P C) → Stands engine world → (n : ℕ)
+      → is_some (value_at engine.books n) ≡ is_some (value_at world.books n)
+  has_book_in_world engine world s n =
+      ap is_some (book_in_world engine world s n) ∙ is_some-option_map book_of (value_at world.books n)
+
+  -- a change that leaves the books alone, where there was a book
+  pub stands_with_same_books : (old : Engine P C) (world : World P C) → Stands old world → (n : ℕ)
+      → is_some (value_at old.books n) ≡ true → (new : Engine P C) (after : World P C) → world.books ≡ after.books
+      → Stands new after → Stands new (record after { books = with_book world.books n })
+  stands_with_same_books old world s n has new after same t = record {
+    tag = t.tag;
+    next = t.next;
+    clients = t.clients;
+    hubs = t.hubs;
+    books =
+      t.books ∙ ap (map_values book_of) (sym same)
+      ∙ ap (λ b. map_values book_of (cond b world.books (put world.books n []))) (sym has ∙ has_book_in_world old world s n);
+  }
+
+  -- where it has none, its books and a new one do
   pub new_book_in_world : (engine : Engine P C) (world : World P C) → Stands engine world → (n : ℕ)
-      → put engine.books n (book_of []) ≡ map_values book_of (put world.books n [])
-  new_book_in_world engine world s n =
+      → is_some (value_at engine.books n) ≡ false → put engine.books n (book_of []) ≡ map_values book_of (with_book world.books n)
+  new_book_in_world engine world s n has =
       ap (λ books. put books n (book_of [])) s.books ∙ sym (put-map_values book_of world.books n [])
+      ∙ ap (λ b. map_values book_of (cond b world.books (put world.books n []))) (sym has ∙ has_book_in_world engine world s n)
+
+  -- the report of a book that the engine has
+  pub report_in_world : (engine : Engine P C) (world : World P C) → Stands engine world → (label : Label) (book : Book)
+      → Some book ≡ value_at engine.books label.number → report_of (report_items book.pending) ≡ pending_report world label
+  report_in_world engine world s label book h = report_of_book (value_at world.books label.number) book (h ∙ book_in_world engine world s label.number)
+
+  -- there is no report where the engine has no book
+  pub no_report_in_world : (engine : Engine P C) (world : World P C) → Stands engine world → (label : Label)
+      → None ≡ value_at engine.books label.number → None ≡ pending_report world label
+  no_report_in_world engine world s label h = no_report (value_at world.books label.number) (h ∙ book_in_world engine world s label.number)
 
 module _ {X : Type 0} where
   changed_same-at : (b : Bool) (e : ℕ × X) (es rest : List (ℕ × X)) (o : Option X) (x : X)

@@ -1,5 +1,5 @@
 -- The books of losses, one for each label of a client.
-use Rattle.std.specs.Prelude.{◌==◌, Bool, ◌&&◌, Option, Some, None, [], ◌∷◌, unwrap_or, if◌then◌else◌}
+use Rattle.std.specs.Prelude.{ℕ, List, ◌==◌, Bool, ◌&&◌, Option, Some, None, [], ◌∷◌, unwrap_or, if◌then◌else◌}
 use Rattle.std.specs.Option.{is_some, option_and_then}
 use Rattle.sentry_plain.specs.Tables.{value_at, put, replace_at}
 use Rattle.sentry_base.specs.Envelopes.{with_item}
@@ -14,6 +14,10 @@ use Rattle.sentry_engine.specs.Worlds.{World}
 abbrev pub with_report : Option ClientReport → Envelope → Envelope
 with_report None envelope = envelope
 with_report (Some report) envelope = with_item envelope (item.ClientReport report)
+
+-- the books with one under a label's number: as they are where there is one, and else with a new one
+abbrev pub with_book : List (ℕ × List LossEntry) → ℕ → List (ℕ × List LossEntry)
+with_book books number = if is_some (value_at books number) then books else put books number []
 
 module _ {P C : Type 0} where
   -- the world has a book for the label
@@ -35,9 +39,3 @@ module _ {P C : Type 0} where
   abbrev pub with_entry_if_any : World P C → Label → Option LossEntry → World P C
   with_entry_if_any world label None = world
   with_entry_if_any world label (Some entry) = with_entry world label entry
-
-  -- the world with a book for the label: as it is where it has one, and else with a new one
-  abbrev pub with_book : World P C → Label → World P C
-  with_book world label =
-      if is_some (value_at world.books label.number) then world
-      else record world { books = put world.books label.number [] }

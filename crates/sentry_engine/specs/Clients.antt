@@ -32,14 +32,15 @@ module _ {P C : Type 0} where
   add_client meanings options transport label world =
       require ForeignLosses world (label.tag == world.tag)
       (require Full world (nat_lt world.next.client (2 ^ 64 - 1))
-      (reply_with (record { tag = world.tag; number = world.next.client }) [] (with_book (record world {
+      (reply_with (record { tag = world.tag; number = world.next.client }) [] (record world {
         next = record world.next { client = world.next.client + 1 };
         clients = put world.clients world.next.client (record {
           options = record options { plain = set_up_all (meanings options.callbacks).integrations options.plain };
           label = label;
           occupied = is_some options.plain.dsn && transport;
         });
-      }) label)))
+        books = with_book world.books label.number;
+      })))
 
   -- the options of a client
   unfoldable pub options : ClientKey → World P C → Outcome P C (ClientOptions C)
@@ -82,5 +83,6 @@ module _ {P C : Type 0} where
   send_envelope key envelope world =
       require_some Stale world (plain_client_at world key) (λ client.
       if client.occupied
-      then reply_with tt ((key, with_report (pending_report world client.label) envelope) ∷ []) (with_entry world client.label report_point)
+      then reply_with tt ((key, with_report (pending_report world client.label) envelope) ∷ [])
+          (with_entry world client.label report_point)
       else reply_with tt [] world)

@@ -17,15 +17,18 @@ use std::alloc::AllocError;
 
 impl<P: EventCallback + Drop, C: Callbacks> Engine<P, C> {
     // Whether a client names the label.
-    #[tactic(auto, using(crate::proofs::Keeping::book_in_world))]
+    #[tactic(auto, using(crate::proofs::Keeping::has_book_in_world))]
     fn has_book(&self, label: Label) -> bool
         ensures { (world : World P C) → Stands self.now world → result ≡ has_book world label }
     {
-        label.tag == self.tag && self.books.get(label.number).is_some()
+        if label.tag != self.tag {
+            return false;
+        }
+        self.books.get(label.number).is_some()
     }
 
     // The report of what is pending under a label, if anything is.
-    #[tactic(auto, using(crate::proofs::Keeping::book_in_world))]
+    #[tactic(auto, using(crate::proofs::Keeping::report_in_world, crate::proofs::Keeping::no_report_in_world))]
     pub(super) fn pending_report(&self, label: Label) -> Result<Option<ClientReport>, AllocError>
         ensures { IfOk result (λ report. (world : World P C) → Stands self.now world → report ≡ pending_report world label) }
     {

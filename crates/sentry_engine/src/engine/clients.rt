@@ -49,18 +49,21 @@ impl<P: EventCallback + Drop, C: Callbacks> Engine<P, C> {
     }
 
     // Holds a client under a number, and a book for its label, if there is none yet.
-    #[tactic(auto, using(crate::proofs::Keeping::stored_in_world, crate::proofs::Keeping::book_in_world,
+    #[tactic(auto, using(crate::proofs::Keeping::stored_in_world,
         crate::proofs::Keeping::new_book_in_world, crate::proofs::Keeping::without_put))]
     fn insert_client_and_book(&mut self, number: u64, client: Client<C>) -> Result<(), AllocError>
         ensures in_world { OnOk result ((world : World P C) (state : ClientState C) → Stands self.old world →
-            client ≡ plain_client state → Stands self.new
-                (with_book (record world { clients = put world.clients number state }) client.label)) }
+            client ≡ plain_client state → Stands self.new (record world {
+              clients = put world.clients number state;
+              books = with_book world.books client.label.number;
+            })) }
         ensures rest { OnOk result ((self.new.tag ≡ self.old.tag) × (self.new.next ≡ self.old.next)) }
         ensures err { OnErr result (self.new ≡ self.old) }
     {
         let label = client.label.number;
         if self.books.get(label).is_some() {
-            return self.insert_client(number, client);
+            self.insert_client(number, client)?;
+            return Ok(());
         }
         self.books.insert(label, LossBook::new())?;
         match self.clients.insert(number, client) {
@@ -191,7 +194,8 @@ impl<P: EventCallback + Drop, C: Callbacks> Engine<P, C> {
     /// sent; then it counts as lost.
     ///
     /// `Stale`: the client isn't held. `OutOfMemory`.
-    #[tactic(auto, unfolding(crate::specs::Clients::prepare_event))]
+    #[tactic(auto, unfolding(crate::specs::Clients::prepare_event),
+        using(crate::proofs::Keeping::kept_is_sent, crate::proofs::Keeping::lost_is_unsent))]
     pub fn prepare_event(
         &mut self,
         client: ClientKey,
