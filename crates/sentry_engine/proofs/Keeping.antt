@@ -118,8 +118,8 @@ module _ {P C : Type 0} where
     clients = t.clients;
     hubs = t.hubs;
     books =
-      t.books ∙ ap (map_values book_of) (sym same)
-      ∙ ap (λ b. map_values book_of (cond b world.books (put world.books n []))) (sym has ∙ has_book_in_world old world s n);
+        t.books ∙ ap (map_values book_of) (sym same)
+        ∙ ap (λ b. map_values book_of (cond b world.books (put world.books n []))) (sym has ∙ has_book_in_world old world s n);
   }
 
   -- where it has none, its books and a new one do

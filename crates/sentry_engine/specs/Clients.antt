@@ -84,5 +84,5 @@ module _ {P C : Type 0} where
       require_some Stale world (plain_client_at world key) (λ client.
       if client.occupied
       then reply_with tt ((key, with_report (pending_report world client.label) envelope) ∷ [])
-          (with_entry world client.label report_point)
+      (with_entry world client.label report_point)
       else reply_with tt [] world)

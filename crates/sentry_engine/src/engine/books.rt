@@ -94,7 +94,11 @@ impl<P: EventCallback + Drop, C: Callbacks> Engine<P, C> {
 
     // The same as `absorb`, of plain numbers.
     #[tactic(auto, unfolding(crate::specs::Losses::absorb))]
-    pub(crate) fn absorb_losses(&mut self, label: Label, losses: &Losses) -> Result<Out<()>, Refusal>
+    pub(crate) fn absorb_losses(
+        &mut self,
+        label: Label,
+        losses: &Losses,
+    ) -> Result<Out<()>, Refusal>
         ensures { DoesWithoutMemory self.old self.new result (call.absorb label losses.now.quantities) }
     {
         if !self.has_book(label) {

@@ -30,7 +30,7 @@ pub(super) fn capture<P: EventCallback + Drop, C: Callbacks>(
 ) -> Result<Option<Preparation>, AllocError>
     ensures entry { (given : Event) → event.old ≡ Some given → IfOk result (λ preparation.
         option_map (λ p. capture_entry (loss_reason p)) preparation
-            ≡ (capture P.gives C.meanings client.now (option_copied scope.entry) fresh given).entry) }
+        ≡ (capture P.gives C.meanings client.now (option_copied scope.entry) fresh given).entry) }
     ensures event { (given : Event) → event.old ≡ Some given → OnOk result (event.new ≡
         (capture P.gives C.meanings client.now (option_copied scope.entry) fresh given).event) }
 {

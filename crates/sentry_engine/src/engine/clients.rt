@@ -49,8 +49,7 @@ impl<P: EventCallback + Drop, C: Callbacks> Engine<P, C> {
     }
 
     // Holds a client under a number, and a book for its label, if there is none yet.
-    #[tactic(auto, using(crate::proofs::Keeping::stored_in_world,
-        crate::proofs::Keeping::new_book_in_world, crate::proofs::Keeping::without_put))]
+    #[tactic(auto, using(crate::proofs::Keeping::stored_in_world, crate::proofs::Keeping::new_book_in_world, crate::proofs::Keeping::without_put))]
     fn insert_client_and_book(&mut self, number: u64, client: Client<C>) -> Result<(), AllocError>
         ensures in_world { OnOk result ((world : World P C) (state : ClientState C) → Stands self.old world →
             client ≡ plain_client state → Stands self.new (record world {
@@ -194,8 +193,7 @@ impl<P: EventCallback + Drop, C: Callbacks> Engine<P, C> {
     /// sent; then it counts as lost.
     ///
     /// `Stale`: the client isn't held. `OutOfMemory`.
-    #[tactic(auto, unfolding(crate::specs::Clients::prepare_event),
-        using(crate::proofs::Keeping::kept_is_sent, crate::proofs::Keeping::lost_is_unsent))]
+    #[tactic(auto, unfolding(crate::specs::Clients::prepare_event), using(crate::proofs::Keeping::kept_is_sent, crate::proofs::Keeping::lost_is_unsent))]
     pub fn prepare_event(
         &mut self,
         client: ClientKey,
