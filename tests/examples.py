@@ -58,7 +58,7 @@ def stop_on_strays(inputs):
 
 def stop_without_programs(found):
     """Stops where a program that the examples are for isn't there."""
-    missing = [it for it in PROGRAMS if it in {one.program for one in found} and not os.access(program_path(it), os.X_OK)]
+    missing = [it for it in sorted({it.program for it in found}) if not os.access(program_path(it), os.X_OK)]
     for program in missing:
         print(f"{program_path(program)} is not there: rt ci, or rt run in crates/{program}, makes it")
     if missing:

@@ -108,19 +108,19 @@ impl Integration for Hides {
 }
 
 /// A callback that adds to the moment, or, at 0, is refused its memory.
-pub fn boxed_adds(alloc: Global, number: u64) -> Result<BoxedEventCallback, AllocError> {
+pub(crate) fn boxed_adds(alloc: Global, number: u64) -> Result<BoxedEventCallback, AllocError> {
     let callback: BoxedEventCallback = Box::new(alloc, Adds(number))?;
     Ok(callback)
 }
 
 /// A callback that drops every event.
-pub fn boxed_drops(alloc: Global) -> Result<BoxedEventCallback, AllocError> {
+pub(crate) fn boxed_drops(alloc: Global) -> Result<BoxedEventCallback, AllocError> {
     let callback: BoxedEventCallback = Box::new(alloc, Drops)?;
     Ok(callback)
 }
 
 /// An integration that gives the options this DSN, and multiplies the moment or, by 0, is refused its memory.
-pub fn boxed_multiplies(
+pub(crate) fn boxed_multiplies(
     alloc: Global,
     factor: u64,
     dsn: Option<Dsn>,
@@ -130,7 +130,7 @@ pub fn boxed_multiplies(
 }
 
 /// An integration that takes the release from the options, and drops every event.
-pub fn boxed_hides(alloc: Global) -> Result<BoxedIntegration, AllocError> {
+pub(crate) fn boxed_hides(alloc: Global) -> Result<BoxedIntegration, AllocError> {
     let integration: BoxedIntegration = Box::new(alloc, Hides)?;
     Ok(integration)
 }

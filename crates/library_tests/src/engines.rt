@@ -17,17 +17,17 @@ pub const DSN: &str = "https://public@sentry.invalid/1";
 const LABEL: Label = Label { tag: 0, number: 0 };
 
 /// A scope that sets nothing.
-pub fn scope(alloc: Global) -> Scope {
+pub(crate) fn scope(alloc: Global) -> Scope {
     Scope::new(alloc, TraceId([7; 16]), SpanId([8; 8]))
 }
 
 /// The id of which every byte is this one.
-pub fn id(byte: u8) -> Uuid {
+pub(crate) fn id(byte: u8) -> Uuid {
     Uuid::from_bytes([byte; 16])
 }
 
 /// What a call is handed at a moment: ids of that number.
-pub fn fresh(number: u8) -> Fresh {
+pub(crate) fn fresh(number: u8) -> Fresh {
     Fresh {
         now: number as u64,
         uuid: id(number),

@@ -1,9 +1,9 @@
 //! Scopes, and the pipeline of an event over boxed callbacks.
 use crate::callbacks::{boxed_adds, boxed_drops, boxed_hides};
-use crate::engines::{DSN, fresh, id, scope};
+use crate::engines::{DSN, id, scope};
 use sentry_core::protocol::{Event, Refusal, Uuid};
 use sentry_core::{ClientOptions, Level, Scope, ScopeEdit};
-use sentry_parts::pipeline::{Place, Prepared, prepare_event};
+use sentry_parts::pipeline::{Place, prepare_event};
 use sentry_plain::{Items, Text};
 use std::alloc::Global;
 use std::test::Fail;
@@ -44,17 +44,15 @@ fn a_scope_is_what_its_setters_made(rt: HostRuntime) -> Result<(), Fail> {
     Ok(())
 }
 
-/// The id of the event that comes out of the pipeline, or the place that dropped it. It goes in without an id.
+/// The place that dropped an event, if one did, and the id of what came out of the pipeline. It went in without an id.
 fn prepared(
     alloc: Global,
     options: &ClientOptions,
     scope: &Scope,
-) -> Result<Result<Uuid, Place>, Refusal> {
-    let event = Event::new(alloc, Uuid::nil(), 1)?;
-    match prepare_event(alloc, options, scope, fresh(5).uuid, event)? {
-        Prepared::Kept(event) => Ok(Ok(event.event_id)),
-        Prepared::Dropped(place) => Ok(Err(place)),
-    }
+) -> Result<(Option<Place>, Option<Uuid>), Refusal> {
+    let mut event = Some(Event::new(alloc, Uuid::nil(), 1)?);
+    let place = prepare_event(alloc, options, scope, id(5), &mut event)?;
+    Ok((place, event.as_ref().map(|event| event.event_id)))
 }
 
 #[test]
@@ -62,15 +60,21 @@ fn a_dropped_event_tells_the_place(rt: HostRuntime) -> Result<(), Fail> {
     let alloc = rt.alloc();
     let mut scope = scope(alloc);
     let options = ClientOptions::from_dsn(alloc, DSN)?;
-    assert_eq!(rt; prepared(alloc, &options, &scope)?, Ok(id(5)));
+    assert_eq!(rt; prepared(alloc, &options, &scope)?, (None, Some(id(5))));
     let options = options.before_send(boxed_drops(alloc)?)?;
-    assert_eq!(rt; prepared(alloc, &options, &scope)?, Err(Place::BeforeSend));
+    assert_eq!(rt;
+        prepared(alloc, &options, &scope)?,
+        (Some(Place::BeforeSend), None)
+    );
     let options = options.add_integration(boxed_hides(alloc)?)?;
-    assert_eq!(rt; prepared(alloc, &options, &scope)?, Err(Place::Integration));
+    assert_eq!(rt;
+        prepared(alloc, &options, &scope)?,
+        (Some(Place::Integration), None)
+    );
     scope.add_event_processor(boxed_drops(alloc)?)?;
     assert_eq!(rt;
         prepared(alloc, &options, &scope)?,
-        Err(Place::EventProcessor)
+        (Some(Place::EventProcessor), None)
     );
     Ok(())
 }

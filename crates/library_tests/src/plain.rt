@@ -58,7 +58,8 @@ fn the_winning_map_has_its_way(rt: HostRuntime) -> Result<(), Fail> {
     let alloc = rt.alloc();
     let old = numbers(alloc, ("b", 2), ("a", 1))?;
     let wins = numbers(alloc, ("c", 30), ("b", 20))?;
-    let mut map = old.clone()?.merge(&wins)?;
+    let mut map = old.clone()?;
+    map.merge(&wins)?;
     let mut held = Vec::new(alloc);
     for (key, number) in map.iter() {
         held.push((key.as_str(), *number))?;
@@ -115,11 +116,11 @@ fn nested(alloc: Global) -> Result<ValueMap, AllocError> {
 fn nested_values_are_copied_and_compared(rt: HostRuntime) -> Result<(), Fail> {
     let alloc = rt.alloc();
     let map = nested(alloc)?;
-    let copy = map.clone()?;
-    assert!(rt; copy == map && is_same(&copy, &map));
+    let mut merged = map.clone()?;
+    assert!(rt; merged == map && is_same(&merged, &map));
     let mut wins = ValueMap::new(alloc);
     wins.insert(Text::new(alloc, "truth")?, Value::Null)?;
-    let mut merged = copy.merge(&wins)?;
+    merged.merge(&wins)?;
     assert!(rt; merged != map && merged.get("truth") == Some(&Value::Null));
     assert!(rt; merged.remove("list").is_some() && merged == wins);
     let value = Value::Map(map);
