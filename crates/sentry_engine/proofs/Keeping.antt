@@ -1,6 +1,6 @@
 -- What an engine finds and stores is what the world has, without the histories.
 use Rattle.std.proofs.Common.{◌≡◌, refl, ap, ◌∙◌, sym, ℕ, List, [], ◌∷◌, Bool, true, false, cond}
-use Rattle.std.specs.Prelude.{Option, Some, None, nat_eq, unwrap_or}
+use Rattle.std.specs.Prelude.{Option, Some, None, unwrap_or}
 use Rattle.std.specs.Option.{option_map, is_some, option_and_then}
 use Rattle.std.specs.declared.cmp.Ordering.{Ordering}
 use Rattle.std.specs.declared.cmp.Ordering.TheVariants.{Less, Equal, Greater}
@@ -9,17 +9,9 @@ use Rattle.std.specs.BTreeMap.{is_at}
 use Rattle.std.specs.Cmp.{nat_cmp_is}
 use Rattle.std.specs.Ordering.{is_eq}
 use Rattle.sentry_plain.specs.Tables.{value_at, put, replace_at, without}
-use Rattle.sentry_base.specs.declared.protocol.event.Event.{Event}
 use Rattle.sentry_base.specs.declared.protocol.keys.Label.{Label}
-use Rattle.sentry_base.specs.declared.protocol.losses.Reason.{Reason}
 use Rattle.sentry_parts.specs.LossBooks.{Book, LossEntry, book_of, pending_losses, report_items, report_of}
-use Rattle.sentry_parts.specs.Pipeline.{loss_reason}
-use Rattle.sentry_parts.specs.declared.pipeline.Preparation.{Preparation}
-use Rattle.sentry_parts.specs.declared.pipeline.Preparation.TheVariants.{Kept, SampledOut, Dropped}
-use Rattle.sentry_parts.specs.declared.pipeline.Place.TheVariants.{EventProcessor, Integration, BeforeSend}
 use Rattle.sentry_engine.specs.Books.{with_book, pending_report}
-use Rattle.sentry_engine.specs.Captures.{event_to_send}
-use Rattle.sentry_engine.specs.declared.engine.Client.{Client}
 use Rattle.sentry_engine.specs.declared.engine.Engine.{Engine}
 use Rattle.sentry_engine.specs.Worlds.{World, ClientState, plain_client, map_values, Stands}
 
@@ -69,21 +61,6 @@ no_report : (o : Option (List LossEntry)) → None ≡ option_map book_of o
     → None ≡ option_and_then (λ history. report_of (report_items (pending_losses history))) o
 no_report None e = refl
 no_report (Some history) e = cc
-
--- an event that is not lost is the one that is to be sent
-pub kept_is_sent : (preparation : Preparation) (event : Option Event) → loss_reason preparation ≡ None → event_to_send preparation event ≡ event
-kept_is_sent Kept event e = refl
-kept_is_sent SampledOut event e = cc
-kept_is_sent (Dropped EventProcessor) event e = cc
-kept_is_sent (Dropped Integration) event e = cc
-kept_is_sent (Dropped BeforeSend) event e = cc
-
--- an event that is lost is not to be sent
-pub lost_is_unsent : (preparation : Preparation) (event : Option Event) (why : Reason) → loss_reason preparation ≡ Some why
-    → event_to_send preparation event ≡ None
-lost_is_unsent Kept event why e = cc
-lost_is_unsent SampledOut event why e = refl
-lost_is_unsent (Dropped place) event why e = refl
 
 module _ {P C : Type 0} where
   -- the client that the engine finds, in a world that it stands for

@@ -1,6 +1,5 @@
 -- What becomes of a captured event: whether it is sent, with which report, and what is lost.
 use Rattle.std.specs.Prelude.{ℕ, Option, Some, None, List, [], ◌∷◌, if◌then◌else◌}
-use Rattle.std.specs.Option.{option_map}
 use Rattle.sentry_plain.specs.Texts.{Bytes}
 use Rattle.sentry_base.specs.Events.{new_event, nil_id}
 use Rattle.sentry_base.specs.Envelopes.{empty_envelope, with_item}
@@ -64,7 +63,8 @@ captured_id (Some event) = event.event_id
 -- the envelopes of a capture: the event, and the pending report as the last item
 abbrev pub captured_envelopes : ClientKey → Option ClientReport → Option Event → List (ClientKey × Envelope)
 captured_envelopes key report None = []
-captured_envelopes key report (Some event) = (key, with_report report (with_item empty_envelope (item.Event event))) ∷ []
+captured_envelopes key report (Some event) =
+    (key, with_report report (with_item empty_envelope (item.Event event))) ∷ []
 
 -- an event of this message and level
 abbrev pub message_event : Bytes → Level → List ℕ → ℕ → Event

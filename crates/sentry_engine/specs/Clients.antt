@@ -26,8 +26,8 @@ abbrev pub is_enabled_client : {C : Type 0} → Client C → Bool
 is_enabled_client client = is_some client.options.plain.dsn && client.occupied
 
 module _ {P C : Type 0} where
-  -- a client, under the next number, after the `setup` of its integrations; its slot is occupied where it had a DSN before
-  -- that, and has a transport
+  -- a client, under the next number, after the `setup` of its integrations, with a book for its label; its slot is
+  -- occupied where it had a DSN before that, and has a transport
   unfoldable pub add_client : (C → Meanings) → ClientOptions C → Bool → Label → World P C → Outcome P C ClientKey
   add_client meanings options transport label world =
       require ForeignLosses world (label.tag == world.tag)
@@ -44,11 +44,13 @@ module _ {P C : Type 0} where
 
   -- the options of a client
   unfoldable pub options : ClientKey → World P C → Outcome P C (ClientOptions C)
-  options key world = require_some Stale world (plain_client_at world key) (λ client. reply_with client.options [] world)
+  options key world =
+      require_some Stale world (plain_client_at world key) (λ client. reply_with client.options [] world)
 
   -- where a client sends to
   unfoldable pub dsn : ClientKey → World P C → Outcome P C (Option DsnParts)
-  dsn key world = require_some Stale world (plain_client_at world key) (λ client. reply_with client.options.plain.dsn [] world)
+  dsn key world =
+      require_some Stale world (plain_client_at world key) (λ client. reply_with client.options.plain.dsn [] world)
 
   -- whether a client is enabled
   unfoldable pub is_enabled : ClientKey → World P C → Outcome P C Bool

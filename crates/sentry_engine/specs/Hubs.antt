@@ -45,7 +45,8 @@ module _ {P C : Type 0} where
 
   -- an event on a hub, under the client of its top layer: without one nothing happens, and with one the id of what is
   -- sent becomes the last event id
-  unfoldable pub capture_event : (P → Partial) → (C → Meanings) → HubKey → Event → Fresh → World P C → Outcome P C (List ℕ)
+  unfoldable pub capture_event : (P → Partial) → (C → Meanings) → HubKey → Event → Fresh → World P C
+      → Outcome P C (List ℕ)
   capture_event gives meanings key event fresh world =
       require_some Stale world (hub_at world key) (λ hub.
       let_some hub.stack.top.client (reply_with nil_id [] world) (λ client_key.

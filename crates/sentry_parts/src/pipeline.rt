@@ -160,10 +160,10 @@ fn sample(strategy: EventSamplingStrategy, draw: Draw) -> Preparation
     }
 }
 
-/// Prepares an event for sending, in place: it gets an id and the SDK, goes under the scope, if there is one, through its
-/// processors and the integrations, gets the defaults of the options, goes through `before_send`, and is sampled. The
-/// first callback that returns `None` drops it: then the event becomes `None`. Given `None`, it does nothing. If memory
-/// runs out, some of this was done.
+/// Prepares an event for sending, in place: it gets an id and the SDK, goes under the scope, if there is one, through
+/// its processors and the integrations, gets the defaults of the options, goes through `before_send`, and is sampled.
+/// The first callback that returns `None` drops it: then the event becomes `None`. Given `None`, it does nothing. If
+/// memory runs out, some of this was done.
 #[tactic(auto, unfolding(crate::specs::Pipeline::prepare_event))]
 pub fn prepare_event<P: EventCallback + Drop, C: Callbacks>(
     alloc: Global,

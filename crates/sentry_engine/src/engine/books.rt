@@ -30,7 +30,8 @@ impl<P: EventCallback + Drop, C: Callbacks> Engine<P, C> {
     // The report of what is pending under a label, if anything is.
     #[tactic(auto, using(crate::proofs::Keeping::report_in_world, crate::proofs::Keeping::no_report_in_world))]
     pub(super) fn pending_report(&self, label: Label) -> Result<Option<ClientReport>, AllocError>
-        ensures { IfOk result (λ report. (world : World P C) → Stands self.now world → report ≡ pending_report world label) }
+        ensures { IfOk result (λ report. (world : World P C) → Stands self.now world →
+            report ≡ pending_report world label) }
     {
         match self.books.get(label.number) {
             None => Ok(None),
@@ -112,7 +113,8 @@ impl<P: EventCallback + Drop, C: Callbacks> Engine<P, C> {
     ///
     /// `ForeignLosses`: no client of this engine names the label; the losses are handed back.
     pub fn absorb(&mut self, drained: Drained) -> Result<Out<()>, (Refusal, Drained)>
-        ensures does { DoesWithoutMemory self.old self.new (without_value result) (call.absorb drained.0 drained.1.quantities) }
+        ensures does { DoesWithoutMemory self.old self.new (without_value result)
+            (call.absorb drained.0 drained.1.quantities) }
         ensures back { IfErr result (λ refused. refused.1 ≡ drained) }
     {
         match self.absorb_losses(drained.label(), drained.losses()) {

@@ -18,8 +18,8 @@ use sentry_state::clientoptions::Callbacks;
 use sentry_state::scope::Scope;
 use std::alloc::{AllocError, Global};
 
-// Makes of a captured event the one that the client sends, in place: `None` if it sends none. Returns what became of the
-// event, or `None` on an empty slot.
+// Makes of a captured event the one that the client sends, in place: `None` if it sends none. Returns what became of
+// the event, or `None` on an empty slot.
 #[tactic(auto, unfolding(crate::specs::Captures::capture))]
 pub(super) fn capture<P: EventCallback + Drop, C: Callbacks>(
     alloc: Global,

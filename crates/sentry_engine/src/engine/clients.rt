@@ -49,7 +49,7 @@ impl<P: EventCallback + Drop, C: Callbacks> Engine<P, C> {
     }
 
     // Holds a client under a number, and a book for its label, if there is none yet.
-    #[tactic(auto, using(crate::proofs::Keeping::stored_in_world, crate::proofs::Keeping::new_book_in_world, crate::proofs::Keeping::without_put))]
+    #[tactic(auto, using(crate::proofs::Keeping::stored_in_world, crate::proofs::Keeping::without_put))]
     fn insert_client_and_book(&mut self, number: u64, client: Client<C>) -> Result<(), AllocError>
         ensures in_world { OnOk result ((world : World P C) (state : ClientState C) → Stands self.old world →
             client ≡ plain_client state → Stands self.new (record world {
@@ -61,8 +61,7 @@ impl<P: EventCallback + Drop, C: Callbacks> Engine<P, C> {
     {
         let label = client.label.number;
         if self.books.get(label).is_some() {
-            self.insert_client(number, client)?;
-            return Ok(());
+            return self.insert_client(number, client);
         }
         self.books.insert(label, LossBook::new())?;
         match self.clients.insert(number, client) {
@@ -75,9 +74,9 @@ impl<P: EventCallback + Drop, C: Callbacks> Engine<P, C> {
     }
 
     /// Adds a client with these options, after the `setup` of its integrations, and answers its key. Its losses go to
-    /// the table that the label names; `transport` says whether there is one to send its envelopes, which it does if the
-    /// options have a DSN before any `setup`; `_now` is the moment in nanoseconds since the epoch, from which its queues
-    /// are to wait.
+    /// the book of the label. `transport` says whether there is one to send its envelopes, which it does if the options
+    /// have a DSN before any `setup`. `_now` is the moment in nanoseconds since the epoch, from which its queues are to
+    /// wait.
     ///
     /// `ForeignLosses`: the label has another tag than the engine. `Full`: the numbers are used up. `OutOfMemory`.
     #[tactic(auto, unfolding(crate::specs::Clients::add_client))]
@@ -193,7 +192,7 @@ impl<P: EventCallback + Drop, C: Callbacks> Engine<P, C> {
     /// sent; then it counts as lost.
     ///
     /// `Stale`: the client isn't held. `OutOfMemory`.
-    #[tactic(auto, unfolding(crate::specs::Clients::prepare_event), using(crate::proofs::Keeping::kept_is_sent, crate::proofs::Keeping::lost_is_unsent))]
+    #[tactic(auto, unfolding(crate::specs::Clients::prepare_event))]
     pub fn prepare_event(
         &mut self,
         client: ClientKey,

@@ -1,4 +1,4 @@
-use Rattle.std.proofs.Common.{rules, ◌≡◌, refl}
+use Rattle.std.proofs.Common.{rules, refl}
 use Rattle.sentry_engine.specs.Clients.{client_capture_event}
 use Rattle.sentry_engine.proofs.engine.Engine.client_capture_event.Goals as goal
 

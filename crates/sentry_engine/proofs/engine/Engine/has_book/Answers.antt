@@ -1,6 +1,4 @@
-use Rattle.std.proofs.Common.{rules, ◌≡◌}
-use Rattle.std.specs.Option.{is_some}
-use Rattle.sentry_plain.specs.Tables.{value_at}
+use Rattle.std.proofs.Common.{rules}
 use Rattle.sentry_engine.proofs.Keeping.{has_book_in_world}
 use Rattle.sentry_engine.proofs.engine.Engine.has_book.Goals as goal
 

@@ -1,6 +1,5 @@
-use Rattle.std.proofs.Common.{rules, ◌≡◌, refl}
+use Rattle.std.proofs.Common.{rules, refl}
 use Rattle.sentry_engine.specs.Clients.{prepare_event}
-use Rattle.sentry_engine.proofs.Keeping.{kept_is_sent, lost_is_unsent}
 use Rattle.sentry_engine.proofs.engine.Engine.prepare_event.Goals as goal
 
 pub returns-in-None : goal.returns-in-None
