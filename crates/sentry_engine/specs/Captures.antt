@@ -6,6 +6,7 @@ use Rattle.sentry_base.specs.Envelopes.{empty_envelope, with_item}
 use Rattle.sentry_base.specs.Losses.{loss_of}
 use Rattle.sentry_base.specs.declared.protocol.client_report.ClientReport.{ClientReport}
 use Rattle.sentry_base.specs.declared.protocol.keys.ClientKey.{ClientKey}
+use Rattle.sentry_base.specs.declared.protocol.attachment.Attachment.{Attachment}
 use Rattle.sentry_base.specs.declared.protocol.event.Event.{Event}
 use Rattle.sentry_base.specs.declared.protocol.envelope.Envelope.{Envelope}
 use Rattle.sentry_base.specs.declared.protocol.envelope.EnvelopeItem.TheVariants as item
@@ -60,11 +61,22 @@ abbrev pub captured_id : Option Event → List ℕ
 captured_id None = nil_id
 captured_id (Some event) = event.event_id
 
--- the envelopes of a capture: the event, and the pending report as the last item
-abbrev pub captured_envelopes : ClientKey → Option ClientReport → Option Event → List (ClientKey × Envelope)
-captured_envelopes key report None = []
-captured_envelopes key report (Some event) =
-    (key, with_report report (with_item empty_envelope (item.Event event))) ∷ []
+-- the attachments of a scope, if there is one
+abbrev pub attachments_of : {P : Type 0} → Option (Scope P) → List Attachment
+attachments_of None = []
+attachments_of (Some scope) = scope.attachments
+
+-- the envelope with attachments as its last items
+abbrev pub with_attachments : List Attachment → Envelope → Envelope
+with_attachments [] envelope = envelope
+with_attachments (attachment ∷ rest) envelope = with_attachments rest (with_item envelope (item.Attachment attachment))
+
+-- the envelopes of a capture: the event, the attachments, and the pending report as the last item
+abbrev pub captured_envelopes :
+    ClientKey → List Attachment → Option ClientReport → Option Event → List (ClientKey × Envelope)
+captured_envelopes key attachments report None = []
+captured_envelopes key attachments report (Some event) =
+    (key, with_report report (with_attachments attachments (with_item empty_envelope (item.Event event)))) ∷ []
 
 -- an event of this message and level
 abbrev pub message_event : Bytes → Level → List ℕ → ℕ → Event

@@ -17,7 +17,7 @@ use Rattle.sentry_parts.specs.LossBooks.{report_point}
 use Rattle.sentry_parts.specs.Pipeline.{loss_reason}
 use Rattle.sentry_parts.specs.Pipeline as pipeline
 use Rattle.sentry_engine.specs.Books.{with_book, with_report, pending_report, with_entry, with_entry_if_any}
-use Rattle.sentry_engine.specs.Captures.{lost_event, event_to_send, capture, captured_id, captured_envelopes}
+use Rattle.sentry_engine.specs.Captures.{lost_event, event_to_send, capture, captured_id, captured_envelopes, attachments_of}
 use Rattle.sentry_engine.specs.Worlds.{World}
 use Rattle.sentry_engine.specs.Outcomes.{Outcome, require_some, require, reply_with, plain_client_at}
 
@@ -68,7 +68,8 @@ module _ {P C : Type 0} where
   client_capture_event gives meanings key event scope fresh world =
       require_some Stale world (plain_client_at world key) (λ client.
       let made = capture gives meanings client scope fresh event in
-      reply_with (captured_id made.event) (captured_envelopes key (pending_report world client.label) made.event)
+      reply_with (captured_id made.event)
+      (captured_envelopes key (attachments_of scope) (pending_report world client.label) made.event)
       (with_entry_if_any world client.label made.entry))
 
   -- the event as the client would send it, if it would; where it would not, the event is lost

@@ -53,7 +53,8 @@ module _ {P C : Type 0} where
       let_some (plain_client_at world client_key) (reply_with nil_id [] world) (λ client.
       let made = capture gives meanings client (Some hub.stack.top.scope) fresh event in
       let id = captured_id made.event in
-      reply_with id (captured_envelopes client_key (pending_report world client.label) made.event)
+      reply_with id
+      (captured_envelopes client_key hub.stack.top.scope.attachments (pending_report world client.label) made.event)
       (with_hub (with_entry_if_any world client.label made.entry) key (record hub { last_event_id = Some id })))))
 
   -- a message on a hub

@@ -6,10 +6,13 @@ ghost use Rattle.sentry_parts.specs.Pipeline.{loss_reason};
 ghost use Rattle.sentry_engine.specs.Worlds.{World, Stands};
 ghost use Rattle.sentry_engine.specs.Books.{pending_report, with_report, with_entry_if_any};
 ghost use Rattle.sentry_engine.specs.Captures.{capture, capture_entry, captured_id, captured_envelopes};
+ghost use Rattle.sentry_engine.specs.Captures.{attachments_of, with_attachments};
+ghost use Rattle.sentry_base.specs.Envelopes.{empty_envelope, with_item};
+ghost use Rattle.sentry_base.specs.declared.protocol.envelope.EnvelopeItem.TheVariants as item;
 
 use crate::engine::{Client, Engine};
 use sentry_base::protocol::{
-    ClientKey, ClientReport, Envelope, EnvelopeItem, Event, Fresh, Label, Uuid,
+    Attachment, ClientKey, ClientReport, Envelope, EnvelopeItem, Event, Fresh, Label, Uuid,
 };
 use sentry_parts::pipeline::{Preparation, prepare_event};
 use sentry_plain::Items;
@@ -70,23 +73,54 @@ pub(super) fn add_report(
     }
 }
 
+// Adds copies of attachments as the last items.
+fn add_attachments(envelope: &mut Envelope, attachments: &[Attachment]) -> Result<(), AllocError>
+    ensures { OnOk result (envelope.new ≡ with_attachments attachments.now envelope.old) }
+{
+    for attachment in attachments {
+        envelope.add_item(EnvelopeItem::Attachment(attachment.clone()?))?;
+    }
+    Ok(())
+}
+
+// The envelope of an event, with room for a report.
+fn event_envelope<P: Drop>(
+    alloc: Global,
+    event: Event,
+    scope: Option<&Scope<P>>,
+) -> Result<Envelope, AllocError>
+    ensures { IfOk result (λ envelope.
+        envelope ≡ with_attachments (attachments_of (option_copied scope.entry)) (with_item empty_envelope (item.Event event))) }
+{
+    let Some(scope) = scope else {
+        let mut envelope = Envelope::with_capacity(alloc, 2)?;
+        envelope.add_item(EnvelopeItem::Event(event))?;
+        return Ok(envelope);
+    };
+    let attachments = scope.attachments.as_slice();
+    let mut envelope = Envelope::with_capacity(alloc, attachments.len().saturating_add(2))?;
+    envelope.add_item(EnvelopeItem::Event(event))?;
+    add_attachments(&mut envelope, attachments)?;
+    Ok(envelope)
+}
+
 impl<P: EventCallback + Drop, C: Callbacks> Engine<P, C> {
-    // The envelopes of a capture: the event, and the pending report as the last item.
+    // The envelopes of a capture: the event, the attachments of the scope, and the pending report as the last item.
     pub(super) fn captured_envelopes(
         &self,
         key: ClientKey,
         label: Label,
+        scope: Option<&Scope<P>>,
         event: Option<Event>,
     ) -> Result<Items<(ClientKey, Envelope)>, AllocError>
-        ensures { (world : World P C) → Stands self.now world → IfOk result
-            (λ sent. sent ≡ captured_envelopes key (pending_report world label) event) }
+        ensures { (world : World P C) → Stands self.now world → IfOk result (λ sent. sent ≡ captured_envelopes key
+            (attachments_of (option_copied scope.entry)) (pending_report world label) event) }
     {
         let Some(event) = event else {
             return Ok(Items::new(self.alloc));
         };
         let report = self.pending_report(label)?;
-        let mut envelope = Envelope::with_capacity(self.alloc, 2)?;
-        envelope.add_item(EnvelopeItem::Event(event))?;
+        let mut envelope = event_envelope(self.alloc, event, scope)?;
         add_report(&mut envelope, report)?;
         let mut sent = Vec::with_capacity(self.alloc, 1)?;
         sent.push_reserved((key, envelope));

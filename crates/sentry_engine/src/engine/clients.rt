@@ -183,7 +183,7 @@ impl<P: EventCallback + Drop, C: Callbacks> Engine<P, C> {
         let mut event = Some(event);
         let preparation = capture(self.alloc, held, scope, fresh, &mut event)?;
         let reply = captured_id(&event);
-        let sent = self.captured_envelopes(client, label, event)?;
+        let sent = self.captured_envelopes(client, label, scope, event)?;
         self.note_capture(label, preparation);
         Ok(Out { reply, sent })
     }

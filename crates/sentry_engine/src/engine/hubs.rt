@@ -200,7 +200,7 @@ impl<P: EventCallback + Drop, C: Callbacks> Engine<P, C> {
         let scope = Some(&held.stack.top.scope);
         let preparation = capture(self.alloc, client, scope, fresh, &mut event)?;
         let reply = captured_id(&event);
-        let sent = self.captured_envelopes(key, label, event)?;
+        let sent = self.captured_envelopes(key, label, scope, event)?;
         self.note_capture(label, preparation);
         self.set_last_event_id(hub.number, reply);
         Ok(Out { reply, sent })
