@@ -102,11 +102,11 @@ impl<P: Drop> Scope<P> {
         self.fill_trace(&mut event.contexts)
     }
 
-    /// Applies the scope to an event, except for its processors. A level that is set overrides the event's. The user and
-    /// the name of the transaction are filled in if absent. The breadcrumbs of the scope follow the event's. Tags, extra
-    /// values and contexts of the scope override the event's at each key, and then the trace is filled in if absent. A
-    /// fingerprint that stands for the server's own rule is replaced, if the scope has one. If memory runs out, some of
-    /// this was done.
+    /// Applies the scope to an event, except for its processors. A level that is set overrides the event's. The user
+    /// and the name of the transaction are filled in if absent. The breadcrumbs of the scope follow the event's. Tags,
+    /// extra values and contexts of the scope override the event's at each key, and then the trace is filled in if
+    /// absent. A fingerprint that stands for the server's own rule is replaced, if the scope has one. If memory runs
+    /// out, some of this was done.
     pub fn fill_event(&self, event: &mut Event) -> Result<(), AllocError>
         ensures fills { OnOk result (event.new ≡ fill self.now event.old) }
         ensures tags { OnOk result (OverridesTags self.now event.old event.new) }
