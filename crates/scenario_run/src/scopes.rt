@@ -4,7 +4,7 @@ use crate::callbacks::Handler;
 use crate::fault::Failure;
 use crate::scenario::{Scenario, hub_key};
 use crate::words::Words;
-use sentry_base::protocol::{Context, Fresh, Level, User, Value, ValueMap};
+use sentry_base::protocol::{Attachment, Context, Fresh, Level, User, Value, ValueMap};
 use sentry_plain::{Items, Text};
 use sentry_state::scope::ScopeEdit;
 use std::alloc::{AllocError, Global};
@@ -42,6 +42,10 @@ enum ScopeChange<'a> {
     RemoveContext(&'a str),
     /// `nocrumbs H`
     ClearBreadcrumbs,
+    /// `attach H NAME REST`
+    AddAttachment(Entry<'a>),
+    /// `noattach H`
+    ClearAttachments,
     /// `dropper H REST`: a processor that drops messages which begin so.
     AddDropper(&'a str),
     /// `tagger H KEY REST`: a processor that sets a tag.
@@ -90,6 +94,8 @@ fn read_change<'a>(name: &str, words: &mut Words<'a>) -> Option<ScopeChange<'a>>
         "context" => Some(ScopeChange::SetContext(read_entry(words)?)),
         "uncontext" => Some(ScopeChange::RemoveContext(words.word()?)),
         "nocrumbs" => Some(ScopeChange::ClearBreadcrumbs),
+        "attach" => Some(ScopeChange::AddAttachment(read_entry(words)?)),
+        "noattach" => Some(ScopeChange::ClearAttachments),
         "dropper" => Some(ScopeChange::AddDropper(words.rest()?)),
         "tagger" => Some(ScopeChange::AddTagger(read_entry(words)?)),
         _ => None,
@@ -158,6 +164,15 @@ fn context(alloc: Global, value: &str) -> Result<Context, AllocError> {
     Ok(Context::Other(map))
 }
 
+/// A file of this name, which holds the text.
+fn attachment(alloc: Global, file: Entry<'_>) -> Result<Attachment, AllocError> {
+    Ok(Attachment {
+        filename: Text::new(alloc, file.key)?,
+        buffer: Items::from_vec(file.value.as_bytes().to_vec(alloc)?),
+        content_type: None,
+    })
+}
+
 fn handler(alloc: Global, entry: Entry<'_>) -> Result<Handler, AllocError> {
     Ok(Handler::SetTag {
         key: Text::new(alloc, entry.key)?,
@@ -193,6 +208,8 @@ fn edit(
         }
         ScopeChange::RemoveContext(key) => ScopeEdit::RemoveContext(Text::new(alloc, key)?),
         ScopeChange::ClearBreadcrumbs => ScopeEdit::ClearBreadcrumbs,
+        ScopeChange::AddAttachment(file) => ScopeEdit::AddAttachment(attachment(alloc, *file)?),
+        ScopeChange::ClearAttachments => ScopeEdit::ClearAttachments,
         ScopeChange::AddDropper(prefix) => {
             ScopeEdit::AddEventProcessor(Handler::Drop(Text::new(alloc, prefix)?))
         }

@@ -89,8 +89,8 @@ fn event_envelope<P: Drop>(
     event: Event,
     scope: Option<&Scope<P>>,
 ) -> Result<Envelope, AllocError>
-    ensures { IfOk result (λ envelope.
-        envelope ≡ with_attachments (attachments_of (option_copied scope.entry)) (with_item empty_envelope (item.Event event))) }
+    ensures { IfOk result (λ envelope. envelope ≡
+        with_attachments (attachments_of (option_copied scope.entry)) (with_item empty_envelope (item.Event event))) }
 {
     let Some(scope) = scope else {
         let mut envelope = Envelope::with_capacity(alloc, 2)?;
