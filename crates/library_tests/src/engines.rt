@@ -90,23 +90,29 @@ fn callbacks_run_in_order(rt: HostRuntime) -> Result<(), Fail> {
     Ok(())
 }
 
+/// Options whose callbacks may not run, after one that drops: what may not run is refused its memory.
+fn starving(alloc: Global) -> Result<ClientOptions, Refusal> {
+    options(alloc)?
+        .before_send(boxed_adds(alloc, 0)?)?
+        .add_integration(boxed_hides(alloc)?)?
+        .add_integration(boxed_multiplies(alloc, 0, None)?)
+}
+
 #[test]
 fn what_drops_an_event_stops_what_follows(rt: HostRuntime) -> Result<(), Fail> {
     let alloc = rt.alloc();
-    // What may not run is refused its memory, so that the capture would be.
-    let starves = options(alloc)?.before_send(boxed_adds(alloc, 0)?)?;
-    let options = starves
-        .clone()?
-        .add_integration(boxed_hides(alloc)?)?
-        .add_integration(boxed_multiplies(alloc, 0, None)?)?;
+    let dropped = (Uuid::nil(), None, Some(Uuid::nil()));
+    assert_eq!(rt;
+        captured(alloc, starving(alloc)?, true, Vec::new(alloc))?,
+        dropped
+    );
     let first = ScopeEdit::AddEventProcessor(boxed_drops(alloc)?);
     let second = ScopeEdit::AddEventProcessor(boxed_adds(alloc, 0)?);
     let edits = vec![in alloc; first, second]?;
-    let dropped = (Uuid::nil(), None, Some(Uuid::nil()));
-    assert_eq!(rt; captured(alloc, options.clone()?, true, edits)?, dropped);
-    assert_eq!(rt; captured(alloc, options, true, Vec::new(alloc))?, dropped);
+    assert_eq!(rt; captured(alloc, starving(alloc)?, true, edits)?, dropped);
     // Without a transport nothing runs.
-    assert_eq!(rt; captured(alloc, starves, false, Vec::new(alloc))?, dropped);
+    let edits = vec![in alloc; ScopeEdit::AddEventProcessor(boxed_adds(alloc, 0)?)]?;
+    assert_eq!(rt; captured(alloc, starving(alloc)?, false, edits)?, dropped);
     Ok(())
 }
 

@@ -17,30 +17,38 @@ fn applied(alloc: Global, scope: &Scope) -> Result<Option<(Level, u64, usize)>, 
     }
 }
 
-#[test]
-fn a_scope_is_what_its_setters_made(rt: HostRuntime) -> Result<(), Fail> {
-    let alloc = rt.alloc();
+/// A scope after calls of its setters.
+fn set_scope(alloc: Global) -> Result<Scope, Refusal> {
     let mut scope = scope(alloc);
-    assert_eq!(rt; applied(alloc, &scope)?, Some((Level::Info, 1, 0)));
     scope.set_level(Some(Level::Warning));
     scope.set_tag("a", "1")?;
     scope.set_tag("b", "2")?;
     scope.remove_tag("b");
     scope.add_event_processor(boxed_adds(alloc, 7)?)?;
-    assert_eq!(rt; applied(alloc, &scope)?, Some((Level::Warning, 8, 1)));
-    let mut copy = scope.clone()?;
-    copy.set_tag("b", "2")?;
-    assert_eq!(rt; applied(alloc, &copy)?, Some((Level::Warning, 8, 2)));
-    // The same setters as values.
+    Ok(scope)
+}
+
+/// Calls of setters as values.
+fn edits(alloc: Global) -> Result<Vec<ScopeEdit>, Refusal> {
     let mut edits = Items::new(alloc);
     edits.push(ScopeEdit::SetLevel(None))?;
+    edits.push(ScopeEdit::SetTag(Text::new(alloc, "b")?, Text::new(alloc, "2")?))?;
     edits.push(ScopeEdit::SetTag(Text::new(alloc, "c")?, Text::new(alloc, "3")?))?;
-    edits.push(ScopeEdit::SetTag(Text::new(alloc, "d")?, Text::new(alloc, "4")?))?;
-    edits.push(ScopeEdit::RemoveTag(Text::new(alloc, "b")?))?;
+    edits.push(ScopeEdit::RemoveTag(Text::new(alloc, "a")?))?;
     edits.push(ScopeEdit::AddEventProcessor(boxed_adds(alloc, 10)?))?;
-    copy.edit_all(edits.into_vec())?;
-    assert_eq!(rt; applied(alloc, &copy)?, Some((Level::Info, 18, 3)));
-    assert_eq!(rt; applied(alloc, &scope)?, Some((Level::Warning, 8, 1)));
+    Ok(edits.into_vec())
+}
+
+#[test]
+fn a_scope_is_what_its_setters_made(rt: HostRuntime) -> Result<(), Fail> {
+    let alloc = rt.alloc();
+    assert_eq!(rt; applied(alloc, &scope(alloc))?, Some((Level::Info, 1, 0)));
+    let set = set_scope(alloc)?;
+    let mut copy = set.clone()?;
+    copy.edit_all(edits(alloc)?)?;
+    assert_eq!(rt; applied(alloc, &copy)?, Some((Level::Info, 18, 2)));
+    drop(copy);
+    assert_eq!(rt; applied(alloc, &set)?, Some((Level::Warning, 8, 1)));
     Ok(())
 }
 

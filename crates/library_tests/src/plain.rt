@@ -53,30 +53,32 @@ fn numbers(
     Ok(map)
 }
 
+/// `a: 1, b: 20, c: 30`, of which the last two won.
+fn merged(alloc: Global) -> Result<TextMap<u64>, AllocError> {
+    let mut map = numbers(alloc, ("b", 2), ("a", 1))?;
+    map.merge(&numbers(alloc, ("c", 30), ("b", 20))?)?;
+    Ok(map)
+}
+
+fn are_keys(map: &TextMap<u64>, keys: [&str; 3]) -> bool {
+    map.iter()
+        .zip(keys)
+        .all(|((key, _), expected)| key.as_str() == expected)
+}
+
 #[test]
 fn the_winning_map_has_its_way(rt: HostRuntime) -> Result<(), Fail> {
-    let alloc = rt.alloc();
-    let old = numbers(alloc, ("b", 2), ("a", 1))?;
-    let wins = numbers(alloc, ("c", 30), ("b", 20))?;
-    let mut map = old.clone()?;
-    map.merge(&wins)?;
-    let mut held = Vec::new(alloc);
-    for (key, number) in map.iter() {
-        held.push((key.as_str(), *number))?;
-    }
+    let mut map = merged(rt.alloc())?;
+    assert!(rt; map.len() == 3 && are_keys(&map, ["a", "b", "c"]));
+    let held = [map.get("a"), map.get("b"), map.get("c"), map.get("d")];
     assert_eq!(rt;
-        held.as_slice(),
-        [("a", 1), ("b", 20), ("c", 30)].as_slice()
+        held.map(|held| held.copied()),
+        [Some(1), Some(20), Some(30), None]
     );
-    drop(held);
-    assert_eq!(rt;
-        [map.get("b").copied(), map.get("d").copied()],
-        [Some(20), None]
-    );
+    let copy = map.clone()?;
+    assert!(rt; copy == map && is_same(&copy, &map));
     assert_eq!(rt; [map.remove("c"), map.remove("c")], [Some(30), None]);
-    assert!(rt; map != old && map.len() == 2);
-    map.insert(Text::new(alloc, "b")?, 2)?;
-    assert!(rt; map == old && is_same(&map, &old));
+    assert!(rt; copy != map && map.len() == 2);
     Ok(())
 }
 
@@ -114,21 +116,32 @@ fn nested(alloc: Global) -> Result<ValueMap, AllocError> {
 
 #[test]
 fn nested_values_are_copied_and_compared(rt: HostRuntime) -> Result<(), Fail> {
+    let value = Value::Map(nested(rt.alloc())?);
+    let copy = value.clone()?;
+    assert!(rt; copy == value && is_same(&copy, &value));
+    assert!(rt; value != Value::Map(ValueMap::new(rt.alloc())));
+    Ok(())
+}
+
+#[test]
+fn the_winning_values_have_their_way(rt: HostRuntime) -> Result<(), Fail> {
     let alloc = rt.alloc();
-    let map = nested(alloc)?;
-    let mut merged = map.clone()?;
-    assert!(rt; merged == map && is_same(&merged, &map));
     let mut wins = ValueMap::new(alloc);
     wins.insert(Text::new(alloc, "truth")?, Value::Null)?;
+    let mut merged = nested(alloc)?;
     merged.merge(&wins)?;
-    assert!(rt; merged != map && merged.get("truth") == Some(&Value::Null));
-    assert!(rt; merged.remove("list").is_some() && merged == wins);
-    let value = Value::Map(map);
-    assert!(rt; value.clone()? == value && value != Value::Map(merged));
-    let mut list = Values::from_vec(vec![in alloc; Value::Int(-1)]?);
+    assert!(rt; merged != wins && merged.get("truth") == Some(&Value::Null));
+    assert!(rt; merged.remove("list").is_some());
+    assert!(rt; merged == wins && is_same(&merged, &wins));
+    Ok(())
+}
+
+#[test]
+fn lists_of_values_are_copied_and_compared(rt: HostRuntime) -> Result<(), Fail> {
+    let mut list = Values::from_vec(vec![in rt.alloc(); Value::Int(-1)]?);
     let short = list.clone()?;
     assert!(rt; list == short && is_same(&list, &short));
-    list.push(value)?;
+    list.push(Value::Null)?;
     assert!(rt; list != short && list.into_vec().len() == 2);
     Ok(())
 }

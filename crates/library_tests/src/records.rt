@@ -13,9 +13,9 @@ fn some(alloc: Global, text: &str) -> Result<Option<Text>, AllocError> {
     Ok(Some(Text::new(alloc, text)?))
 }
 
-fn number(alloc: Global, number: i128) -> Result<ValueMap, AllocError> {
+fn number(alloc: Global) -> Result<ValueMap, AllocError> {
     let mut entries = ValueMap::new(alloc);
-    entries.insert(Text::new(alloc, "number")?, Value::Int(number))?;
+    entries.insert(Text::new(alloc, "number")?, Value::Int(-1))?;
     Ok(entries)
 }
 
@@ -26,30 +26,30 @@ fn entry(alloc: Global, value: &str) -> Result<TextMap<Text>, AllocError> {
 }
 
 /// Whether a value is its clone, and isn't another one.
-fn is_its_clone<T: Clone + PartialEq + Drop>(value: &T, other: &T) -> Result<bool, AllocError> {
+fn is_its_clone<T: Clone + PartialEq + Drop>(value: T, other: T) -> Result<bool, AllocError> {
     let copy = value.clone()?;
-    Ok(copy == *value && copy != *other)
+    Ok(copy == value && copy != other)
 }
 
-fn breadcrumb(alloc: Global, data: i128) -> Result<Breadcrumb, AllocError> {
+fn breadcrumb(alloc: Global) -> Result<Breadcrumb, AllocError> {
     let mut breadcrumb = Breadcrumb::new(alloc, 7)?;
     breadcrumb.category = some(alloc, "ui")?;
     breadcrumb.message = some(alloc, "pressed")?;
-    breadcrumb.data_ = number(alloc, data)?;
+    breadcrumb.data_ = number(alloc)?;
     Ok(breadcrumb)
 }
 
-fn user(alloc: Global, data: i128) -> Result<User, AllocError> {
+fn user(alloc: Global) -> Result<User, AllocError> {
     Ok(User {
         id: some(alloc, "1")?,
         email: some(alloc, "ann@example.com")?,
         username: some(alloc, "ann")?,
         ip_address: some(alloc, "127.0.0.1")?,
-        data_: number(alloc, data)?,
+        data_: number(alloc)?,
     })
 }
 
-fn request(alloc: Global, env: &str) -> Result<Request, AllocError> {
+fn request(alloc: Global) -> Result<Request, AllocError> {
     Ok(Request {
         method: some(alloc, "GET")?,
         url: some(alloc, "https://example.com/")?,
@@ -57,22 +57,22 @@ fn request(alloc: Global, env: &str) -> Result<Request, AllocError> {
         query_string: some(alloc, "a=1")?,
         cookies: None,
         headers: entry(alloc, "*/*")?,
-        env: entry(alloc, env)?,
+        env: entry(alloc, "80")?,
     })
 }
 
-fn exception(alloc: Global, handled: bool) -> Result<Exception, AllocError> {
+fn exception(alloc: Global) -> Result<Exception, AllocError> {
     Ok(Exception {
         ty: Text::new(alloc, "ParseIntError")?,
         value: some(alloc, "invalid digit")?,
         mechanism: Some(Mechanism {
             ty: Text::new(alloc, "panic")?,
-            handled: Some(handled),
+            handled: Some(false),
         }),
     })
 }
 
-fn trace(alloc: Global, data: i128) -> Result<Context, AllocError> {
+fn trace(alloc: Global) -> Result<Context, AllocError> {
     Ok(Context::Trace(TraceContext {
         trace_id: TraceId([1; 16]),
         span_id: SpanId([2; 8]),
@@ -81,14 +81,14 @@ fn trace(alloc: Global, data: i128) -> Result<Context, AllocError> {
         description: None,
         status: Some(SpanStatus::NotFound),
         origin: some(alloc, "manual")?,
-        data_: number(alloc, data)?,
+        data_: number(alloc)?,
     }))
 }
 
-fn sdk(alloc: Global, version: &str) -> Result<ClientSdkInfo, AllocError> {
+fn sdk(alloc: Global) -> Result<ClientSdkInfo, AllocError> {
     let package = ClientSdkPackage {
         name: Text::new(alloc, "cargo:sentry")?,
-        version: Text::new(alloc, version)?,
+        version: Text::new(alloc, "0.49.3")?,
     };
     Ok(ClientSdkInfo {
         name: Text::new(alloc, "sentry.rust")?,
@@ -98,21 +98,17 @@ fn sdk(alloc: Global, version: &str) -> Result<ClientSdkInfo, AllocError> {
     })
 }
 
-#[test]
-fn parts_of_events_are_their_clones(rt: HostRuntime) -> Result<(), Fail> {
-    let alloc = rt.alloc();
-    assert!(rt; is_its_clone(&breadcrumb(alloc, 1)?, &breadcrumb(alloc, 2)?)?);
-    assert!(rt; is_its_clone(&user(alloc, 1)?, &user(alloc, 2)?)?);
-    assert!(rt; is_its_clone(&request(alloc, "80")?, &request(alloc, "81")?)?);
-    assert!(rt; is_its_clone(&exception(alloc, true)?, &exception(alloc, false)?)?);
-    assert!(rt; is_its_clone(&trace(alloc, 1)?, &trace(alloc, 2)?)?);
-    assert!(rt; is_its_clone(&sdk(alloc, "0.49.3")?, &sdk(alloc, "0.49.2")?)?);
+/// Contexts of each kind.
+fn contexts(alloc: Global) -> Result<TextMap<Context>, AllocError> {
     let system = Context::Os {
         name: some(alloc, "linux")?,
         version: None,
     };
-    assert!(rt; is_its_clone(&system, &Context::Other(number(alloc, 1)?))?);
-    Ok(())
+    let mut contexts = TextMap::new(alloc);
+    contexts.insert(Text::new(alloc, "trace")?, trace(alloc)?)?;
+    contexts.insert(Text::new(alloc, "os")?, system)?;
+    contexts.insert(Text::new(alloc, "other")?, Context::Other(number(alloc)?))?;
+    Ok(contexts)
 }
 
 /// An event with something in each field.
@@ -124,45 +120,43 @@ fn event(alloc: Global, tag: &str) -> Result<Event, AllocError> {
     event.server_name = some(alloc, "host")?;
     event.release = some(alloc, "app@1")?;
     event.environment = some(alloc, "production")?;
-    event.user = Some(user(alloc, 1)?);
-    event.request = Some(request(alloc, "80")?);
-    event.sdk = Some(sdk(alloc, "0.49.3")?);
-    event.exception.push(exception(alloc, false)?)?;
-    event.breadcrumbs.push(breadcrumb(alloc, 1)?)?;
-    event
-        .contexts
-        .insert(Text::new(alloc, "trace")?, trace(alloc, 1)?)?;
-    event.extra = number(alloc, 1)?;
+    event.user = Some(user(alloc)?);
+    event.request = Some(request(alloc)?);
+    event.sdk = Some(sdk(alloc)?);
+    event.exception.push(exception(alloc)?)?;
+    event.breadcrumbs.push(breadcrumb(alloc)?)?;
+    event.contexts = contexts(alloc)?;
+    event.extra = number(alloc)?;
     event.tags = entry(alloc, tag)?;
     Ok(event)
 }
 
-fn attachment(alloc: Global, byte: u8) -> Result<Attachment, AllocError> {
-    Ok(Attachment {
+fn attachment(alloc: Global) -> Result<EnvelopeItem, AllocError> {
+    Ok(EnvelopeItem::Attachment(Attachment {
         filename: Text::new(alloc, "log.txt")?,
-        buffer: Items::from_vec(vec![in alloc; byte]?),
+        buffer: Items::from_vec(vec![in alloc; 7]?),
         content_type: some(alloc, "text/plain")?,
-    })
+    }))
 }
 
-fn report(alloc: Global, quantity: u64) -> Result<ClientReport, AllocError> {
+fn report(alloc: Global) -> Result<EnvelopeItem, AllocError> {
     let item = ClientReportItem {
         category: Category::Error,
         reason: Reason::BeforeSend,
-        quantity,
+        quantity: 1,
     };
-    Ok(ClientReport {
+    Ok(EnvelopeItem::ClientReport(ClientReport {
         items: Items::from_vec(vec![in alloc; item]?),
-    })
+    }))
 }
 
-/// An envelope of an attachment, two events and a report, with the trace of an event.
+/// An envelope of an attachment, a report and two events, with the trace of an event.
 fn envelope(alloc: Global, public_key: &str) -> Result<Envelope, AllocError> {
     let mut envelope = Envelope::new(alloc);
-    envelope.add_item(EnvelopeItem::Attachment(attachment(alloc, 1)?))?;
+    envelope.add_item(attachment(alloc)?)?;
+    envelope.add_item(report(alloc)?)?;
     envelope.add_item(EnvelopeItem::Event(event(alloc, "linux")?))?;
     envelope.add_item(EnvelopeItem::Event(Event::new(alloc, Uuid::nil(), 5)?))?;
-    envelope.add_item(EnvelopeItem::ClientReport(report(alloc, 1)?))?;
     envelope.header.trace = Some(DynamicSamplingContext {
         trace_id: Some(TraceId([1; 16])),
         sample_rate: Some(SampleRate::all()),
@@ -173,16 +167,26 @@ fn envelope(alloc: Global, public_key: &str) -> Result<Envelope, AllocError> {
 }
 
 #[test]
-fn events_and_envelopes_are_their_clones(rt: HostRuntime) -> Result<(), Fail> {
+fn events_are_their_clones(rt: HostRuntime) -> Result<(), Fail> {
     let alloc = rt.alloc();
-    assert!(rt; is_its_clone(&event(alloc, "linux")?, &event(alloc, "macos")?)?);
-    assert!(rt; is_its_clone(&attachment(alloc, 1)?, &attachment(alloc, 2)?)?);
-    assert!(rt; is_its_clone(&report(alloc, 1)?, &report(alloc, 2)?)?);
-    let one = envelope(alloc, "public")?;
-    assert!(rt; is_its_clone(&one, &envelope(alloc, "other")?)?);
-    assert_eq!(rt; one.header.event_id, Some(Uuid::from_bytes([9; 16])));
+    assert!(rt; is_its_clone(event(alloc, "linux")?, event(alloc, "macos")?)?);
+    Ok(())
+}
+
+#[test]
+fn envelopes_are_their_clones(rt: HostRuntime) -> Result<(), Fail> {
+    let alloc = rt.alloc();
+    assert!(rt; is_its_clone(envelope(alloc, "public")?, envelope(alloc, "other")?)?);
+    Ok(())
+}
+
+#[test]
+fn an_envelope_has_the_id_of_its_first_event(rt: HostRuntime) -> Result<(), Fail> {
+    let alloc = rt.alloc();
+    let first = envelope(alloc, "public")?.header.event_id;
+    assert_eq!(rt; first, Some(Uuid::from_bytes([9; 16])));
     let mut attached = Envelope::new(alloc);
-    attached.add_item(EnvelopeItem::Attachment(attachment(alloc, 1)?))?;
+    attached.add_item(attachment(alloc)?)?;
     assert_eq!(rt; attached.header.event_id, None);
     Ok(())
 }
