@@ -245,13 +245,7 @@ impl<P: EventCallback + Drop, C: Callbacks> Engine<P, C> {
         let Some(client) = self.client_at(key) else {
             return Ok(self.out(Uuid::nil()));
         };
-        prepare_captured(
-            self.alloc,
-            client,
-            &held.stack.top.scope,
-            fresh.uuid,
-            &mut event,
-        )?;
+        prepare_captured(self.alloc, client, &held.stack.top.scope, fresh.uuid, &mut event)?;
         let reply = captured_id(&event);
         let sent = captured_envelopes(self.alloc, key, event)?;
         self.set_last_event_id(hub.number, reply);
