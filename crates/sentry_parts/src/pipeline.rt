@@ -7,9 +7,7 @@ ghost use Rattle.sentry_parts.specs.Pipeline.{with_id, with_sdk, sdk_info, with_
 use sentry_base::protocol::{ClientSdkInfo, ClientSdkPackage, Draw, Event, Fresh, Reason, Uuid};
 use sentry_plain::{Items, Text};
 use sentry_state::callbacks::EventCallback;
-use sentry_state::clientoptions::{
-    Callbacks, ClientOptions, EventSamplingStrategy, PlainOptions,
-};
+use sentry_state::clientoptions::{Callbacks, ClientOptions, EventSamplingStrategy, PlainOptions};
 use sentry_state::constants::{PACKAGE_NAME, SDK_NAME, VERSION};
 use sentry_state::scope::Scope;
 use std::alloc::{AllocError, Global};
