@@ -1,9 +1,10 @@
 //! Engines over boxed callbacks, whole runs of calls, and keys and numbers that no command can name.
 use crate::callbacks::{boxed_adds, boxed_drops, boxed_hides, boxed_multiplies};
+use sentry_core::client_report::{Drained, LossWords, TransportLossReason};
 use sentry_core::engine::{Call, Engine, Out, Reply};
 use sentry_core::protocol::{
-    ClientKey, Draw, EnvelopeItem, Event, Fresh, HubKey, Label, Refusal, SampleRate, SpanId,
-    TraceId, Uuid,
+    Category, ClientKey, ClientReportItem, Draw, Envelope, EnvelopeItem, Event, Fresh, HubKey,
+    Label, Losses, Reason, Refusal, SampleRate, SpanId, TraceId, Uuid,
 };
 use sentry_core::types::Dsn;
 use sentry_core::{ClientOptions, Level, Scope, ScopeEdit};
@@ -271,7 +272,42 @@ fn calls(alloc: Global) -> Result<Vec<Call>, Refusal> {
         fresh: fresh(3),
     })?;
     calls.push(Call::LastEventId(HUB))?;
+    push_later_calls(alloc, &mut calls)?;
     Ok(calls.into_vec())
+}
+
+/// The calls on losses, on events of a client, and on the hub.
+fn push_later_calls(alloc: Global, calls: &mut Items<Call>) -> Result<(), Refusal> {
+    calls.push(Call::TakeReport(LABEL))?;
+    calls.push(Call::Absorb {
+        label: LABEL,
+        losses: Losses::of(Category::Error, Reason::NetworkError, 2),
+    })?;
+    calls.push(Call::PrepareEvent {
+        client: CLIENT,
+        event: Event::new(alloc, id(9), 1)?,
+        scope: Some(scope(alloc)),
+        fresh: fresh(4),
+    })?;
+    calls.push(Call::ClientCaptureEvent {
+        client: CLIENT,
+        event: Event::new(alloc, id(9), 1)?,
+        scope: None,
+        fresh: fresh(4),
+    })?;
+    calls.push(Call::SendEnvelope {
+        client: CLIENT,
+        envelope: Envelope::new(alloc),
+    })?;
+    calls.push(Call::CaptureError {
+        hub: HUB,
+        links: Items::new(alloc),
+        fresh: fresh(5),
+    })?;
+    calls.push(Call::Client(HUB))?;
+    calls.push(Call::IsActive(HUB))?;
+    calls.push(Call::Scope(HUB))?;
+    Ok(())
 }
 
 /// Whether the reply is the one that is expected of the call of this index.
@@ -286,6 +322,14 @@ fn is_expected(reply: &Reply, index: usize) -> bool {
         (7, Reply::Event(event)) => *event == id(9),
         (9, Reply::Event(event)) => *event == id(3),
         (10, Reply::LastEvent(event)) => *event == Some(id(3)),
+        (11, Reply::Report(report)) => report.is_none(),
+        (12 | 15, Reply::Done) => true,
+        (13, Reply::Prepared(Some(event))) => event.event_id == id(9),
+        (14, Reply::Event(event)) => *event == id(9),
+        (16, Reply::Event(event)) => *event == id(5),
+        (17, Reply::HubClient(client)) => *client == Some(CLIENT),
+        (18, Reply::Decision(decision)) => *decision,
+        (19, Reply::Scope(scope)) => scope.tags.len() == 1,
         _ => false,
     }
 }
@@ -294,17 +338,72 @@ fn is_expected(reply: &Reply, index: usize) -> bool {
 fn a_list_of_calls_answers_one_by_one(rt: HostRuntime) -> Result<(), Fail> {
     let alloc = rt.alloc();
     let (engine, answers) = Engine::run(alloc, 0, calls(alloc)?)?;
-    assert_eq!(rt; answers.len(), 11);
+    assert_eq!(rt; answers.len(), 20);
     for (index, answer) in answers.iter().enumerate() {
         match answer {
             Ok(out) => {
                 assert!(rt; is_expected(&out.reply, index), "at {index}");
-                let sends = index == 7 || index == 9;
-                assert_eq!(rt; out.sent.len(), sends as usize, "at {index}");
+                let sent = match index {
+                    7 | 9 | 14 | 15 | 16 => 1,
+                    _ => 0,
+                };
+                assert_eq!(rt; out.sent.len(), sent, "at {index}");
             }
             Err(refusal) => assert!(rt; index == 8 && *refusal == Refusal::Stale),
         }
     }
-    assert_eq!(rt; engine.last_event_id(HUB)?.reply, Some(id(3)));
+    assert_eq!(rt; engine.last_event_id(HUB)?.reply, Some(id(5)));
+    Ok(())
+}
+
+/// Why the first engine refuses the losses, if it does, and whether the second takes them then.
+fn absorbed(first: &mut Engine, second: &mut Engine, drained: Drained) -> (Option<Refusal>, bool) {
+    match first.absorb(drained) {
+        Ok(_) => (None, false),
+        Err((refusal, drained)) => match second.absorb(drained) {
+            Ok(_) => (Some(refusal), true),
+            Err((_, drained)) => {
+                drained.into_parts();
+                (Some(refusal), false)
+            }
+        },
+    }
+}
+
+#[test]
+fn refused_losses_are_handed_back(rt: HostRuntime) -> Result<(), Fail> {
+    let alloc = rt.alloc();
+    let mut first = Engine::new(alloc, 0);
+    let mut second = Engine::new(alloc, 0);
+    second.add_client(options(alloc)?, true, LABEL, 0)?;
+    let (mut recorder, mut drainer) = LossWords::new(alloc, LABEL)?;
+    let event = Event::new(alloc, id(9), 1)?;
+    recorder.record_lost_data(&event, TransportLossReason::NetworkError);
+    let absorbed = absorbed(&mut first, &mut second, drainer.drain());
+    assert_eq!(rt; absorbed, (Some(Refusal::ForeignLosses), true));
+    let Some(report) = second.take_report(LABEL)?.reply else {
+        panic!(rt; "nothing is reported")
+    };
+    let lost = ClientReportItem {
+        category: Category::Error,
+        reason: Reason::NetworkError,
+        quantity: 1,
+    };
+    assert!(rt; report.items.as_slice() == [lost].as_slice());
+    Ok(())
+}
+
+#[test]
+fn a_quantity_that_wraps_to_zero_is_not_reported(rt: HostRuntime) -> Result<(), Fail> {
+    let alloc = rt.alloc();
+    let mut engine = Engine::new(alloc, 0);
+    engine.add_client(options(alloc)?, true, LABEL, 0)?;
+    for quantity in [u64::MAX, 2, u64::MAX] {
+        engine.apply(Call::Absorb {
+            label: LABEL,
+            losses: Losses::of(Category::Error, Reason::QueueOverflow, quantity),
+        })?;
+    }
+    assert!(rt; engine.take_report(LABEL)?.reply.is_none());
     Ok(())
 }

@@ -1,9 +1,9 @@
 //! Scopes, and the pipeline of an event over boxed callbacks.
 use crate::callbacks::{boxed_adds, boxed_drops, boxed_hides};
-use crate::engines::{DSN, id, scope};
+use crate::engines::{DSN, fresh, id, scope};
 use sentry_core::protocol::{Event, Refusal, Uuid};
 use sentry_core::{ClientOptions, Level, Scope, ScopeEdit};
-use sentry_parts::pipeline::{Place, prepare_event};
+use sentry_parts::pipeline::{Place, Preparation, prepare_event};
 use sentry_plain::{Items, Text};
 use std::alloc::Global;
 use std::test::Fail;
@@ -52,15 +52,15 @@ fn a_scope_is_what_its_setters_made(rt: HostRuntime) -> Result<(), Fail> {
     Ok(())
 }
 
-/// The place that dropped an event, if one did, and the id of what came out of the pipeline. It went in without an id.
+/// What became of an event, and the id of what came out of the pipeline. It went in without an id.
 fn prepared(
     alloc: Global,
     options: &ClientOptions,
-    scope: &Scope,
-) -> Result<(Option<Place>, Option<Uuid>), Refusal> {
+    scope: Option<&Scope>,
+) -> Result<(Preparation, Option<Uuid>), Refusal> {
     let mut event = Some(Event::new(alloc, Uuid::nil(), 1)?);
-    let place = prepare_event(alloc, options, scope, id(5), &mut event)?;
-    Ok((place, event.as_ref().map(|event| event.event_id)))
+    let preparation = prepare_event(alloc, options, scope, fresh(5), &mut event)?;
+    Ok((preparation, event.as_ref().map(|event| event.event_id)))
 }
 
 #[test]
@@ -68,21 +68,28 @@ fn a_dropped_event_tells_the_place(rt: HostRuntime) -> Result<(), Fail> {
     let alloc = rt.alloc();
     let mut scope = scope(alloc);
     let options = ClientOptions::from_dsn(alloc, DSN)?;
-    assert_eq!(rt; prepared(alloc, &options, &scope)?, (None, Some(id(5))));
+    let kept = (Preparation::Kept, Some(id(5)));
+    assert_eq!(rt; prepared(alloc, &options, None)?, kept);
+    assert_eq!(rt; prepared(alloc, &options, Some(&scope))?, kept);
+    let silent = options.clone()?.sample_rate(0)?;
+    assert_eq!(rt;
+        prepared(alloc, &silent, None)?,
+        (Preparation::SampledOut, Some(id(5)))
+    );
     let options = options.before_send(boxed_drops(alloc)?)?;
     assert_eq!(rt;
-        prepared(alloc, &options, &scope)?,
-        (Some(Place::BeforeSend), None)
+        prepared(alloc, &options, Some(&scope))?,
+        (Preparation::Dropped(Place::BeforeSend), None)
     );
     let options = options.add_integration(boxed_hides(alloc)?)?;
     assert_eq!(rt;
-        prepared(alloc, &options, &scope)?,
-        (Some(Place::Integration), None)
+        prepared(alloc, &options, Some(&scope))?,
+        (Preparation::Dropped(Place::Integration), None)
     );
     scope.add_event_processor(boxed_drops(alloc)?)?;
     assert_eq!(rt;
-        prepared(alloc, &options, &scope)?,
-        (Some(Place::EventProcessor), None)
+        prepared(alloc, &options, Some(&scope))?,
+        (Preparation::Dropped(Place::EventProcessor), None)
     );
     Ok(())
 }

@@ -4,15 +4,16 @@ use Rattle.std.specs.Int.{to_be_bytes, w64, w128}
 use Rattle.sentry_plain.specs.Texts.{Bytes}
 use Rattle.sentry_base.specs.declared.dsn.Scheme.TheVariants.{Https}
 use Rattle.sentry_base.specs.DsnParts.{DsnParts}
+use Rattle.sentry_base.specs.Envelopes.{empty_envelope}
 use Rattle.sentry_base.specs.declared.protocol.fresh.Fresh.{Fresh}
 use Rattle.sentry_state.specs.Options.{default_plain_options, default_options_with}
 use Rattle.sentry_state.specs.declared.clientoptions.ClientOptions.{ClientOptions}
 use Rattle.sentry_state.specs.Scopes.{new_scope}
 use Rattle.sentry_state.specs.declared.scope.edit.ScopeEdit.TheVariants.{SetTag}
-use Rattle.sentry_engine.specs.declared.call.Call.TheVariants.{AddClient, NewHub, Configure, CaptureMessage}
+use Rattle.sentry_engine.specs.declared.call.Call.TheVariants.{AddClient, NewHub, Configure, CaptureMessage, SendEnvelope}
 use Rattle.replay_run.specs.declared.engine.NoCallbacks.{NoCallbacks}
 use Rattle.replay_run.specs.declared.command.Command.{Command}
-use Rattle.replay_run.specs.declared.command.Command.TheVariants.{Client, Hub, Tag, Message}
+use Rattle.replay_run.specs.declared.command.Command.TheVariants.{Client, Hub, Tag, Message, Empty}
 use Rattle.replay_run.specs.Engines.{ReplayCall}
 
 -- the moment of the line of this number, which stops at 2^64-1
@@ -61,3 +62,4 @@ call_of number (Tag hub key value) =
     Configure (record { tag = 0; number = hub }) (SetTag key value ∷ []) (moment_of number)
 call_of number (Message hub level text) =
     CaptureMessage (record { tag = 0; number = hub }) text level (fresh_of number)
+call_of number (Empty client) = SendEnvelope (record { tag = 0; number = client }) empty_envelope

@@ -48,8 +48,8 @@ pub data Replays : ReplayWorld → ℕ → List Bytes → Bytes → ReplayEnd �
   -- no line is left
   at_end : {world : ReplayWorld} {number : ℕ} → Replays world number [] [] (Ok tt)
   -- the first line prints something, and then the others do
-  after_line : {world next : ReplayWorld} {number : ℕ} {line : Bytes} {lines : List Bytes} {end : ReplayEnd}
-      (printed more : Bytes)
+  after_line : {world next : ReplayWorld} {number : ℕ} {line : Bytes} {lines : List Bytes}
+      {end : ReplayEnd} (printed more : Bytes)
       → Prints world number line printed next
       → Replays next (next_number number) lines more end
       → Replays world number (line ∷ lines) (printed ++ more) end
@@ -62,8 +62,8 @@ pub data Replays : ReplayWorld → ℕ → List Bytes → Bytes → ReplayEnd �
       → Replays world number lines [] (Err OutOfMemory)
 
 -- an engine executed the line of this number, and a writer held these bytes before and after
-abbrev pub ExecutesLine : ReplayEngine → ReplayEngine → Option Bytes → Option Bytes → ℕ → Bytes → ReplayEnd
-    → Type 0
+abbrev pub ExecutesLine : ReplayEngine → ReplayEngine → Option Bytes → Option Bytes → ℕ → Bytes
+    → ReplayEnd → Type 0
 ExecutesLine old new before after number line (Ok done) =
     (world : ReplayWorld) → Stands old world
     → (printed : Bytes) × (next : ReplayWorld) × Prints world number line printed next

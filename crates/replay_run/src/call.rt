@@ -6,7 +6,9 @@ ghost use Rattle.replay_run.specs.Calls.{moment_of, fresh_of, client_dsn_text, c
 use crate::command::Command;
 use crate::engine::{NoCallbacks, ReplayCall};
 use sentry_base::dsn::Dsn;
-use sentry_base::protocol::{ClientKey, Draw, Fresh, HubKey, Label, SpanId, TraceId, Uuid};
+use sentry_base::protocol::{
+    ClientKey, Draw, Envelope, Fresh, HubKey, Label, SpanId, TraceId, Uuid,
+};
 use sentry_engine::call::Call;
 use sentry_plain::{Items, Text};
 use sentry_state::clientoptions::{ClientOptions, PlainOptions, TracesSamplingStrategy};
@@ -107,6 +109,13 @@ pub fn build_call(alloc: Global, number: u64, command: Command) -> Result<Replay
             message: text,
             level,
             fresh,
+        }),
+        Command::Empty(client) => Ok(Call::SendEnvelope {
+            client: ClientKey {
+                tag: TAG,
+                number: client,
+            },
+            envelope: Envelope::new(alloc),
         }),
     }
 }

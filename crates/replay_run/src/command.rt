@@ -1,6 +1,6 @@
 //! Commands, and the lines that spell them.
 ghost use Rattle.std.specs.Prelude.{◌≡◌, IfOk, IfSome, IfNone};
-ghost use Rattle.replay_run.specs.Reading.{client_of, hub_of, tag_of, message_of, form_of, command_of};
+ghost use Rattle.replay_run.specs.Reading.{client_of, hub_of, tag_of, message_of, empty_of, form_of, command_of};
 ghost use Rattle.replay_run.specs.Commands.{Spells};
 ghost use Rattle.replay_run.specs.declared.command.Command.{Command};
 ghost use Rattle.sentry_plain.specs.Texts.{Bytes};
@@ -21,6 +21,8 @@ pub enum Command {
     Tag { hub: u64, key: Text, value: Text },
     /// Captures a message on a hub.
     Message { hub: u64, level: Level, text: Text },
+    /// Sends an empty envelope of the client of this number.
+    Empty(u64),
 }
 
 #[tactic(auto, unfolding(crate::specs::Reading::client_of))]
@@ -84,6 +86,13 @@ fn parse_message(alloc: Global, text: &str) -> Result<Option<Command>, AllocErro
     Ok(Some(Command::Message { hub, level, text }))
 }
 
+#[tactic(auto, unfolding(crate::specs::Reading::empty_of))]
+fn parse_empty(text: &str) -> Option<Command>
+    ensures { result ≡ empty_of text.now }
+{
+    Some(Command::Empty(parse_number(text)?))
+}
+
 #[tactic(auto, unfolding(crate::specs::Reading::form_of, crate::specs::Reading::command_of))]
 fn parse_text(alloc: Global, line: &str) -> Result<Option<Command>, AllocError>
     ensures { IfOk result (λ found. found ≡ command_of line.now) }
@@ -96,6 +105,7 @@ fn parse_text(alloc: Global, line: &str) -> Result<Option<Command>, AllocError>
         "hub" => Ok(parse_hub(rest)),
         "tag" => parse_tag(alloc, rest),
         "message" => parse_message(alloc, rest),
+        "empty" => Ok(parse_empty(rest)),
         _ => Ok(None),
     }
 }

@@ -5,7 +5,7 @@ ghost use Rattle.replay_run.specs.Reading.{cut, number_of, level_of, is_word};
 
 use sentry_base::protocol::Level;
 
-/// What stands before the first space of a text, and what follows it.
+/// The text before the first space, and the text after it.
 pub fn cut(text: &str) -> Option<(&str, &str)>
     ensures { option_map (λ parts. (parts.0.now, parts.1.now)) result ≡ cut text.now }
 {

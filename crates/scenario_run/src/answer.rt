@@ -1,7 +1,7 @@
 //! What commands come to.
 use sentry_base::dsn::{Dsn, ParseDsnError};
 use sentry_base::headers::{HeaderParseError, TracePropagationContext};
-use sentry_base::protocol::{ClientKey, Envelope, Refusal, Uuid};
+use sentry_base::protocol::{ClientKey, ClientReport, Envelope, Refusal, Uuid};
 use sentry_engine::engine::Out;
 use sentry_plain::Items;
 use std::alloc::Global;
@@ -26,8 +26,22 @@ pub enum Reply<'a> {
     Nothing,
     Refused(Refusal),
     Sample(bool),
-    Enabled { client: u64, is_enabled: bool },
-    LastEvent { hub: u64, id: Option<Uuid> },
+    Enabled {
+        client: u64,
+        is_enabled: bool,
+    },
+    Report {
+        client: u64,
+        report: Option<ClientReport>,
+    },
+    LastEvent {
+        hub: u64,
+        id: Option<Uuid>,
+    },
+    Active {
+        hub: u64,
+        is_active: bool,
+    },
     Headers(Result<TracePropagationContext, HeaderParseError>),
     Dsn(Result<Option<Dsn>, ParseDsnError>),
     DebugType(&'a str),

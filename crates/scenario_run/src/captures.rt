@@ -1,10 +1,10 @@
-//! Lines that capture an event on a hub: `message`, `exception` and `rich`.
+//! Lines that capture an event on a hub: `message`, `exception`, `error` and `rich`.
 use crate::answer::Answer;
 use crate::fault::Failure;
 use crate::rich::rich_event;
 use crate::scenario::{Scenario, hub_key};
 use crate::words::Words;
-use sentry_base::protocol::{Event, Exception, Fresh, Level, Mechanism};
+use sentry_base::protocol::{ErrorLink, Event, Exception, Fresh, Level, Mechanism};
 use sentry_plain::Text;
 use std::alloc::{AllocError, Global};
 
@@ -28,6 +28,8 @@ enum Capture<'a> {
         handled: Option<bool>,
         value: &'a str,
     },
+    /// `error H REST`
+    Error(&'a str),
     /// `rich H LEVEL REST`
     Rich {
         level: Level,
@@ -50,6 +52,7 @@ impl<'a> CaptureCommand<'a> {
                 handled: handled(words.word()?)?,
                 value: words.rest()?,
             },
+            "error" => Capture::Error(words.rest()?),
             "rich" => Capture::Rich {
                 level: words.level()?,
                 message: words.rest()?,
@@ -95,6 +98,28 @@ fn exception_event(
     Ok(event)
 }
 
+fn error_link(alloc: Global, debug: &str, shown: String) -> Result<ErrorLink, AllocError> {
+    let mut quoted = String::new(alloc);
+    write!(quoted, "{shown:?}")?;
+    Ok(ErrorLink {
+        debug: Text::new(alloc, debug)?,
+        shown: Text::from_string(shown),
+        quoted: Text::from_string(quoted),
+    })
+}
+
+/// An error with a cause.
+fn error_links(alloc: Global, message: &str) -> Result<[ErrorLink; 2], AllocError> {
+    let mut shown = String::new(alloc);
+    write!(shown, "{message}")?;
+    let mut cause = String::new(alloc);
+    write!(cause, "cause of {message}")?;
+    Ok([
+        error_link(alloc, "Fault { .. }", shown)?,
+        error_link(alloc, "Cause(..)", cause)?,
+    ])
+}
+
 impl Scenario {
     /// Captures what a line asks for.
     pub fn capture<'a>(&mut self, command: &CaptureCommand<'_>) -> Result<Answer<'a>, Failure> {
@@ -110,6 +135,11 @@ impl Scenario {
                 handled,
                 value,
             } => exception_event(self.alloc, level, handled, value, fresh)?,
+            Capture::Error(message) => {
+                let links = error_links(self.alloc, message)?;
+                let out = self.engine.capture_error(hub, &links, fresh)?;
+                return Ok(Answer::of_sent(out));
+            }
             Capture::Rich { level, message } => rich_event(self.alloc, level, message, fresh)?,
         };
         Ok(Answer::of_sent(self.engine.capture_event(hub, event, fresh)?))

@@ -2,9 +2,9 @@
 use crate::answer::{Answer, Reply};
 use crate::fault::Failure;
 use crate::options::{ClientPlan, OptionWords};
-use crate::scenario::{Scenario, TAG, client_key};
+use crate::scenario::{Scenario, client_key, client_label};
 use crate::words::{Words, small};
-use sentry_base::protocol::{Draw, Label, Refusal, SampleRate};
+use sentry_base::protocol::{Draw, Refusal, SampleRate};
 
 /// What a line asks of a client, or of the engine's sampling.
 #[derive(Clone, Copy)]
@@ -57,7 +57,7 @@ impl Scenario {
         }
     }
 
-    // A client's losses go to a table of its own, which the number of its line names.
+    // A client has a label of its own.
     fn add_client<'a>(
         &mut self,
         release: Option<&str>,
@@ -65,12 +65,10 @@ impl Scenario {
     ) -> Result<Answer<'a>, Refusal> {
         let plan = ClientPlan::new(self.alloc, release)?;
         let ClientPlan { options, transport } = plan.set_all(self.alloc, options)?;
-        let label = Label {
-            tag: TAG,
-            number: self.line,
-        };
+        let label = client_label(self.clients);
         let now = self.moment();
         let out = self.engine.add_client(options, transport, label, now)?;
+        self.clients = out.reply.number.saturating_add(1);
         Ok(Answer::of_sent(out))
     }
 

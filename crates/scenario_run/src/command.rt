@@ -3,6 +3,7 @@ use crate::captures::CaptureCommand;
 use crate::clients::ClientCommand;
 use crate::headers::HeaderCommand;
 use crate::hubs::HubCommand;
+use crate::losses::LossCommand;
 use crate::scopes::ScopeCommand;
 use crate::settings::Setting;
 use crate::texts::TextCommand;
@@ -13,6 +14,7 @@ use crate::words::Words;
 pub enum Command<'a> {
     Setting(Setting),
     Client(ClientCommand<'a>),
+    Loss(LossCommand),
     Hub(HubCommand),
     Scope(ScopeCommand<'a>),
     Capture(CaptureCommand<'a>),
@@ -31,6 +33,9 @@ impl<'a> Command<'a> {
         }
         if let Some(command) = ClientCommand::read(name, words) {
             return Some(Command::Client(command));
+        }
+        if let Some(command) = LossCommand::read(name, words) {
+            return Some(Command::Loss(command));
         }
         if let Some(command) = HubCommand::read(name, words) {
             return Some(Command::Hub(command));

@@ -1,4 +1,4 @@
-//! Lines on hubs: `hub` and `last`.
+//! Lines on hubs: `hub`, `active` and `last`.
 use crate::answer::{Answer, Reply};
 use crate::fault::Failure;
 use crate::scenario::{Scenario, client_key, hub_key};
@@ -11,6 +11,8 @@ use sentry_state::scope::Scope;
 pub enum HubCommand {
     /// `hub C` or `hub -`
     Add(Option<u64>),
+    /// `active H`
+    IsActive(u64),
     /// `last H`
     LastEvent(u64),
 }
@@ -21,6 +23,7 @@ impl HubCommand {
         let mut words = words;
         let command = match name {
             "hub" => HubCommand::Add(words.number_or_none()?),
+            "active" => HubCommand::IsActive(words.number()?),
             "last" => HubCommand::LastEvent(words.number()?),
             _ => return None,
         };
@@ -34,6 +37,7 @@ impl Scenario {
     pub fn perform_on_hub<'a>(&mut self, command: HubCommand) -> Result<Answer<'a>, Failure> {
         match command {
             HubCommand::Add(client) => Ok(self.add_hub(client)?),
+            HubCommand::IsActive(hub) => Ok(self.is_active(hub)?),
             HubCommand::LastEvent(hub) => Ok(self.last_event(hub)?),
         }
     }
@@ -46,6 +50,11 @@ impl Scenario {
         let fresh = self.fresh();
         let scope = Scope::new(self.alloc, fresh.trace_id, fresh.span_id);
         Ok(Answer::of_sent(self.engine.new_hub(client, scope)?))
+    }
+
+    fn is_active<'a>(&self, hub: u64) -> Result<Answer<'a>, Refusal> {
+        let is_active = self.engine.is_active(hub_key(hub))?.reply;
+        Ok(Answer::new(self.alloc, Reply::Active { hub, is_active }))
     }
 
     fn last_event<'a>(&self, hub: u64) -> Result<Answer<'a>, Refusal> {

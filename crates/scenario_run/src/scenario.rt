@@ -4,13 +4,13 @@ use crate::callbacks::{Callbacks, Handler};
 use crate::command::Command;
 use crate::fault::Failure;
 use crate::headers::Header;
-use sentry_base::protocol::{ClientKey, Draw, Fresh, HubKey, SpanId, TraceId, Uuid};
+use sentry_base::protocol::{ClientKey, Draw, Fresh, HubKey, Label, SpanId, TraceId, Uuid};
 use sentry_engine::engine::Engine;
 use sentry_plain::Items;
 use std::alloc::Global;
 
 /// The tag of the one engine, by which its keys are told.
-pub const TAG: u64 = 0;
+const TAG: u64 = 0;
 
 const NANOSECONDS: u64 = 1_000_000_000;
 
@@ -18,6 +18,8 @@ const NANOSECONDS: u64 = 1_000_000_000;
 pub struct Scenario {
     pub alloc: Global,
     pub engine: Engine<Handler, Callbacks>,
+    /// How many clients there are. A client's label has its number.
+    pub clients: u64,
     /// The number of the line that is being done.
     pub line: u64,
     /// The moment of each line in nanoseconds, or none where each has its own.
@@ -33,6 +35,7 @@ impl Drop for Scenario {
         let Scenario {
             alloc: _,
             engine: _,
+            clients: _,
             line: _,
             now: _,
             draw: _,
@@ -46,6 +49,11 @@ pub fn client_key(number: u64) -> ClientKey {
     ClientKey { tag: TAG, number }
 }
 
+/// The label of the client of this number.
+pub fn client_label(number: u64) -> Label {
+    Label { tag: TAG, number }
+}
+
 /// The key of the hub of this number.
 pub fn hub_key(number: u64) -> HubKey {
     HubKey { tag: TAG, number }
@@ -57,6 +65,7 @@ impl Scenario {
         Scenario {
             alloc,
             engine: Engine::new(alloc, TAG),
+            clients: 0,
             line: 0,
             now: None,
             draw: Draw::new(0).unwrap(),
@@ -91,6 +100,7 @@ impl Scenario {
         match command {
             Command::Setting(setting) => Ok(self.set(*setting)),
             Command::Client(command) => self.perform_on_client(command),
+            Command::Loss(command) => self.perform_on_losses(*command),
             Command::Hub(command) => self.perform_on_hub(*command),
             Command::Scope(command) => self.configure(command),
             Command::Capture(command) => self.capture(command),

@@ -33,6 +33,14 @@ impl<'a> Words<'a> {
         self.left.take()
     }
 
+    /// All that is left, which may be `-` for none.
+    pub fn rest_or_none(&mut self) -> Option<Option<&'a str>> {
+        match self.rest()? {
+            NONE => Some(None),
+            rest => Some(Some(rest)),
+        }
+    }
+
     /// That nothing is left.
     pub fn end(&self) -> Option<()> {
         match self.left {

@@ -35,11 +35,11 @@ last_nonempty_text texts = unwrap_or (last_or None (filter (λ text. not (is_emp
 abbrev pub project_of : Bytes → Bytes
 project_of path = last_nonempty_text (slice_split is_slash path)
 
--- the project of this name, which may not be empty
+-- the project of this id, which may not be empty
 abbrev pub project_id_of : Bytes → Result Bytes ParseDsnError
 project_id_of name = if is_empty name then Err InvalidProjectId else Ok name
 
--- the scheme by this name
+-- the scheme of this name
 abbrev pub scheme_of : Bytes → Option Scheme
 scheme_of name =
     if bytes_eq name (codes "http") then Some Http
@@ -73,6 +73,7 @@ organization_of_host host =
 
 -- ---- the DSN
 
+-- the DSN of a URL with this scheme and host
 abbrev pub with_host : Parts → Scheme → Option Bytes → Result DsnParts ParseDsnError
 with_host url scheme None = Err InvalidUrl
 with_host url scheme (Some host) = Ok (record {
@@ -85,6 +86,7 @@ with_host url scheme (Some host) = Ok (record {
   text = serialize url;
 })
 
+-- the DSN of a URL with this scheme
 abbrev pub with_scheme : Parts → Option Scheme → Result DsnParts ParseDsnError
 with_scheme url None = Err InvalidScheme
 with_scheme url (Some scheme) = with_host url scheme (option_map host_text (nonempty_host url))
@@ -96,6 +98,7 @@ dsn_of url =
     else if is_empty url.username then Err NoUsername
     else with_scheme url (scheme_of url.scheme)
 
+-- the DSN of what `url` reads
 abbrev pub dsn_of_parsed : Parsed Parts → Result DsnParts ParseDsnError
 dsn_of_parsed (Ok url) = dsn_of url
 dsn_of_parsed (Err e) = Err InvalidUrl

@@ -109,10 +109,11 @@ impl Clone for ProjectId {
 }
 
 impl ProjectId {
-    /// Makes a project id. Fails with `InvalidProjectId` if the text is empty.
+    /// Makes a project id. Fails with `InvalidProjectId` if the text is empty, and with `OutOfMemory` if an allocation
+    /// fails.
     pub fn new(alloc: Global, name: &str) -> Result<ProjectId, Refusal>
         ensures answer { GivesDsn result (project_id_of name.now) }
-        // The text is tested before it is copied.
+        // A refusal never turns into out of memory: the text is tested before it is copied.
         ensures memory { result ≡ Err Refusal.OutOfMemory → IsOk (project_id_of name.now) }
     {
         if name.is_empty() {
@@ -231,7 +232,8 @@ impl Dsn {
     ///
     /// Fails with the first of these that applies: `InvalidUrl` if the text is not a URL, `NoProjectId` if the path has
     /// no project id, `NoUsername` if there is no user name, `InvalidScheme` if the scheme is neither `http` nor
-    /// `https`, and `InvalidUrl` if there is no host.
+    /// `https`, and `InvalidUrl` if there is no host. A text of 16 MiB or more may be refused as `InvalidUrl` for its
+    /// length. Fails with `OutOfMemory` if an allocation fails.
     pub fn parse(alloc: Global, text: &str) -> Result<Dsn, Refusal>
         ensures { GivesDsn result (dsn_of_text text.now) ⊎ IsRefusedAsTooLong result text.now }
     {
@@ -246,7 +248,7 @@ impl Dsn {
     // The DSN that a URL is.
     fn from_url(alloc: Global, url: &Url) -> Result<Dsn, Refusal>
         ensures answer { GivesDsn result (dsn_of url.now) }
-        // The URL is tested before any part of it is copied.
+        // A refusal never turns into out of memory: the URL is tested before its parts are copied.
         ensures memory { result ≡ Err Refusal.OutOfMemory → IsOk (dsn_of url.now) }
     {
         let project = project_of(url.path());

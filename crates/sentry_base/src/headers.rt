@@ -173,8 +173,8 @@ impl TracePropagationContext {
 
     /// Reads the trace and the organization from a list of headers. Of several valid values, the last one counts.
     ///
-    /// Fails with `Missing` if no header is named `sentry-trace`, and with `Invalid` if none of those that are is valid.
-    /// Invalid entries of `baggage` headers are ignored.
+    /// Fails with `Missing` if no header is named `sentry-trace`, and with `Invalid` if there are such headers but none
+    /// is valid. Invalid entries of `baggage` headers are ignored.
     pub fn try_from_headers<'a, I: IntoIterator<Item = (&'a str, &'a str)>>(
         headers: I,
     ) -> Result<TracePropagationContext, HeaderParseError>

@@ -1,88 +1,182 @@
 -- What an engine finds and stores is what the world has, without the histories.
 use Rattle.std.proofs.Common.{◌≡◌, refl, ap, ◌∙◌, sym, ℕ, List, [], ◌∷◌, Bool, true, false, cond}
-use Rattle.std.specs.Prelude.{Option, Some, None, nat_eq}
-use Rattle.std.specs.Option.{option_map}
+use Rattle.std.specs.Prelude.{Option, Some, None, unwrap_or}
+use Rattle.std.specs.Option.{option_map, is_some, option_and_then}
 use Rattle.std.specs.declared.cmp.Ordering.{Ordering}
 use Rattle.std.specs.declared.cmp.Ordering.TheVariants.{Less, Equal, Greater}
 use Rattle.std.specs.Ordering.{match_ordering, nat_cmp}
 use Rattle.std.specs.BTreeMap.{is_at}
-use Rattle.sentry_plain.specs.Tables.{value_at, put, replace_at}
-use Rattle.sentry_engine.specs.declared.engine.Client.{Client}
+use Rattle.std.specs.Cmp.{nat_cmp_is}
+use Rattle.std.specs.Ordering.{is_eq}
+use Rattle.sentry_plain.specs.Tables.{value_at, put, replace_at, without}
+use Rattle.sentry_base.specs.declared.protocol.keys.Label.{Label}
+use Rattle.sentry_parts.specs.LossBooks.{Book, LossEntry, book_of, pending_losses, report_items, report_of}
+use Rattle.sentry_engine.specs.Books.{with_book, pending_report}
 use Rattle.sentry_engine.specs.declared.engine.Engine.{Engine}
-use Rattle.sentry_engine.specs.Worlds.{World, ClientState, plain_client, plain_clients, Stands}
-use Rattle.sentry_engine.specs.Outcomes.{value_under}
+use Rattle.sentry_engine.specs.Worlds.{World, ClientState, plain_client, map_values, Stands}
 
-module _ {C : Type 0} where
-  plain_client-cond : (b : Bool) (x y : Option (ClientState C)) → cond b (option_map plain_client x) (option_map plain_client y) ≡ option_map plain_client (cond b x y)
-  plain_client-cond true x y = refl
-  plain_client-cond false x y = refl
+module _ {X Y : Type 0} (f : X → Y) where
+  option_map-cond : (b : Bool) (x y : Option X) → cond b (option_map f x) (option_map f y) ≡ option_map f (cond b x y)
+  option_map-cond true x y = refl
+  option_map-cond false x y = refl
 
-module _ {C : Type 0} where
-  plain_clients-match : (o : Ordering) (x y z : List (ℕ × ClientState C)) → plain_clients (match_ordering o x y z) ≡ match_ordering o (plain_clients x) (plain_clients y) (plain_clients z)
-  plain_clients-match Less x y z = refl
-  plain_clients-match Equal x y z = refl
-  plain_clients-match Greater x y z = refl
+  is_some-option_map : (o : Option X) → is_some (option_map f o) ≡ is_some o
+  is_some-option_map None = refl
+  is_some-option_map (Some x) = refl
 
-module _ {C : Type 0} where
-  pub value_at-plain_client : (clients : List (ℕ × ClientState C)) (n : ℕ) → value_at (plain_clients clients) n ≡ option_map plain_client (value_at clients n)
-  value_at-plain_client [] n = refl
-  value_at-plain_client (c ∷ cs) n = ap (cond (is_at (nat_cmp n) c.0) (Some (plain_client c.1))) (value_at-plain_client cs n) ∙ plain_client-cond (is_at (nat_cmp n) c.0) (Some c.1) (value_at cs n)
+  map_values-match : (o : Ordering) (x y z : List (ℕ × X))
+      → map_values f (match_ordering o x y z) ≡ match_ordering o (map_values f x) (map_values f y) (map_values f z)
+  map_values-match Less x y z = refl
+  map_values-match Equal x y z = refl
+  map_values-match Greater x y z = refl
 
-module _ {C : Type 0} where
-  pub put-plain_client : (clients : List (ℕ × ClientState C)) (n : ℕ) (client : ClientState C) → plain_clients (put clients n client) ≡ put (plain_clients clients) n (plain_client client)
-  put-plain_client [] n client = refl
-  put-plain_client (c ∷ cs) n client =
-      plain_clients-match (nat_cmp n c.0) _ _ _
-      ∙ ap (λ rest. match_ordering (nat_cmp n c.0) ((n, plain_client client) ∷ plain_clients (c ∷ cs)) ((c.0, plain_client client) ∷ plain_clients cs) ((c.0, plain_client c.1) ∷ rest)) (put-plain_client cs n client)
+  map_values-cond : (b : Bool) (x y : List (ℕ × X)) → map_values f (cond b x y) ≡ cond b (map_values f x) (map_values f y)
+  map_values-cond true x y = refl
+  map_values-cond false x y = refl
 
-module _ {C : Type 0} where
-  pub value_under-plain_client : (tag : ℕ) (clients : List (ℕ × ClientState C)) (t n : ℕ) → value_under tag (plain_clients clients) t n ≡ option_map plain_client (value_under tag clients t n)
-  value_under-plain_client tag clients t n = ap (λ o. cond (nat_eq t tag) o None) (value_at-plain_client clients n) ∙ plain_client-cond (nat_eq t tag) (value_at clients n) None
+  pub value_at-map_values : (entries : List (ℕ × X)) (n : ℕ) → value_at (map_values f entries) n ≡ option_map f (value_at entries n)
+  value_at-map_values [] n = refl
+  value_at-map_values (c ∷ cs) n =
+      ap (cond (is_at (nat_cmp n) c.0) (Some (f c.1))) (value_at-map_values cs n)
+      ∙ option_map-cond (is_at (nat_cmp n) c.0) (Some c.1) (value_at cs n)
 
-module _ {P C : Type 0} where
-  pub value_under-stands : (engine : Engine P C) (world : World P C) → Stands engine world → (t n : ℕ) → value_under engine.tag engine.clients t n ≡ option_map plain_client (value_under world.tag world.clients t n)
-  value_under-stands engine world s t n = ap (λ tag. value_under tag engine.clients t n) s.tag ∙ ap (λ cs. value_under world.tag cs t n) s.clients ∙ value_under-plain_client world.tag world.clients t n
+  pub put-map_values : (entries : List (ℕ × X)) (n : ℕ) (x : X) → map_values f (put entries n x) ≡ put (map_values f entries) n (f x)
+  put-map_values [] n x = refl
+  put-map_values (c ∷ cs) n x =
+      map_values-match (nat_cmp n c.0) _ _ _
+      ∙ ap (λ rest. match_ordering (nat_cmp n c.0) ((n, f x) ∷ map_values f (c ∷ cs)) ((c.0, f x) ∷ map_values f cs) ((c.0, f c.1) ∷ rest)) (put-map_values cs n x)
+
+  pub replace_at-map_values : (entries : List (ℕ × X)) (n : ℕ) (x : X) → map_values f (replace_at entries n x) ≡ replace_at (map_values f entries) n (f x)
+  replace_at-map_values [] n x = refl
+  replace_at-map_values (c ∷ cs) n x =
+      map_values-cond (is_at (nat_cmp n) c.0) _ _
+      ∙ ap (λ rest. cond (is_at (nat_cmp n) c.0) ((c.0, f x) ∷ map_values f cs) ((c.0, f c.1) ∷ rest)) (replace_at-map_values cs n x)
+
+report_of_book : (o : Option (List LossEntry)) (book : Book) → Some book ≡ option_map book_of o
+    → report_of (report_items book.pending) ≡ option_and_then (λ history. report_of (report_items (pending_losses history))) o
+report_of_book None book e = cc
+report_of_book (Some history) book e = let is : book ≡ book_of history = cc in ap (λ b. report_of (report_items b.pending)) is
+
+no_report : (o : Option (List LossEntry)) → None ≡ option_map book_of o
+    → None ≡ option_and_then (λ history. report_of (report_items (pending_losses history))) o
+no_report None e = refl
+no_report (Some history) e = cc
 
 module _ {P C : Type 0} where
   -- the client that the engine finds, in a world that it stands for
-  pub found_in_world : (engine : Engine P C) (world : World P C) → Stands engine world → (n : ℕ) → value_at engine.clients n ≡ option_map plain_client (value_at world.clients n)
-  found_in_world engine world s n = ap (λ cs. value_at cs n) s.clients ∙ value_at-plain_client world.clients n
+  pub found_in_world : (engine : Engine P C) (world : World P C) → Stands engine world → (n : ℕ)
+      → value_at engine.clients n ≡ option_map plain_client (value_at world.clients n)
+  found_in_world engine world s n = ap (λ cs. value_at cs n) s.clients ∙ value_at-map_values plain_client world.clients n
 
-module _ {P C : Type 0} where
   -- an engine whose client is written stands for the world whose client is written
-  pub stored_in_world : (engine : Engine P C) (world : World P C) → Stands engine world → (n : ℕ) (client : ClientState C) → put engine.clients n (plain_client client) ≡ plain_clients (put world.clients n client)
-  stored_in_world engine world s n client = ap (λ cs. put cs n (plain_client client)) s.clients ∙ sym (put-plain_client world.clients n client)
+  pub stored_in_world : (engine : Engine P C) (world : World P C) → Stands engine world → (n : ℕ) (client : ClientState C)
+      → put engine.clients n (plain_client client) ≡ map_values plain_client (put world.clients n client)
+  stored_in_world engine world s n client =
+      ap (λ cs. put cs n (plain_client client)) s.clients ∙ sym (put-map_values plain_client world.clients n client)
 
-module _ {C : Type 0} where
-  -- what is kept of an option is there where the option is
-  pub some_kept : (o : Option (ClientState C)) (client : Client C) → Some client ≡ option_map plain_client o → (state : ClientState C) × (o ≡ Some state) × (client ≡ plain_client state)
-  some_kept None client e = cc
-  some_kept (Some state) client e = (state, refl, cc)
+  -- the book that the engine finds
+  pub book_in_world : (engine : Engine P C) (world : World P C) → Stands engine world → (n : ℕ)
+      → value_at engine.books n ≡ option_map book_of (value_at world.books n)
+  book_in_world engine world s n = ap (λ books. value_at books n) s.books ∙ value_at-map_values book_of world.books n
 
-module _ {C : Type 0} where
-  plain_clients-cond : (b : Bool) (x y : List (ℕ × ClientState C)) → plain_clients (cond b x y) ≡ cond b (plain_clients x) (plain_clients y)
-  plain_clients-cond true x y = refl
-  plain_clients-cond false x y = refl
+  -- the engine has a book where the world has one
+  pub has_book_in_world : (engine : Engine P C) (world : World P C) → Stands engine world → (n : ℕ)
+      → is_some (value_at engine.books n) ≡ is_some (value_at world.books n)
+  has_book_in_world engine world s n =
+      ap is_some (book_in_world engine world s n) ∙ is_some-option_map book_of (value_at world.books n)
 
-module _ {C : Type 0} where
-  pub replace_at-plain_client : (clients : List (ℕ × ClientState C)) (n : ℕ) (client : ClientState C) → plain_clients (replace_at clients n client) ≡ replace_at (plain_clients clients) n (plain_client client)
-  replace_at-plain_client [] n client = refl
-  replace_at-plain_client (c ∷ cs) n client =
-      plain_clients-cond (is_at (nat_cmp n) c.0) _ _
-      ∙ ap (λ rest. cond (is_at (nat_cmp n) c.0) ((c.0, plain_client client) ∷ plain_clients cs) ((c.0, plain_client c.1) ∷ rest)) (replace_at-plain_client cs n client)
+  -- a change that leaves the books alone, where there was a book
+  pub stands_with_same_books : (old : Engine P C) (world : World P C) → Stands old world → (n : ℕ)
+      → is_some (value_at old.books n) ≡ true → (new : Engine P C) (after : World P C) → world.books ≡ after.books
+      → Stands new after → Stands new (record after { books = with_book world.books n })
+  stands_with_same_books old world s n has new after same t = record {
+    tag = t.tag;
+    next = t.next;
+    clients = t.clients;
+    hubs = t.hubs;
+    books =
+        t.books ∙ ap (map_values book_of) (sym same)
+        ∙ ap (λ b. map_values book_of (cond b world.books (put world.books n []))) (sym has ∙ has_book_in_world old world s n);
+  }
 
-module _ {P C : Type 0} where
-  -- an engine whose client is changed stands for the world whose client is changed
-  pub changed_in_world : (engine : Engine P C) (world : World P C) → Stands engine world → (n : ℕ) (client : ClientState C) → replace_at engine.clients n (plain_client client) ≡ plain_clients (replace_at world.clients n client)
-  changed_in_world engine world s n client = ap (λ cs. replace_at cs n (plain_client client)) s.clients ∙ sym (replace_at-plain_client world.clients n client)
+  -- where it has none, its books and a new one do
+  pub new_book_in_world : (engine : Engine P C) (world : World P C) → Stands engine world → (n : ℕ)
+      → is_some (value_at engine.books n) ≡ false → put engine.books n (book_of []) ≡ map_values book_of (with_book world.books n)
+  new_book_in_world engine world s n has =
+      ap (λ books. put books n (book_of [])) s.books ∙ sym (put-map_values book_of world.books n [])
+      ∙ ap (λ b. map_values book_of (cond b world.books (put world.books n []))) (sym has ∙ has_book_in_world engine world s n)
+
+  -- the report of a book that the engine has
+  pub report_in_world : (engine : Engine P C) (world : World P C) → Stands engine world → (label : Label) (book : Book)
+      → Some book ≡ value_at engine.books label.number → report_of (report_items book.pending) ≡ pending_report world label
+  report_in_world engine world s label book h = report_of_book (value_at world.books label.number) book (h ∙ book_in_world engine world s label.number)
+
+  -- there is no report where the engine has no book
+  pub no_report_in_world : (engine : Engine P C) (world : World P C) → Stands engine world → (label : Label)
+      → None ≡ value_at engine.books label.number → None ≡ pending_report world label
+  no_report_in_world engine world s label h = no_report (value_at world.books label.number) (h ∙ book_in_world engine world s label.number)
 
 module _ {X : Type 0} where
-  changed_same-at : (b : Bool) (e : ℕ × X) (es rest : List (ℕ × X)) (o : Option X) (x : X) → cond b (Some e.1) o ≡ Some x → (o ≡ Some x → rest ≡ es) → cond b ((e.0, x) ∷ es) (e ∷ rest) ≡ e ∷ es
+  changed_same-at : (b : Bool) (e : ℕ × X) (es rest : List (ℕ × X)) (o : Option X) (x : X)
+      → cond b (Some e.1) o ≡ Some x → (o ≡ Some x → rest ≡ es) → cond b ((e.0, x) ∷ es) (e ∷ rest) ≡ e ∷ es
   changed_same-at true e es rest o x h same = let v : x ≡ e.1 = cc in ap (λ y. (e.0, y) ∷ es) v
   changed_same-at false e es rest o x h same = ap (λ l. e ∷ l) (same h)
 
-module _ {X : Type 0} where
   -- a table is as it was where what stands under a number is written there again
   pub changed_same : (m : List (ℕ × X)) (n : ℕ) (x : X) → value_at m n ≡ Some x → replace_at m n x ≡ m
   changed_same [] n x h = refl
   changed_same (e ∷ es) n x h = changed_same-at (is_at (nat_cmp n) e.0) e es (replace_at es n x) (value_at es n) x h (changed_same es n x)
+
+  replace_absent-at : (b : Bool) (e : ℕ × X) (es rest : List (ℕ × X)) (o : Option X) (x : X)
+      → cond b (Some e.1) o ≡ None → (o ≡ None → rest ≡ es) → cond b ((e.0, x) ∷ es) (e ∷ rest) ≡ e ∷ es
+  replace_absent-at true e es rest o x h same = cc
+  replace_absent-at false e es rest o x h same = ap (λ l. e ∷ l) (same h)
+
+  -- nothing is replaced where nothing stands
+  pub replace_absent : (m : List (ℕ × X)) (n : ℕ) (x : X) → value_at m n ≡ None → replace_at m n x ≡ m
+  replace_absent [] n x h = refl
+  replace_absent (e ∷ es) n x h = replace_absent-at (is_at (nat_cmp n) e.0) e es (replace_at es n x) (value_at es n) x h (replace_absent es n x)
+
+nat_cmp-same : (n : ℕ) → Equal ≡ nat_cmp n n
+nat_cmp-same n = nat_cmp_is n n Equal refl
+
+module _ {X : Type 0} where
+  without_put-at : (o : Ordering) (e : ℕ × X) (es : List (ℕ × X)) (n : ℕ) (x : X) → nat_cmp n e.0 ≡ o
+      → cond (is_eq o) (Some e.1) (value_at es n) ≡ None → (value_at es n ≡ None → without (put es n x) n ≡ es)
+      → without (match_ordering o ((n, x) ∷ e ∷ es) ((e.0, x) ∷ es) (e ∷ put es n x)) n ≡ e ∷ es
+  without_put-at Less e es n x q h rest = ap (λ o. cond (is_eq o) (e ∷ es) ((n, x) ∷ without (e ∷ es) n)) (sym (nat_cmp-same n))
+  without_put-at Equal e es n x q h rest = cc
+  without_put-at Greater e es n x q h rest =
+      ap (λ o. cond (is_eq o) (put es n x) (e ∷ without (put es n x) n)) q ∙ ap (λ l. e ∷ l) (rest h)
+
+  -- a table without a number that was not there is as it was before the number was put in
+  pub without_put : (m : List (ℕ × X)) (n : ℕ) (x : X) → value_at m n ≡ None → without (put m n x) n ≡ m
+  without_put [] n x h = ap (λ o. cond (is_eq o) [] ((n, x) ∷ [])) (sym (nat_cmp-same n))
+  without_put (e ∷ es) n x h = without_put-at (nat_cmp n e.0) e es n x refl h (without_put es n x)
+
+no_history : (o : Option (List LossEntry)) → None ≡ option_map book_of o → o ≡ None
+no_history None e = refl
+no_history (Some history) e = cc
+
+some_history : (o : Option (List LossEntry)) (book : Book) → Some book ≡ option_map book_of o → book ≡ book_of (unwrap_or o [])
+some_history None book e = cc
+some_history (Some history) book e = cc
+
+module _ {P C : Type 0} where
+  -- where a label has no book, the engine stands for the world with an entry for it
+  pub entry_absent : (engine : Engine P C) (world : World P C) → Stands engine world → (n : ℕ) (entry : LossEntry)
+      → value_at engine.books n ≡ None → engine.books ≡ map_values book_of (replace_at world.books n (entry ∷ unwrap_or (value_at world.books n) []))
+  entry_absent engine world s n entry h =
+      let none : value_at world.books n ≡ None = no_history (value_at world.books n) (sym h ∙ book_in_world engine world s n) in
+      s.books ∙ ap (map_values book_of) (sym (replace_absent world.books n _ none))
+
+  -- an engine with a book that took an entry stands for the world with that entry
+  pub entry_present : (engine : Engine P C) (world : World P C) → Stands engine world → (n : ℕ) (book after : Book) (entry : LossEntry)
+      → value_at engine.books n ≡ Some book → ((history : List LossEntry) → book ≡ book_of history → after ≡ book_of (entry ∷ history))
+      → replace_at engine.books n after ≡ map_values book_of (replace_at world.books n (entry ∷ unwrap_or (value_at world.books n) []))
+  entry_present engine world s n book after entry h takes =
+      let history : List LossEntry = unwrap_or (value_at world.books n) [] in
+      let is : book ≡ book_of history = some_history (value_at world.books n) book (sym h ∙ book_in_world engine world s n) in
+      ap (λ b. replace_at engine.books n b) (takes history is)
+      ∙ ap (λ books. replace_at books n (book_of (entry ∷ history))) s.books
+      ∙ sym (replace_at-map_values book_of world.books n (entry ∷ history))

@@ -1,18 +1,33 @@
 -- What the calls on clients answer, hand out and leave.
-use Rattle.std.specs.Prelude.{ℕ, nat_lt, ◌-◌, Bool, ◌&&◌, Option, is_some, [], ◌+◌, ◌^◌, ◌==◌}
+use Rattle.std.specs.Prelude.{ℕ, nat_lt, ◌-◌, Bool, ◌&&◌, Option, is_some, List, [], ◌∷◌, ◌+◌, ◌^◌, ◌==◌, if◌then◌else◌}
+use Rattle.std.specs.Option.{option_map}
 use Rattle.sentry_plain.specs.Tables.{put}
 use Rattle.sentry_base.specs.DsnParts.{DsnParts}
 use Rattle.sentry_base.specs.declared.protocol.keys.ClientKey.{ClientKey}
 use Rattle.sentry_base.specs.declared.protocol.keys.Label.{Label}
 use Rattle.sentry_base.specs.declared.protocol.refusal.Refusal.TheVariants.{Stale, ForeignLosses, Full}
 use Rattle.sentry_state.specs.declared.clientoptions.ClientOptions.{ClientOptions}
-use Rattle.sentry_state.specs.Callbacks.{Meanings, set_up_all}
+use Rattle.sentry_state.specs.Callbacks.{Partial, Meanings, set_up_all}
+use Rattle.sentry_engine.specs.declared.engine.Client.{Client}
+use Rattle.sentry_base.specs.declared.protocol.event.Event.{Event}
+use Rattle.sentry_base.specs.declared.protocol.envelope.Envelope.{Envelope}
+use Rattle.sentry_base.specs.declared.protocol.fresh.Fresh.{Fresh}
+use Rattle.sentry_state.specs.declared.scope.Scope.{Scope}
+use Rattle.sentry_parts.specs.LossBooks.{report_point}
+use Rattle.sentry_parts.specs.Pipeline.{loss_reason}
+use Rattle.sentry_parts.specs.Pipeline as pipeline
+use Rattle.sentry_engine.specs.Books.{with_book, with_report, pending_report, with_entry, with_entry_if_any}
+use Rattle.sentry_engine.specs.Captures.{lost_event, event_to_send, capture, captured_id, captured_envelopes, attachments_of}
 use Rattle.sentry_engine.specs.Worlds.{World}
 use Rattle.sentry_engine.specs.Outcomes.{Outcome, require_some, require, reply_with, plain_client_at}
 
+-- a client is enabled where its options have a DSN and its slot is occupied
+abbrev pub is_enabled_client : {C : Type 0} → Client C → Bool
+is_enabled_client client = is_some client.options.plain.dsn && client.occupied
+
 module _ {P C : Type 0} where
-  -- a client, under the next number, after the `setup` of its integrations; its slot is occupied where it had a DSN before
-  -- that, and has a transport
+  -- a client, under the next number, after the `setup` of its integrations, with a book for its label; its slot is
+  -- occupied where it had a DSN before that, and has a transport
   unfoldable pub add_client : (C → Meanings) → ClientOptions C → Bool → Label → World P C → Outcome P C ClientKey
   add_client meanings options transport label world =
       require ForeignLosses world (label.tag == world.tag)
@@ -24,22 +39,53 @@ module _ {P C : Type 0} where
           label = label;
           occupied = is_some options.plain.dsn && transport;
         });
+        books = with_book world.books label.number;
       })))
 
   -- the options of a client
   unfoldable pub options : ClientKey → World P C → Outcome P C (ClientOptions C)
-  options key world = require_some Stale world (plain_client_at world key) (λ client. reply_with client.options [] world)
+  options key world =
+      require_some Stale world (plain_client_at world key) (λ client. reply_with client.options [] world)
 
   -- where a client sends to
   unfoldable pub dsn : ClientKey → World P C → Outcome P C (Option DsnParts)
-  dsn key world = require_some Stale world (plain_client_at world key) (λ client. reply_with client.options.plain.dsn [] world)
+  dsn key world =
+      require_some Stale world (plain_client_at world key) (λ client. reply_with client.options.plain.dsn [] world)
 
-  -- a client is enabled where its options have a DSN and its slot is occupied
+  -- whether a client is enabled
   unfoldable pub is_enabled : ClientKey → World P C → Outcome P C Bool
   is_enabled key world =
       require_some Stale world (plain_client_at world key) (λ client.
-      reply_with (is_some client.options.plain.dsn && client.occupied) [] world)
+      reply_with (is_enabled_client client) [] world)
 
   -- what has this draw is sent where the draw lies below the rate
   unfoldable pub sample_should_send : ℕ → ℕ → World P C → Outcome P C Bool
   sample_should_send rate draw world = reply_with (nat_lt draw rate) [] world
+
+  -- an event of a client, under a scope, if there is one
+  unfoldable pub client_capture_event : (P → Partial) → (C → Meanings) → ClientKey → Event → Option (Scope P) → Fresh
+      → World P C → Outcome P C (List ℕ)
+  client_capture_event gives meanings key event scope fresh world =
+      require_some Stale world (plain_client_at world key) (λ client.
+      let made = capture gives meanings client scope fresh event in
+      reply_with (captured_id made.event)
+      (captured_envelopes key (attachments_of scope) (pending_report world client.label) made.event)
+      (with_entry_if_any world client.label made.entry))
+
+  -- the event as the client would send it, if it would; where it would not, the event is lost
+  unfoldable pub prepare_event : (P → Partial) → (C → Meanings) → ClientKey → Event → Option (Scope P) → Fresh
+      → World P C → Outcome P C (Option Event)
+  prepare_event gives meanings key event scope fresh world =
+      require_some Stale world (plain_client_at world key) (λ client.
+      let prepared = pipeline.prepare_event gives meanings client.options scope fresh event in
+      reply_with (event_to_send prepared.preparation prepared.event) []
+      (with_entry_if_any world client.label (option_map lost_event (loss_reason prepared.preparation))))
+
+  -- an envelope of a client, with the pending report as its last item; on an empty slot nothing is sent
+  unfoldable pub send_envelope : ClientKey → Envelope → World P C → Outcome P C (Unit {0})
+  send_envelope key envelope world =
+      require_some Stale world (plain_client_at world key) (λ client.
+      if client.occupied
+      then reply_with tt ((key, with_report (pending_report world client.label) envelope) ∷ [])
+      (with_entry world client.label report_point)
+      else reply_with tt [] world)

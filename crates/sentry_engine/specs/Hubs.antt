@@ -1,14 +1,13 @@
 -- What the calls on hubs answer, hand out and leave.
-use Rattle.std.specs.Prelude.{nat_lt, ◌-◌, ℕ, Option, Some, None, List, [], ◌∷◌, ◌+◌, ◌^◌, if◌then◌else◌}
+use Rattle.std.specs.Prelude.{nat_lt, ◌-◌, ℕ, Bool, false, Option, Some, None, List, [], ◌+◌, ◌^◌}
 use Rattle.sentry_plain.specs.Texts.{Bytes}
 use Rattle.sentry_plain.specs.Tables.{put}
-use Rattle.sentry_base.specs.Events.{new_event, nil_id}
-use Rattle.sentry_base.specs.Envelopes.{empty_envelope, with_item}
+use Rattle.sentry_base.specs.Events.{nil_id}
+use Rattle.sentry_base.specs.ErrorEvents.{error_event}
+use Rattle.sentry_base.specs.declared.protocol.error_link.ErrorLink.{ErrorLink}
 use Rattle.sentry_base.specs.declared.protocol.keys.ClientKey.{ClientKey}
 use Rattle.sentry_base.specs.declared.protocol.keys.HubKey.{HubKey}
 use Rattle.sentry_base.specs.declared.protocol.event.Event.{Event}
-use Rattle.sentry_base.specs.declared.protocol.envelope.Envelope.{Envelope}
-use Rattle.sentry_base.specs.declared.protocol.envelope.EnvelopeItem.TheVariants as item
 use Rattle.sentry_base.specs.declared.protocol.level.Level.{Level}
 use Rattle.sentry_base.specs.declared.protocol.fresh.Fresh.{Fresh}
 use Rattle.sentry_base.specs.declared.protocol.refusal.Refusal.TheVariants.{Stale, Full}
@@ -17,35 +16,11 @@ use Rattle.sentry_state.specs.declared.scope.edit.ScopeEdit.{ScopeEdit}
 use Rattle.sentry_state.specs.Scopes.{edit_all}
 use Rattle.sentry_state.specs.Stacks.{one_layer}
 use Rattle.sentry_state.specs.Callbacks.{Partial, Meanings}
-use Rattle.sentry_parts.specs.Pipeline.{Prepared, kept, dropped, prepare_event}
-use Rattle.sentry_engine.specs.declared.engine.Client.{Client}
+use Rattle.sentry_engine.specs.Books.{pending_report, with_entry_if_any}
+use Rattle.sentry_engine.specs.Captures.{capture, captured_id, captured_envelopes, message_event}
+use Rattle.sentry_engine.specs.Clients.{is_enabled_client}
 use Rattle.sentry_engine.specs.Worlds.{World}
 use Rattle.sentry_engine.specs.Outcomes.{Outcome, require_some, let_some, require, reply_with, hub_at, plain_client_at, is_held_or_none, with_hub, with_scope}
-
--- the event that was kept, if any
-abbrev pub kept_event : Prepared → Option Event
-kept_event (kept event) = Some event
-kept_event (dropped place) = None
-
--- the event that a client sends; on an empty slot nothing runs
-unfoldable pub captured_event : {P C : Type 0}
-    → (P → Partial) → (C → Meanings) → Client C → Scope P → List ℕ → Event → Option Event
-captured_event gives meanings client scope fresh event =
-    if client.occupied then kept_event (prepare_event gives meanings client.options scope fresh event) else None
-
--- the id that a capture answers: that of the event that is sent, or the nil one
-abbrev pub captured_id : Option Event → List ℕ
-captured_id None = nil_id
-captured_id (Some event) = event.event_id
-
--- the envelopes of a capture
-abbrev pub captured_envelopes : ClientKey → Option Event → List (ClientKey × Envelope)
-captured_envelopes key None = []
-captured_envelopes key (Some event) = (key, with_item empty_envelope (item.Event event)) ∷ []
-
--- an event of this message and level
-abbrev pub message_event : Bytes → Level → List ℕ → ℕ → Event
-message_event message level id now = record (new_event id now) { message = Some message; level = level }
 
 module _ {P C : Type 0} where
   -- a hub with one layer, under the next number
@@ -68,15 +43,44 @@ module _ {P C : Type 0} where
   unfoldable pub last_event_id : HubKey → World P C → Outcome P C (Option (List ℕ))
   last_event_id key world = require_some Stale world (hub_at world key) (λ hub. reply_with hub.last_event_id [] world)
 
-  -- an event on a hub, under the client of its top layer: without one nothing happens, and with one the answer becomes the last event id
-  unfoldable pub capture_event : (P → Partial) → (C → Meanings) → HubKey → Event → Fresh → World P C → Outcome P C (List ℕ)
+  -- an event on a hub, under the client of its top layer: without one nothing happens, and with one the id of what is
+  -- sent becomes the last event id
+  unfoldable pub capture_event : (P → Partial) → (C → Meanings) → HubKey → Event → Fresh → World P C
+      → Outcome P C (List ℕ)
   capture_event gives meanings key event fresh world =
       require_some Stale world (hub_at world key) (λ hub.
       let_some hub.stack.top.client (reply_with nil_id [] world) (λ client_key.
       let_some (plain_client_at world client_key) (reply_with nil_id [] world) (λ client.
-      let made = captured_event gives meanings client hub.stack.top.scope fresh.uuid event in
-      reply_with (captured_id made) (captured_envelopes client_key made) (with_hub world key (record hub { last_event_id = Some (captured_id made) })))))
+      let made = capture gives meanings client (Some hub.stack.top.scope) fresh event in
+      let id = captured_id made.event in
+      reply_with id
+      (captured_envelopes client_key hub.stack.top.scope.attachments (pending_report world client.label) made.event)
+      (with_hub (with_entry_if_any world client.label made.entry) key (record hub { last_event_id = Some id })))))
 
   -- a message on a hub
-  unfoldable pub capture_message : (P → Partial) → (C → Meanings) → HubKey → Bytes → Level → Fresh → World P C → Outcome P C (List ℕ)
-  capture_message gives meanings key message level fresh world = capture_event gives meanings key (message_event message level fresh.uuid fresh.now) fresh world
+  unfoldable pub capture_message : (P → Partial) → (C → Meanings) → HubKey → Bytes → Level → Fresh → World P C
+      → Outcome P C (List ℕ)
+  capture_message gives meanings key message level fresh world =
+      capture_event gives meanings key (message_event message level fresh.uuid fresh.now) fresh world
+
+  -- an error on a hub, by the texts of its links, the outermost first
+  unfoldable pub capture_error : (P → Partial) → (C → Meanings) → HubKey → List ErrorLink → Fresh → World P C
+      → Outcome P C (List ℕ)
+  capture_error gives meanings key links fresh world =
+      capture_event gives meanings key (error_event links fresh.uuid fresh.now) fresh world
+
+  -- the client of the top layer
+  unfoldable pub client : HubKey → World P C → Outcome P C (Option ClientKey)
+  client key world = require_some Stale world (hub_at world key) (λ hub. reply_with hub.stack.top.client [] world)
+
+  -- a hub is active where its top layer has a client that is enabled
+  unfoldable pub is_active : HubKey → World P C → Outcome P C Bool
+  is_active key world =
+      require_some Stale world (hub_at world key) (λ hub.
+      let_some hub.stack.top.client (reply_with false [] world) (λ client_key.
+      let_some (plain_client_at world client_key) (reply_with false [] world) (λ client.
+      reply_with (is_enabled_client client) [] world)))
+
+  -- a copy of the top scope
+  unfoldable pub scope : HubKey → World P C → Outcome P C (Scope P)
+  scope key world = require_some Stale world (hub_at world key) (λ hub. reply_with hub.stack.top.scope [] world)

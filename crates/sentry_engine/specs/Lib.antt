@@ -1,4 +1,7 @@
 pub mod Worlds
+pub mod Books
+pub mod Captures
+pub mod Losses
 pub mod Outcomes
 pub mod Replies
 pub mod Clients

@@ -48,14 +48,15 @@ module _ {P C T : Type 0} where
   require refusal world true go = go
   require refusal world false go = refuse refusal world
 
-  -- the call did what its definition says, in every world that the engine stood for; where it was refused, the engine is
-  -- the engine before
+  -- the call did what its definition says, in every world that the engine stood for; where it was refused, the engine
+  -- is the engine before
   abbrev pub DoesWith : Bool → Engine P C → Engine P C → Result (Out T) Refusal → (World P C → Outcome P C T) → Type 0
   DoesWith takes_no_memory old new (Ok out) outcome =
       (world : World P C) → Stands old world
       → IsAnswer takes_no_memory (outcome world).answer (Ok out) × Stands new (outcome world).after
   DoesWith takes_no_memory old new (Err refusal) outcome =
-      (new ≡ old) × ((world : World P C) → Stands old world → IsAnswer takes_no_memory (outcome world).answer (Err refusal))
+      (new ≡ old)
+      × ((world : World P C) → Stands old world → IsAnswer takes_no_memory (outcome world).answer (Err refusal))
 
   -- the same of a call that may need memory
   abbrev pub Does : Engine P C → Engine P C → Result (Out T) Refusal → (World P C → Outcome P C T) → Type 0

@@ -1,4 +1,4 @@
--- An answer whose reply was put into another type.
+-- Answers in other forms.
 use Rattle.std.specs.Prelude.{◌≡◌, Result, Ok, Err}
 use Rattle.sentry_base.specs.declared.protocol.refusal.Refusal.{Refusal}
 use Rattle.sentry_engine.specs.declared.engine.Out.{Out}
@@ -9,3 +9,8 @@ IsMapped gives (Ok out) (Ok mapped) = gives out.reply mapped.reply × (mapped.se
 IsMapped gives (Err refusal) (Err same) = same ≡ refusal
 IsMapped gives (Ok out) (Err refusal) = ⊥
 IsMapped gives (Err refusal) (Ok out) = ⊥
+
+-- the answer without the value that a refusal hands back
+abbrev pub without_value : {T X : Type 0} → Result (Out T) (Refusal × X) → Result (Out T) Refusal
+without_value (Ok out) = Ok out
+without_value (Err refused) = Err refused.0

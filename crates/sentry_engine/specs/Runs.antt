@@ -4,13 +4,14 @@ use Rattle.sentry_base.specs.declared.protocol.refusal.Refusal.{Refusal}
 use Rattle.sentry_state.specs.Callbacks.{Partial, Meanings}
 use Rattle.sentry_engine.specs.declared.engine.Out.{Out}
 use Rattle.sentry_engine.specs.declared.call.Call.{Call}
-use Rattle.sentry_engine.specs.declared.call.Call.TheVariants.{AddClient, Options, Dsn, IsEnabled, SampleShouldSend, NewHub, Configure, CaptureEvent, CaptureMessage, LastEventId}
+use Rattle.sentry_engine.specs.declared.call.Call.TheVariants.{AddClient, Options, Dsn, IsEnabled, SampleShouldSend, PrepareEvent, ClientCaptureEvent, SendEnvelope, TakeReport, Absorb, NewHub, Configure, CaptureEvent, CaptureMessage, CaptureError, LastEventId, Client, IsActive, Scope}
 use Rattle.sentry_engine.specs.declared.call.Reply.{Reply}
 use Rattle.sentry_engine.specs.declared.call.Reply.TheVariants as reply
 use Rattle.sentry_engine.specs.Worlds.{World}
 use Rattle.sentry_engine.specs.Outcomes.{Outcome, IsAnswer}
 use Rattle.sentry_engine.specs.Clients as clients
 use Rattle.sentry_engine.specs.Hubs as hubs
+use Rattle.sentry_engine.specs.Losses as losses
 
 module _ {P C T : Type 0} where
   -- an answer whose reply is put into the one type of replies
@@ -26,7 +27,10 @@ module _ {P C : Type 0} where
   abbrev pub takes_no_memory : Call P C → Bool
   takes_no_memory (IsEnabled client) = true
   takes_no_memory (SampleShouldSend rate draw) = true
+  takes_no_memory (Absorb label losses) = true
   takes_no_memory (LastEventId hub) = true
+  takes_no_memory (Client hub) = true
+  takes_no_memory (IsActive hub) = true
   takes_no_memory call = false
 
 module _ {P C : Type 0} (gives : P → Partial) (meanings : C → Meanings) where
@@ -38,13 +42,25 @@ module _ {P C : Type 0} (gives : P → Partial) (meanings : C → Meanings) wher
   step (Dsn client) world = map_reply reply.Dsn (clients.dsn client world)
   step (IsEnabled client) world = map_reply reply.Decision (clients.is_enabled client world)
   step (SampleShouldSend rate draw) world = map_reply reply.Decision (clients.sample_should_send rate draw world)
+  step (PrepareEvent client event scope fresh) world =
+      map_reply reply.Prepared (clients.prepare_event gives meanings client event scope fresh world)
+  step (ClientCaptureEvent client event scope fresh) world =
+      map_reply reply.Event (clients.client_capture_event gives meanings client event scope fresh world)
+  step (SendEnvelope client envelope) world = map_reply (λ _. reply.Done) (clients.send_envelope client envelope world)
+  step (TakeReport label) world = map_reply reply.Report (losses.take_report label world)
+  step (Absorb label lost) world = map_reply (λ _. reply.Done) (losses.absorb label lost.quantities world)
   step (NewHub client scope) world = map_reply reply.Hub (hubs.new_hub client scope world)
   step (Configure hub edits now) world = map_reply (λ _. reply.Done) (hubs.configure hub edits world)
   step (CaptureEvent hub event fresh) world =
       map_reply reply.Event (hubs.capture_event gives meanings hub event fresh world)
   step (CaptureMessage hub message level fresh) world =
       map_reply reply.Event (hubs.capture_message gives meanings hub message level fresh world)
+  step (CaptureError hub links fresh) world =
+      map_reply reply.Event (hubs.capture_error gives meanings hub links fresh world)
   step (LastEventId hub) world = map_reply reply.LastEvent (hubs.last_event_id hub world)
+  step (Client hub) world = map_reply reply.HubClient (hubs.client hub world)
+  step (IsActive hub) world = map_reply reply.Decision (hubs.is_active hub world)
+  step (Scope hub) world = map_reply reply.Scope (hubs.scope hub world)
 
   -- the call may be answered so, and lead on to the next world, which a refusal leaves as it was
   abbrev pub May : World P C → Call P C → Result (Out (Reply P C)) Refusal → World P C → Type 0

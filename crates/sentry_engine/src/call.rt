@@ -12,7 +12,8 @@ mod replies;
 use crate::engine::{Engine, Out};
 use sentry_base::dsn::Dsn;
 use sentry_base::protocol::{
-    ClientKey, Draw, Event, Fresh, HubKey, Label, Level, Refusal, SampleRate, Uuid,
+    ClientKey, ClientReport, Draw, Envelope, ErrorLink, Event, Fresh, HubKey, Label, Level, Losses,
+    Refusal, SampleRate, Uuid,
 };
 use sentry_plain::{Items, Shared, Text};
 use sentry_state::callbacks::EventCallback;
@@ -38,6 +39,28 @@ pub enum Call<P, C> {
         rate: SampleRate,
         draw: Draw,
     },
+    PrepareEvent {
+        client: ClientKey,
+        event: Event,
+        scope: Option<Scope<P>>,
+        fresh: Fresh,
+    },
+    ClientCaptureEvent {
+        client: ClientKey,
+        event: Event,
+        scope: Option<Scope<P>>,
+        fresh: Fresh,
+    },
+    SendEnvelope {
+        client: ClientKey,
+        envelope: Envelope,
+    },
+    TakeReport(Label),
+    /// Stands for `absorb`, of plain numbers.
+    Absorb {
+        label: Label,
+        losses: Losses,
+    },
     NewHub {
         client: Option<ClientKey>,
         scope: Scope<P>,
@@ -59,21 +82,35 @@ pub enum Call<P, C> {
         level: Level,
         fresh: Fresh,
     },
+    CaptureError {
+        hub: HubKey,
+        /// The error and its sources, outermost first.
+        links: Items<ErrorLink>,
+        fresh: Fresh,
+    },
     LastEventId(HubKey),
+    Client(HubKey),
+    IsActive(HubKey),
+    Scope(HubKey),
 }
 
-/// What a call replies. `P` is for replies that hold a scope.
+/// What a call replies.
 #[derive(Drop)]
 pub enum Reply<P, C> {
     Client(ClientKey),
     Options(Shared<ClientOptions<C>>),
     Dsn(Option<Dsn>),
-    /// The reply of `is_enabled` and `sample_should_send`.
+    /// The reply of `is_enabled`, `sample_should_send` and `is_active`.
     Decision(bool),
+    /// The reply of `prepare_event`.
+    Prepared(Option<Event>),
+    Report(Option<ClientReport>),
     Hub(HubKey),
     Done,
     Event(Uuid),
     LastEvent(Option<Uuid>),
+    /// The client of a hub's top layer.
+    HubClient(Option<ClientKey>),
     Scope(Scope<P>),
 }
 
@@ -110,6 +147,23 @@ impl<P: EventCallback + Drop, C: Callbacks> Engine<P, C> {
             Call::SampleShouldSend { rate, draw } => {
                 answer_of(self.sample_should_send(rate, draw))
             }
+            Call::PrepareEvent {
+                client,
+                event,
+                scope,
+                fresh,
+            } => answer_of(self.prepare_event(client, event, scope.as_ref(), fresh)),
+            Call::ClientCaptureEvent {
+                client,
+                event,
+                scope,
+                fresh,
+            } => answer_of(self.client_capture_event(client, event, scope.as_ref(), fresh)),
+            Call::SendEnvelope { client, envelope } => {
+                answer_of(self.send_envelope(client, envelope))
+            }
+            Call::TakeReport(label) => answer_of(self.take_report(label)),
+            Call::Absorb { label, losses } => answer_of(self.absorb_losses(label, &losses)),
             Call::NewHub { client, scope } => answer_of(self.new_hub(client, scope)),
             Call::Configure { hub, edits, now } => answer_of(self.configure(
                 hub,
@@ -125,7 +179,13 @@ impl<P: EventCallback + Drop, C: Callbacks> Engine<P, C> {
                 level,
                 fresh,
             } => answer_of(self.capture_text(hub, message, level, fresh)),
+            Call::CaptureError { hub, links, fresh } => {
+                answer_of(self.capture_error(hub, links.as_slice(), fresh))
+            }
             Call::LastEventId(hub) => answer_of(self.last_event_id(hub)),
+            Call::Client(hub) => answer_of(self.client(hub)),
+            Call::IsActive(hub) => answer_of(self.is_active(hub)),
+            Call::Scope(hub) => answer_of(self.scope(hub)),
         }
     }
 

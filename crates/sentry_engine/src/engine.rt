@@ -4,10 +4,13 @@ ghost use Rattle.sentry_plain.specs.Tables.{value_at};
 ghost use Rattle.sentry_engine.specs.Worlds.{World, Stands, first_world, starting_world};
 ghost use Rattle.sentry_engine.specs.Outcomes.{hub_at, plain_client_at, is_held_or_none};
 
+mod books;
+mod captures;
 mod clients;
 mod hubs;
 
 use sentry_base::protocol::{ClientKey, Envelope, HubKey, Label, Uuid};
+use sentry_parts::client_reports::LossBook;
 use sentry_plain::{Items, Shared, Table};
 use sentry_state::callbacks::EventCallback;
 use sentry_state::clientoptions::{Callbacks, ClientOptions};
@@ -69,6 +72,8 @@ pub struct Engine<P, C> {
     next: NextNumbers,
     clients: Table<Client<C>>,
     hubs: Table<Hub<P>>,
+    // The losses of each label that a client names, by the label's number.
+    books: Table<LossBook>,
     alloc: Global,
 }
 
@@ -79,6 +84,7 @@ impl<P: Drop, C: Drop> Drop for Engine<P, C> {
             next: _,
             clients: _,
             hubs: _,
+            books: _,
             alloc: _,
         } = self;
     }
@@ -105,6 +111,7 @@ impl<P: EventCallback + Drop, C: Callbacks> Engine<P, C> {
             },
             clients: Table::new(alloc),
             hubs: Table::new(alloc),
+            books: Table::new(alloc),
             alloc,
         }
     }

@@ -1,5 +1,5 @@
 -- What becomes of an event between its capture and its envelope.
-use Rattle.std.specs.Prelude.{◌≡◌, ℕ, Option, Some, None, List, [], ◌∷◌, if◌then◌else◌, codes, map}
+use Rattle.std.specs.Prelude.{ℕ, nat_lt, Option, Some, None, List, [], ◌∷◌, if◌then◌else◌, codes, map}
 use Rattle.std.specs.Option.{option_or}
 use Rattle.std.specs.Str.{bytes_eq}
 use Rattle.sentry_base.specs.Events.{is_nil}
@@ -9,15 +9,23 @@ use Rattle.sentry_state.specs.declared.scope.Scope.{Scope}
 use Rattle.sentry_state.specs.declared.clientoptions.plain.PlainOptions.{PlainOptions}
 use Rattle.sentry_state.specs.declared.clientoptions.ClientOptions.{ClientOptions}
 use Rattle.sentry_state.specs.Constants.{sdk_name, sdk_version, sdk_package_name}
-use Rattle.sentry_state.specs.Callbacks.{Partial, Meanings, process_by_all, call_if_any}
-use Rattle.sentry_state.specs.Scopes.{apply_to_event}
+use Rattle.sentry_state.specs.Callbacks.{Partial, Meanings, process_all, process_by_all, call_if_any}
+use Rattle.sentry_state.specs.Scopes.{fill}
+use Rattle.sentry_state.specs.declared.clientoptions.choices.EventSamplingStrategy.{EventSamplingStrategy}
+use Rattle.sentry_state.specs.declared.clientoptions.choices.EventSamplingStrategy.TheVariants.{FixedRate}
+use Rattle.sentry_base.specs.declared.protocol.fresh.Fresh.{Fresh}
+use Rattle.sentry_base.specs.declared.protocol.losses.Reason.{Reason}
+use Rattle.sentry_base.specs.declared.protocol.losses.Reason.TheVariants as reason
+use Rattle.sentry_parts.specs.declared.pipeline.Preparation.{Preparation}
+use Rattle.sentry_parts.specs.declared.pipeline.Preparation.TheVariants.{Kept, SampledOut, Dropped}
 use Rattle.sentry_parts.specs.declared.pipeline.Place.{Place}
 use Rattle.sentry_parts.specs.declared.pipeline.Place.TheVariants.{EventProcessor, Integration, BeforeSend}
 
--- what becomes of an event: it is kept as it is to be sent, or dropped at a place
-pub data Prepared : Type 0 where
-  kept : Event → Prepared
-  dropped : Place → Prepared
+-- what becomes of an event that is captured: the event that came through all callbacks, if it did, and whether it is to
+-- be sent
+pub record Prepared : Type 0 where
+  pub preparation : Preparation
+  pub event : Option Event
 
 -- a nil id is replaced by the fresh one
 abbrev pub with_id : List ℕ → Event → Event
@@ -47,23 +55,39 @@ with_defaults options event = record event {
 
 -- goes on with the event, or tells the place where it was dropped
 abbrev pub continue_or_drop : Place → Option Event → (Event → Prepared) → Prepared
-continue_or_drop place None go = dropped place
+continue_or_drop place None go = record { preparation = Dropped place; event = None }
 continue_or_drop place (Some event) go = go event
 
--- the event as it is to be sent, or the place that dropped it
+module _ {P : Type 0} where
+  -- the event with what the scope fills in, if there is one
+  abbrev pub fill_if_any : Option (Scope P) → Event → Event
+  fill_if_any None event = event
+  fill_if_any (Some scope) event = fill scope event
+
+  -- the event through the processors of the scope, if there is one
+  abbrev pub process_if_any : (P → Partial) → Option (Scope P) → Partial
+  process_if_any gives None event = Some event
+  process_if_any gives (Some scope) event = process_all gives scope.processors event
+
+-- an event is to be sent where its draw lies below the rate
+abbrev pub sample : EventSamplingStrategy → ℕ → Preparation
+sample (FixedRate rate) draw = if nat_lt draw rate then Kept else SampledOut
+
+-- the event as it comes through all callbacks and whether it is to be sent, or the place that dropped it
 unfoldable pub prepare_event : {P C : Type 0}
-    → (P → Partial) → (C → Meanings) → ClientOptions C → Scope P → List ℕ → Event → Prepared
+    → (P → Partial) → (C → Meanings) → ClientOptions C → Option (Scope P) → Fresh → Event → Prepared
 prepare_event gives meanings options scope fresh event =
     let client = meanings options.callbacks in
-    let identified = with_sdk (sdk_info client) (with_id fresh event) in
-    continue_or_drop EventProcessor (apply_to_event gives scope identified) (λ processed.
+    let identified = with_sdk (sdk_info client) (with_id fresh.uuid event) in
+    continue_or_drop EventProcessor (process_if_any gives scope (fill_if_any scope identified)) (λ processed.
     continue_or_drop Integration (process_by_all client.integrations options.plain processed) (λ integrated.
     continue_or_drop BeforeSend (call_if_any client.before_send (with_defaults options.plain integrated)) (λ made.
-    kept made)))
+    record { preparation = sample options.plain.event_sampling_strategy fresh.draw; event = Some made })))
 
--- the code tells an event that is kept by the event and no place, and one that was dropped by the place and no event
-abbrev pub IsOutcome : Prepared → Option Place → Option Event → Type 0
-IsOutcome (kept event) None slot = slot ≡ Some event
-IsOutcome (dropped place) (Some told) slot = (told ≡ place) × (slot ≡ None)
-IsOutcome (kept event) (Some told) slot = ⊥
-IsOutcome (dropped place) None slot = ⊥
+-- why an event is counted as lost, if it is
+abbrev pub loss_reason : Preparation → Option Reason
+loss_reason Kept = None
+loss_reason SampledOut = Some reason.SampleRate
+loss_reason (Dropped EventProcessor) = Some reason.EventProcessor
+loss_reason (Dropped Integration) = Some reason.EventProcessor
+loss_reason (Dropped BeforeSend) = Some reason.BeforeSend

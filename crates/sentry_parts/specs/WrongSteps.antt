@@ -6,7 +6,7 @@ use Rattle.sentry_parts.specs.declared.client_reports.step.LossStep.{LossStep}
 use Rattle.sentry_parts.specs.declared.client_reports.step.LossStep.TheVariants.{Add, Raise, Lower, Take}
 use Rattle.sentry_parts.specs.LossViews.{Laws}
 
--- what is done to the words, what the view was, and what it is said to be then
+-- what a participant does to the words, its view before that, and the view that it notes after that
 pub record Move : Type 0 where
   pub words_after : List ℕ → List ℕ
   pub view : List LossStep
@@ -19,8 +19,8 @@ Keeps flag_of counters flags move =
     → length words ≡ counters + flags → get_elem? views p ≡ some move.view → Laws flag_of counters words views
     → Laws flag_of counters (move.words_after words) (slice_set views p move.view_after)
 
--- the move at the counter i breaks a law, for each assignment of counters to flags and each counter; where flag_of is
--- the real layout, that refutes the rule of the real words
+-- the move breaks a law, under every assignment of counters to flags and at every counter: at the real layout, the
+-- rule of the real words refuses it
 abbrev pub Breaks : ((ℕ → ℕ) → ℕ → ℕ → Move) → Type 0
 Breaks move_at =
     (flag_of : ℕ → ℕ) (counters flags i : ℕ) → i < counters → flag_of i < flags

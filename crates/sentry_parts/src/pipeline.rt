@@ -1,19 +1,18 @@
 //! What becomes of an event between its capture and its envelope.
 ghost use Rattle.std.specs.Prelude.{◌≡◌, Some, IfOk, OnOk};
-ghost use Rattle.std.specs.Option.{option_or};
+ghost use Rattle.std.specs.Option.{option_or, option_copied, option_and_then};
 ghost use Rattle.sentry_base.specs.declared.protocol.event.Event.{Event};
-ghost use Rattle.sentry_state.specs.Scopes.{fill};
-ghost use Rattle.sentry_parts.specs.Pipeline.{with_id, with_sdk, sdk_info, with_defaults, prepare_event, IsOutcome};
+ghost use Rattle.sentry_parts.specs.Pipeline.{with_id, with_sdk, sdk_info, with_defaults, fill_if_any, process_if_any, sample, loss_reason, prepare_event};
 
-use sentry_base::protocol::{ClientSdkInfo, ClientSdkPackage, Event, Uuid};
+use sentry_base::protocol::{ClientSdkInfo, ClientSdkPackage, Draw, Event, Fresh, Reason, Uuid};
 use sentry_plain::{Items, Text};
 use sentry_state::callbacks::EventCallback;
-use sentry_state::clientoptions::{Callbacks, ClientOptions, PlainOptions};
+use sentry_state::clientoptions::{Callbacks, ClientOptions, EventSamplingStrategy, PlainOptions};
 use sentry_state::constants::{PACKAGE_NAME, SDK_NAME, VERSION};
 use sentry_state::scope::Scope;
 use std::alloc::{AllocError, Global};
 
-/// What dropped an event.
+/// The callback that dropped an event.
 #[derive(Clone, Copy, Debug, PartialEq, Eq)]
 pub enum Place {
     /// A processor of the scope.
@@ -22,6 +21,31 @@ pub enum Place {
     Integration,
     /// The client's `before_send`.
     BeforeSend,
+}
+
+/// Whether a captured event is to be sent.
+#[derive(Clone, Copy, Debug, PartialEq, Eq)]
+pub enum Preparation {
+    /// It is to be sent.
+    Kept,
+    /// It came through all callbacks, and sampling left it out.
+    SampledOut,
+    /// A callback dropped it.
+    Dropped(Place),
+}
+
+impl Preparation {
+    /// Why the event is counted as lost, if it is.
+    pub fn loss_reason(self) -> Option<Reason>
+        ensures { result ≡ loss_reason self }
+    {
+        match self {
+            Preparation::Kept => None,
+            Preparation::SampledOut => Some(Reason::SampleRate),
+            Preparation::Dropped(Place::BeforeSend) => Some(Reason::BeforeSend),
+            Preparation::Dropped(_) => Some(Reason::EventProcessor),
+        }
+    }
 }
 
 // Replaces a nil id by the fresh one.
@@ -95,50 +119,79 @@ fn fill_in_defaults(
 fn fill_in_before_callbacks<P: Drop, C: Callbacks>(
     alloc: Global,
     callbacks: &C,
-    scope: &Scope<P>,
+    scope: Option<&Scope<P>>,
     fresh: Uuid,
     event: &mut Event,
 ) -> Result<(), AllocError>
-    ensures { OnOk result
-        (event.new ≡ fill scope.now (with_sdk (sdk_info (C.meanings callbacks.now)) (with_id fresh event.old))) }
+    ensures { OnOk result (event.new ≡ fill_if_any (option_copied scope.entry)
+        (with_sdk (sdk_info (C.meanings callbacks.now)) (with_id fresh event.old))) }
 {
     fill_in_id(fresh, event);
     fill_in_sdk(alloc, callbacks, event)?;
-    scope.fill_event(event)
+    match scope {
+        None => Ok(()),
+        Some(scope) => scope.fill_event(event),
+    }
 }
 
-/// Prepares an event for sending, in place: it gets an id and the SDK, goes under the scope, through its processors and
-/// the integrations, gets the defaults of the options, and goes through `before_send`. The first callback that returns
-/// `None` drops it: then the event becomes `None`, and the place that dropped it is returned. Given `None`, it does
-/// nothing. If memory runs out, some of this was done.
+// Passes an event through the processors of the scope, if there is one.
+fn process_by_scope<P: EventCallback + Drop>(
+    scope: Option<&Scope<P>>,
+    event: &mut Option<Event>,
+) -> Result<(), AllocError>
+    ensures { OnOk result
+        (event.new ≡ option_and_then (process_if_any P.gives (option_copied scope.entry)) event.old) }
+{
+    match scope {
+        None => Ok(()),
+        Some(scope) => scope.process_event(event),
+    }
+}
+
+// Whether an event with this draw is to be sent.
+fn sample(strategy: EventSamplingStrategy, draw: Draw) -> Preparation
+    ensures { result ≡ sample strategy draw }
+{
+    match strategy {
+        EventSamplingStrategy::FixedRate(rate) if rate.keeps(draw) => Preparation::Kept,
+        EventSamplingStrategy::FixedRate(_) => Preparation::SampledOut,
+    }
+}
+
+/// Prepares an event for sending, in place: it gets an id and the SDK, goes under the scope, if there is one, through
+/// its processors and the integrations, gets the defaults of the options, goes through `before_send`, and is sampled.
+/// The first callback that returns `None` drops it: then the event becomes `None`. Given `None`, it does nothing. If
+/// memory runs out, some of this was done.
 #[tactic(auto, unfolding(crate::specs::Pipeline::prepare_event))]
 pub fn prepare_event<P: EventCallback + Drop, C: Callbacks>(
     alloc: Global,
     options: &ClientOptions<C>,
-    scope: &Scope<P>,
-    fresh: Uuid,
+    scope: Option<&Scope<P>>,
+    fresh: Fresh,
     event: &mut Option<Event>,
-) -> Result<Option<Place>, AllocError>
-    ensures { (captured : Event) → event.old ≡ Some captured → IfOk result
-        (λ place. IsOutcome (prepare_event P.gives C.meanings options.now scope.now fresh captured) place event.new) }
+) -> Result<Preparation, AllocError>
+    ensures preparation { (captured : Event) → event.old ≡ Some captured → IfOk result (λ preparation. preparation ≡
+        (prepare_event P.gives C.meanings options.now (option_copied scope.entry) fresh captured).preparation) }
+    ensures event { (captured : Event) → event.old ≡ Some captured → OnOk result (event.new ≡
+        (prepare_event P.gives C.meanings options.now (option_copied scope.entry) fresh captured).event) }
 {
     let callbacks = &options.callbacks;
     let Some(captured) = event else {
-        return Ok(None);
+        return Ok(Preparation::Kept);
     };
-    fill_in_before_callbacks(alloc, callbacks, scope, fresh, captured)?;
-    scope.process_event(event)?;
+    fill_in_before_callbacks(alloc, callbacks, scope, fresh.uuid, captured)?;
+    process_by_scope(scope, event)?;
     if event.is_none() {
-        return Ok(Some(Place::EventProcessor));
+        return Ok(Preparation::Dropped(Place::EventProcessor));
     }
     callbacks.process_event(event, &options.plain)?;
     let Some(integrated) = event else {
-        return Ok(Some(Place::Integration));
+        return Ok(Preparation::Dropped(Place::Integration));
     };
     fill_in_defaults(alloc, &options.plain, integrated)?;
     callbacks.before_send(event)?;
     if event.is_none() {
-        return Ok(Some(Place::BeforeSend));
+        return Ok(Preparation::Dropped(Place::BeforeSend));
     }
-    Ok(None)
+    Ok(sample(options.plain.event_sampling_strategy, fresh.draw))
 }

@@ -3,7 +3,6 @@
 #![tactic(auto)]
 
 mod items;
-mod outcome;
 mod plain_eq;
 mod shared;
 mod table;
@@ -12,7 +11,6 @@ mod text_map;
 mod value;
 
 pub use items::Items;
-pub use outcome::unless_failed;
 pub use plain_eq::{PlainEq, is_same};
 pub use shared::Shared;
 pub use table::Table;

@@ -1,6 +1,7 @@
--- Callbacks as partial functions on events, which are called in order.
+-- Callbacks as partial functions on events and breadcrumbs; those on events are called in order.
 use Rattle.std.specs.Prelude.{Option, Some, None, List, [], ◌∷◌}
 use Rattle.std.specs.Option.{option_and_then}
+use Rattle.sentry_base.specs.declared.protocol.breadcrumb.Breadcrumb.{Breadcrumb}
 use Rattle.sentry_base.specs.declared.protocol.event.Event.{Event}
 use Rattle.sentry_plain.specs.Texts.{Bytes}
 use Rattle.sentry_state.specs.declared.clientoptions.plain.PlainOptions.{PlainOptions}
@@ -8,6 +9,10 @@ use Rattle.sentry_state.specs.declared.clientoptions.plain.PlainOptions.{PlainOp
 -- a function from an event to an event, or to `None` if it drops the event
 abbrev pub Partial : Type 0
 Partial = Event → Option Event
+
+-- the same for breadcrumbs
+abbrev pub PartialOnBreadcrumbs : Type 0
+PartialOnBreadcrumbs = Breadcrumb → Option Breadcrumb
 
 module _ {P : Type 0} (gives : P → Partial) where
   -- the event after each processor in turn, up to the first that drops it

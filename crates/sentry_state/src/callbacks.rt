@@ -1,12 +1,12 @@
-//! The traits that callers implement: callbacks on events, and integrations.
+//! The traits that callers implement: callbacks on events and breadcrumbs, and integrations.
 ghost use Rattle.std.specs.Prelude.{◌≡◌, IfOk, OnOk};
-ghost use Rattle.sentry_state.specs.Callbacks.{Partial, IntegrationMeaning};
+ghost use Rattle.sentry_state.specs.Callbacks.{Partial, PartialOnBreadcrumbs, IntegrationMeaning};
 
 mod boxed;
 
 use crate::clientoptions::PlainOptions;
-pub use boxed::{BoxedEventCallback, BoxedIntegration};
-use sentry_base::protocol::Event;
+pub use boxed::{BoxedBreadcrumbCallback, BoxedEventCallback, BoxedIntegration};
+use sentry_base::protocol::{Breadcrumb, Event};
 use std::alloc::AllocError;
 
 /// A callback on events, which changes or drops an event: an event processor of a scope, or `before_send`.
@@ -19,6 +19,18 @@ pub trait EventCallback {
     /// Returns the event to go on with, or `None` to drop it.
     fn call(&self, event: Event) -> Result<Option<Event>, AllocError>
         ensures { IfOk result (λ made. made ≡ gives self.now event) };
+}
+
+/// A callback on breadcrumbs, which changes or drops a breadcrumb before a scope keeps it.
+///
+/// It may run out of memory. Otherwise its result is a function of its argument, which `gives` names.
+pub trait BreadcrumbCallback {
+    /// The function.
+    ghost gives: { Self → PartialOnBreadcrumbs };
+
+    /// Returns the breadcrumb to keep, or `None` to drop it.
+    fn call(&self, breadcrumb: Breadcrumb) -> Result<Option<Breadcrumb>, AllocError>
+        ensures { IfOk result (λ made. made ≡ gives self.now breadcrumb) };
 }
 
 /// An extension of a client. It sees the options of the client when that is added, and each event after the scope.

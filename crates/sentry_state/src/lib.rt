@@ -5,3 +5,4 @@ pub mod callbacks;
 pub mod clientoptions;
 pub mod constants;
 pub mod scope;
+mod texts;

@@ -1,10 +1,10 @@
 //! What commands answer by themselves.
 use crate::answer::Reply;
 use crate::print::Shown;
-use crate::print::lists::push_labeled;
+use crate::print::lists::{push_joined, push_labeled};
 use sentry_base::dsn::{Dsn, ParseDsnError};
 use sentry_base::headers::{HeaderParseError, TracePropagationContext};
-use sentry_base::protocol::{OrganizationId, Uuid};
+use sentry_base::protocol::{ClientReport, OrganizationId, Uuid};
 use std::alloc::AllocError;
 
 impl Shown for Reply<'_> {
@@ -19,7 +19,9 @@ impl Shown for Reply<'_> {
             Reply::Enabled { client, is_enabled } => {
                 writeln!(text, "enabled {client} {is_enabled}")
             }
+            Reply::Report { client, report } => push_report(text, *client, report),
             Reply::LastEvent { hub, id } => push_last_event(text, *hub, *id),
+            Reply::Active { hub, is_active } => writeln!(text, "active {hub} {is_active}"),
             Reply::Headers(parsed) => push_headers(text, parsed),
             Reply::Dsn(read) => push_dsn_answer(text, read),
             Reply::DebugType(name) => writeln!(text, "debugtype {name}"),
@@ -28,6 +30,21 @@ impl Shown for Reply<'_> {
                 let url = url.as_str();
                 writeln!(text, "scrub {url}")
             }
+        }
+    }
+}
+
+fn push_report(
+    text: &mut String,
+    client: u64,
+    report: &Option<ClientReport>,
+) -> Result<(), AllocError> {
+    match report {
+        None => writeln!(text, "report {client} none"),
+        Some(report) => {
+            write!(text, "report {client} ")?;
+            push_joined(text, report.items.as_slice(), ",")?;
+            text.push_str("\n")
         }
     }
 }

@@ -1,9 +1,10 @@
 //! The replies of calls, put into the one type of replies.
 use crate::call::Reply;
 use sentry_base::dsn::Dsn;
-use sentry_base::protocol::{ClientKey, HubKey, Uuid};
+use sentry_base::protocol::{ClientKey, ClientReport, Event, HubKey, Uuid};
 use sentry_plain::Shared;
 use sentry_state::clientoptions::ClientOptions;
+use sentry_state::scope::Scope;
 
 impl<P, C> From<ClientKey> for Reply<P, C> {
     ghost use Rattle.std.specs.Prelude.{◌≡◌};
@@ -90,5 +91,49 @@ impl<P, C> From<Option<Uuid>> for Reply<P, C> {
 
     fn from(id: Option<Uuid>) -> Reply<P, C> {
         Reply::LastEvent(id)
+    }
+}
+
+impl<P, C> From<Option<Event>> for Reply<P, C> {
+    ghost use Rattle.std.specs.Prelude.{◌≡◌};
+    ghost use Rattle.sentry_engine.specs.declared.call.Reply.TheVariants.{Prepared};
+
+    ghost from_gives = { λ event reply. reply ≡ Prepared event };
+
+    fn from(event: Option<Event>) -> Reply<P, C> {
+        Reply::Prepared(event)
+    }
+}
+
+impl<P, C> From<Option<ClientReport>> for Reply<P, C> {
+    ghost use Rattle.std.specs.Prelude.{◌≡◌};
+    ghost use Rattle.sentry_engine.specs.declared.call.Reply.TheVariants.{Report};
+
+    ghost from_gives = { λ report reply. reply ≡ Report report };
+
+    fn from(report: Option<ClientReport>) -> Reply<P, C> {
+        Reply::Report(report)
+    }
+}
+
+impl<P, C> From<Option<ClientKey>> for Reply<P, C> {
+    ghost use Rattle.std.specs.Prelude.{◌≡◌};
+    ghost use Rattle.sentry_engine.specs.declared.call.Reply.TheVariants.{HubClient};
+
+    ghost from_gives = { λ client reply. reply ≡ HubClient client };
+
+    fn from(client: Option<ClientKey>) -> Reply<P, C> {
+        Reply::HubClient(client)
+    }
+}
+
+impl<P, C> From<Scope<P>> for Reply<P, C> {
+    ghost use Rattle.std.specs.Prelude.{◌≡◌};
+    ghost use Rattle.sentry_engine.specs.declared.call.Reply.TheVariants.{Scope};
+
+    ghost from_gives = { λ scope reply. reply ≡ Scope scope };
+
+    fn from(scope: Scope<P>) -> Reply<P, C> {
+        Reply::Scope(scope)
     }
 }

@@ -3,15 +3,23 @@ ghost use Rattle.std.specs.Prelude.{◌≡◌, IfOk, OnOk, OnErr, Ok, [], nat_lt
 ghost use Rattle.sentry_plain.specs.Tables.{put};
 ghost use Rattle.sentry_state.specs.Callbacks.{set_up_all};
 ghost use Rattle.sentry_engine.specs.Worlds.{World, ClientState, Stands, plain_client};
+ghost use Rattle.sentry_engine.specs.Books.{with_book};
 ghost use Rattle.sentry_engine.specs.Outcomes.{Does, DoesWithoutMemory};
+ghost use Rattle.std.specs.Option.{option_copied};
 ghost use Rattle.sentry_engine.specs.Clients as call;
 
+use crate::engine::captures::{add_report, capture, captured_id};
 use crate::engine::{Client, Engine, Out};
 use sentry_base::dsn::Dsn;
-use sentry_base::protocol::{ClientKey, Draw, Label, Refusal, SampleRate};
-use sentry_plain::Shared;
+use sentry_base::protocol::{
+    ClientKey, Draw, Envelope, Event, Fresh, Label, Refusal, SampleRate, Uuid,
+};
+use sentry_parts::client_reports::LossBook;
+use sentry_parts::pipeline::prepare_event;
+use sentry_plain::{Items, Shared};
 use sentry_state::callbacks::EventCallback;
 use sentry_state::clientoptions::{Callbacks, ClientOptions};
+use sentry_state::scope::Scope;
 use std::alloc::{AllocError, Global};
 
 // A share of the options, after the `setup` of their integrations.
@@ -33,16 +41,42 @@ impl<P: EventCallback + Drop, C: Callbacks> Engine<P, C> {
     fn insert_client(&mut self, number: u64, client: Client<C>) -> Result<(), AllocError>
         ensures in_world { OnOk result ((world : World P C) (state : ClientState C) → Stands self.old world →
             client ≡ plain_client state → Stands self.new (record world { clients = put world.clients number state })) }
-        ensures rest { OnOk result ((self.new.tag ≡ self.old.tag) × (self.new.next ≡ self.old.next)) }
+        ensures rest { OnOk result ((self.new.tag ≡ self.old.tag) × (self.new.next ≡ self.old.next)
+            × (self.new.books ≡ self.old.books)) }
         ensures err { OnErr result (self.new ≡ self.old) }
     {
         self.clients.insert(number, client)
     }
 
+    // Holds a client under a number, and a book for its label, if there is none yet.
+    #[tactic(auto, using(crate::proofs::Keeping::stored_in_world, crate::proofs::Keeping::without_put))]
+    fn insert_client_and_book(&mut self, number: u64, client: Client<C>) -> Result<(), AllocError>
+        ensures in_world { OnOk result ((world : World P C) (state : ClientState C) → Stands self.old world →
+            client ≡ plain_client state → Stands self.new (record world {
+              clients = put world.clients number state;
+              books = with_book world.books client.label.number;
+            })) }
+        ensures rest { OnOk result ((self.new.tag ≡ self.old.tag) × (self.new.next ≡ self.old.next)) }
+        ensures err { OnErr result (self.new ≡ self.old) }
+    {
+        let label = client.label.number;
+        if self.books.get(label).is_some() {
+            return self.insert_client(number, client);
+        }
+        self.books.insert(label, LossBook::new())?;
+        match self.clients.insert(number, client) {
+            Ok(()) => Ok(()),
+            Err(error) => {
+                self.books.remove(label);
+                Err(error)
+            }
+        }
+    }
+
     /// Adds a client with these options, after the `setup` of its integrations, and answers its key. Its losses go to
-    /// the table that the label names; `transport` says whether there is one to send its envelopes, which it does if the
-    /// options have a DSN before any `setup`; `_now` is the moment in nanoseconds since the epoch, from which its queues
-    /// are to wait.
+    /// the book of the label. `transport` says whether there is one to send its envelopes, which it does if the options
+    /// have a DSN before any `setup`. `_now` is the moment in nanoseconds since the epoch, from which its queues are to
+    /// wait.
     ///
     /// `ForeignLosses`: the label has another tag than the engine. `Full`: the numbers are used up. `OutOfMemory`.
     #[tactic(auto, unfolding(crate::specs::Clients::add_client))]
@@ -68,7 +102,7 @@ impl<P: EventCallback + Drop, C: Callbacks> Engine<P, C> {
             label,
             occupied,
         };
-        self.insert_client(number, client)?;
+        self.insert_client_and_book(number, client)?;
         self.next.client = number + 1;
         Ok(self.out(ClientKey {
             tag: self.tag,
@@ -125,5 +159,90 @@ impl<P: EventCallback + Drop, C: Callbacks> Engine<P, C> {
         ensures answers { result ≡ Ok (record { reply = nat_lt draw rate; sent = [] }) }
     {
         Ok(self.out(rate.keeps(draw)))
+    }
+
+    /// Captures an event of a client, under a scope, if one is given: it goes through the pipeline, and out in an
+    /// envelope, with the pending report as its last item. Its id is the reply; the nil id if it was not sent.
+    ///
+    /// `Stale`: the client isn't held. `OutOfMemory`.
+    #[tactic(auto, unfolding(crate::specs::Clients::client_capture_event))]
+    pub fn client_capture_event(
+        &mut self,
+        client: ClientKey,
+        event: Event,
+        scope: Option<&Scope<P>>,
+        fresh: Fresh,
+    ) -> Result<Out<Uuid>, Refusal>
+        ensures { Does self.old self.new result
+            (call.client_capture_event P.gives C.meanings client event (option_copied scope.entry) fresh) }
+    {
+        let Some(held) = self.client_at(client) else {
+            return Err(Refusal::Stale);
+        };
+        let label = held.label;
+        let mut event = Some(event);
+        let preparation = capture(self.alloc, held, scope, fresh, &mut event)?;
+        let reply = captured_id(&event);
+        let sent = self.captured_envelopes(client, label, scope, event)?;
+        self.note_capture(label, preparation);
+        Ok(Out { reply, sent })
+    }
+
+    /// Prepares an event as the client would send it, under a scope, if one is given. Returns `None` if it would not be
+    /// sent; then it counts as lost.
+    ///
+    /// `Stale`: the client isn't held. `OutOfMemory`.
+    #[tactic(auto, unfolding(crate::specs::Clients::prepare_event))]
+    pub fn prepare_event(
+        &mut self,
+        client: ClientKey,
+        event: Event,
+        scope: Option<&Scope<P>>,
+        fresh: Fresh,
+    ) -> Result<Out<Option<Event>>, Refusal>
+        ensures { Does self.old self.new result
+            (call.prepare_event P.gives C.meanings client event (option_copied scope.entry) fresh) }
+    {
+        let Some(held) = self.client_at(client) else {
+            return Err(Refusal::Stale);
+        };
+        let label = held.label;
+        let mut event = Some(event);
+        let preparation = prepare_event(self.alloc, held.options.get(), scope, fresh, &mut event)?;
+        match preparation.loss_reason() {
+            None => Ok(self.out(event)),
+            Some(reason) => {
+                self.record_lost_event(label, reason);
+                Ok(self.out(None))
+            }
+        }
+    }
+
+    /// Sends an envelope, with the pending report as its last item. Without a transport nothing is sent.
+    ///
+    /// `Stale`: the client isn't held. `OutOfMemory`.
+    #[tactic(auto, unfolding(crate::specs::Clients::send_envelope))]
+    pub fn send_envelope(
+        &mut self,
+        client: ClientKey,
+        mut envelope: Envelope,
+    ) -> Result<Out<()>, Refusal>
+        ensures { Does self.old self.new result (call.send_envelope client envelope) }
+    {
+        let Some(held) = self.client_at(client) else {
+            return Err(Refusal::Stale);
+        };
+        if !held.occupied {
+            return Ok(self.out(()));
+        }
+        let label = held.label;
+        add_report(&mut envelope, self.pending_report(label)?)?;
+        let mut sent = Vec::with_capacity(self.alloc, 1)?;
+        sent.push_reserved((client, envelope));
+        self.mark_reported(label);
+        Ok(Out {
+            reply: (),
+            sent: Items::from_vec(sent),
+        })
     }
 }

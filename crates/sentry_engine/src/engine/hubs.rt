@@ -6,67 +6,18 @@ ghost use Rattle.sentry_engine.specs.declared.engine.Hub.{Hub};
 ghost use Rattle.sentry_engine.specs.Worlds.{World, Stands};
 ghost use Rattle.sentry_engine.specs.Outcomes.{Does, DoesWithoutMemory, hub_at, with_scope};
 ghost use Rattle.sentry_base.specs.declared.protocol.event.Event.{Event};
-ghost use Rattle.sentry_engine.specs.Hubs.{captured_event, captured_id, captured_envelopes, message_event};
+ghost use Rattle.sentry_engine.specs.Captures.{message_event};
 ghost use Rattle.sentry_engine.specs.Hubs as call;
 
-use crate::engine::{Client, Engine, Hub, Out};
-use sentry_base::protocol::{
-    ClientKey, Envelope, EnvelopeItem, Event, Fresh, HubKey, Level, Refusal, Uuid,
-};
-use sentry_parts::pipeline::prepare_event;
-use sentry_plain::{Items, Text};
+use crate::engine::captures::{capture, captured_id};
+use crate::engine::{Engine, Hub, Out};
+use sentry_base::protocol::{ClientKey, ErrorLink, Event, Fresh, HubKey, Level, Refusal, Uuid};
+use sentry_base::utils::event_from_error;
+use sentry_plain::Text;
 use sentry_state::callbacks::EventCallback;
 use sentry_state::clientoptions::Callbacks;
 use sentry_state::scope::{Scope, ScopeEdit, Stack};
 use std::alloc::{AllocError, Global};
-
-// Makes of a captured event the one that the client sends, in place; `None` if it sends none.
-#[tactic(auto, unfolding(crate::specs::Hubs::captured_event))]
-fn prepare_captured<P: EventCallback + Drop, C: Callbacks>(
-    alloc: Global,
-    client: &Client<C>,
-    scope: &Scope<P>,
-    fresh: Uuid,
-    event: &mut Option<Event>,
-) -> Result<(), AllocError>
-    ensures { (given : Event) → event.old ≡ Some given →
-        OnOk result (event.new ≡ captured_event P.gives C.meanings client.now scope.now fresh given) }
-{
-    if !client.occupied {
-        *event = None;
-        return Ok(());
-    }
-    prepare_event(alloc, client.options.get(), scope, fresh, event)?;
-    Ok(())
-}
-
-// The id that a capture answers.
-fn captured_id(event: &Option<Event>) -> Uuid
-    ensures { result ≡ captured_id event.now }
-{
-    match event {
-        None => Uuid::nil(),
-        Some(event) => event.event_id,
-    }
-}
-
-// The envelopes of a capture.
-fn captured_envelopes(
-    alloc: Global,
-    key: ClientKey,
-    event: Option<Event>,
-) -> Result<Items<(ClientKey, Envelope)>, AllocError>
-    ensures { IfOk result (λ sent. sent ≡ captured_envelopes key event) }
-{
-    let Some(event) = event else {
-        return Ok(Items::new(alloc));
-    };
-    let mut envelope = Envelope::with_capacity(alloc, 1)?;
-    envelope.add_item(EnvelopeItem::Event(event))?;
-    let mut sent = Vec::with_capacity(alloc, 1)?;
-    sent.push_reserved((key, envelope));
-    Ok(Items::from_vec(sent))
-}
 
 // The event of a message, as an event that is to be captured.
 fn message_event(
@@ -245,9 +196,12 @@ impl<P: EventCallback + Drop, C: Callbacks> Engine<P, C> {
         let Some(client) = self.client_at(key) else {
             return Ok(self.out(Uuid::nil()));
         };
-        prepare_captured(self.alloc, client, &held.stack.top.scope, fresh.uuid, &mut event)?;
+        let label = client.label;
+        let scope = Some(&held.stack.top.scope);
+        let preparation = capture(self.alloc, client, scope, fresh, &mut event)?;
         let reply = captured_id(&event);
-        let sent = captured_envelopes(self.alloc, key, event)?;
+        let sent = self.captured_envelopes(key, label, scope, event)?;
+        self.note_capture(label, preparation);
         self.set_last_event_id(hub.number, reply);
         Ok(Out { reply, sent })
     }
@@ -313,5 +267,71 @@ impl<P: EventCallback + Drop, C: Callbacks> Engine<P, C> {
             Ok(message) => self.capture_text(hub, message, level, fresh),
             Err(_) => Err(self.hub_refusal(hub)),
         }
+    }
+
+    /// Captures an error on a hub, as `capture_event` does: the event that `event_from_error` makes of its links, which
+    /// are given outermost first.
+    ///
+    /// `Stale`: the hub isn't held. `OutOfMemory`.
+    #[tactic(auto, unfolding(crate::specs::Hubs::capture_error, crate::specs::Hubs::capture_event))]
+    pub fn capture_error(
+        &mut self,
+        hub: HubKey,
+        links: &[ErrorLink],
+        fresh: Fresh,
+    ) -> Result<Out<Uuid>, Refusal>
+        ensures { Does self.old self.new result (call.capture_error P.gives C.meanings hub links.now fresh) }
+    {
+        match event_from_error(self.alloc, links, fresh.uuid, fresh.now) {
+            Ok(event) => self.capture(hub, Some(event), fresh),
+            Err(_) => Err(self.hub_refusal(hub)),
+        }
+    }
+
+    /// The client of the top layer, if it has one.
+    ///
+    /// `Stale`: the hub isn't held.
+    #[tactic(auto, unfolding(crate::specs::Hubs::client))]
+    pub fn client(&self, hub: HubKey) -> Result<Out<Option<ClientKey>>, Refusal>
+        ensures { DoesWithoutMemory self.now self.now result (call.client hub) }
+    {
+        let Some(held) = self.hub_at(hub) else {
+            return Err(Refusal::Stale);
+        };
+        Ok(self.out(held.stack.top.client))
+    }
+
+    /// Whether the top layer has a client that is enabled.
+    ///
+    /// `Stale`: the hub isn't held.
+    #[tactic(auto, unfolding(crate::specs::Hubs::is_active))]
+    pub fn is_active(&self, hub: HubKey) -> Result<Out<bool>, Refusal>
+        ensures { DoesWithoutMemory self.now self.now result (call.is_active hub) }
+    {
+        let Some(held) = self.hub_at(hub) else {
+            return Err(Refusal::Stale);
+        };
+        let Some(key) = held.stack.top.client else {
+            return Ok(self.out(false));
+        };
+        let Some(client) = self.client_at(key) else {
+            return Ok(self.out(false));
+        };
+        let is_enabled = client.options.get().plain.dsn.is_some() && client.occupied;
+        Ok(self.out(is_enabled))
+    }
+
+    /// A copy of the top scope.
+    ///
+    /// `Stale`: the hub isn't held. `OutOfMemory`.
+    #[tactic(auto, unfolding(crate::specs::Hubs::scope))]
+    pub fn scope(&self, hub: HubKey) -> Result<Out<Scope<P>>, Refusal>
+        ensures { Does self.now self.now result (call.scope hub) }
+    {
+        let Some(held) = self.hub_at(hub) else {
+            return Err(Refusal::Stale);
+        };
+        let scope = held.stack.top.scope.clone()?;
+        Ok(self.out(scope))
     }
 }

@@ -10,8 +10,8 @@ use sentry_plain::Items;
 use std::alloc::{AllocError, Global};
 use std::marker::Model;
 
-/// The losses that are still to be reported. A contract holds for every history of records, absorbs and reports that the
-/// book may stand for.
+/// The losses that are still to be reported. Each contract holds for every history of records, absorbs and reports that
+/// the book may stand for.
 #[derive(Drop)]
 pub struct LossBook {
     pending: Losses,
@@ -92,6 +92,21 @@ impl LossBook {
         self.pending.add(drained);
     }
 
+    /// Returns a report of the pending losses, or `None` if there are none.
+    pub fn report(&self, alloc: Global) -> Result<Option<ClientReport>, AllocError>
+        ensures { IfOk result (λ report. report ≡ report_of (report_items self.now.pending)) }
+    {
+        Ok(report_of(list_all(alloc, &self.pending.quantities)?))
+    }
+
+    /// Marks the pending losses as reported.
+    pub fn mark_reported(&mut self)
+        ensures { (history : List LossEntry) → self.old ≡ book_of history
+            → self.new ≡ book_of (report_point ∷ history) }
+    {
+        self.pending = Losses::none();
+    }
+
     /// Returns a report of the pending losses, which then count as reported, or `None` if there are none. If out of
     /// memory, the book stays as it was.
     pub fn take_report(&mut self, alloc: Global) -> Result<Option<ClientReport>, Refusal>
@@ -101,8 +116,8 @@ impl LossBook {
         ensures refused { IfErr result (λ refusal. refusal ≡ OutOfMemory) }
         ensures unchanged { OnErr result (self.new ≡ self.old) }
     {
-        let items = list_all(alloc, &self.pending.quantities)?;
-        self.pending = Losses::none();
-        Ok(report_of(items))
+        let report = self.report(alloc)?;
+        self.mark_reported();
+        Ok(report)
     }
 }

@@ -35,8 +35,8 @@ pub(crate) fn close_one(part: Part) -> Result<[u64; COUNTERS], Part>
     }
 }
 
-// The counters of the words of the only part. If there is another part after all, takes each counter as a drain does, so
-// that no quantity is lost or invented.
+// The counters of the words of the only part. If there is another part after all, takes each counter as a drain does,
+// so that no quantity is lost or invented.
 fn close_or_take(part: Part) -> [u64; COUNTERS]
     ensures { IsClosed part.seat.me.0 result }
 {

@@ -8,8 +8,8 @@ use crate::client_reports::part::Part;
 use sentry_base::protocol::{Label, Losses, Refusal};
 use std::marker::Model;
 
-/// Takes losses out of words that it shares with recorders and other drainers. Contracts see which words they are, their
-/// label, and the steps that this drainer has taken.
+/// Takes losses out of words that it shares with recorders and other drainers. Contracts see which words they are,
+/// their label, and the steps that this drainer has taken.
 #[derive(Drop)]
 pub struct Drainer {
     pub(crate) part: Part,
@@ -24,8 +24,8 @@ impl Model for Drainer {
     ghost invariant = { λ r. IsQuiet r.part.seat.me.0 };
 }
 
-/// What a drain took, and the label of the words. It cannot be dropped, so that no losses get lost unseen: a book absorbs
-/// it, or `into_parts` takes it apart.
+/// What a drain took, and the label of the words. It cannot be dropped, so that no losses get lost unseen: use
+/// `into_parts` to take it apart.
 pub struct Drained {
     label: Label,
     losses: Losses,

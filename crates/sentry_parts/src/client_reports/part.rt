@@ -18,7 +18,7 @@ pub(crate) const FLAGS: usize = 1;
 pub(crate) const PER_FLAG: usize = 63;
 
 // Both laws of the loss machine hold between any two steps.
-pub struct LossRule;
+pub(crate) struct LossRule;
 
 impl TableRule<(), View, ()> for LossRule {
     ghost holds = { λ _ s. KeepsLaws s.words s.views };

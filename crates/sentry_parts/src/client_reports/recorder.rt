@@ -11,7 +11,8 @@ use sentry_base::protocol::{Label, LossSource, Refusal};
 use std::marker::Model;
 
 /// Adds losses to words that it shares with other recorders and drainers. Contracts see which words they are, their
-/// label, and the steps that this recorder has taken. It moves into the thread that uses it; split it for another thread.
+/// label, and the steps that this recorder has taken. It moves into the thread that uses it; split it for another
+/// thread.
 #[derive(Drop)]
 pub struct Recorder {
     pub(crate) part: Part,

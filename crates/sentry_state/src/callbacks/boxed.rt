@@ -1,12 +1,15 @@
-//! Callbacks in boxes, so that one client or scope can have callbacks of several types. The instances stand beside their
-//! traits, since another crate may not write them. Nothing else below the top crate uses boxes.
-use crate::callbacks::{EventCallback, Integration};
+//! Callbacks in boxes, so that one client or scope can have callbacks of several types. The instances stand beside
+//! their traits, since another crate may not write them. Nothing else below the top crate uses boxes.
+use crate::callbacks::{BreadcrumbCallback, EventCallback, Integration};
 use crate::clientoptions::PlainOptions;
-use sentry_base::protocol::Event;
+use sentry_base::protocol::{Breadcrumb, Event};
 use std::alloc::AllocError;
 
 /// A boxed event processor or `before_send`.
 pub type BoxedEventCallback = Box<dyn EventCallback + Send + Sync + Drop>;
+
+/// A boxed `before_breadcrumb`.
+pub type BoxedBreadcrumbCallback = Box<dyn BreadcrumbCallback + Send + Sync + Drop>;
 
 /// A boxed integration.
 pub type BoxedIntegration = Box<dyn Integration + Send + Sync + Drop>;
@@ -16,6 +19,14 @@ impl EventCallback for BoxedEventCallback {
 
     fn call(&self, event: Event) -> Result<Option<Event>, AllocError> {
         EventCallback::call(&**self, event)
+    }
+}
+
+impl BreadcrumbCallback for BoxedBreadcrumbCallback {
+    ghost gives = { λ callback. (BreadcrumbCallback-box callback).gives callback.value };
+
+    fn call(&self, breadcrumb: Breadcrumb) -> Result<Option<Breadcrumb>, AllocError> {
+        BreadcrumbCallback::call(&**self, breadcrumb)
     }
 }
 

@@ -18,22 +18,12 @@ use crate::clientoptions::choices::{
 };
 use crate::clientoptions::plain::PlainOptions;
 use crate::clientoptions::user_agent::UserAgent;
+use crate::texts::copy_texts;
 use sentry_base::dsn::{Dsn, IntoDsn};
 use sentry_base::protocol::{OrganizationId, Refusal, SampleRate};
 use sentry_plain::{Items, Shared, Text};
 use std::alloc::{AllocError, Global};
 use std::num::NonZeroUsize;
-
-// Copies each text.
-fn copy_texts(alloc: Global, texts: &[&str]) -> Result<Items<Text>, AllocError>
-    ensures { IfOk result (λ copies. copies ≡ map (λ text. text.now) texts.now) }
-{
-    let mut copies = Items::new(alloc);
-    for text in texts {
-        copies.push(Text::new(alloc, text)?)?;
-    }
-    Ok(copies)
-}
 
 // Options with callbacks of any type.
 impl<C: Drop> ClientOptions<C> {

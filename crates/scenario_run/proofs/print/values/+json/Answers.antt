@@ -1,4 +1,4 @@
-use Rattle.std.proofs.Common.{arith, ◌≡◌, ℕ, ◌≤◌, ◌<◌, List, ◌∷◌, String, Global, string_bytes, slice_index_or, length, map, ap, ◌∙◌, subst, refl}
+use Rattle.std.proofs.Common.{arith, ◌≡◌, ℕ, ◌≤◌, ◌<◌, List, ◌∷◌, String, Global, string_bytes, slice_index_or, length, map, ap}
 use denote.Param.Weighed.{most, at_most}
 use Rattle.sentry_plain.specs.Texts.{Bytes, by_bytes}
 use Rattle.sentry_plain.specs.ValueView.{data_of}

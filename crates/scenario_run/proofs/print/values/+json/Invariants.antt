@@ -1,4 +1,4 @@
-use Rattle.std.proofs.Common.{ℕ, ◌≤◌, map}
+use Rattle.std.proofs.Common.{◌≤◌, map}
 use denote.Param.Weighed.{most}
 use Rattle.sentry_plain.specs.Values.{member_sizes}
 use Rattle.sentry_plain.specs.declared.value.ValueMap.TheDeep.{deep-Value}
