@@ -72,21 +72,23 @@ fn captured(
     Ok((out.reply, moment(&out), engine.last_event_id(hub)?.reply))
 }
 
+/// Options whose callbacks multiply by 3, multiply by 5, and add 100.
+fn counting(alloc: Global) -> Result<ClientOptions, Refusal> {
+    options(alloc)?
+        .before_send(boxed_adds(alloc, 100)?)?
+        .add_integration(boxed_multiplies(alloc, 3, None)?)?
+        .add_integration(boxed_multiplies(alloc, 5, None)?)
+}
+
 #[test]
 fn callbacks_run_in_order(rt: HostRuntime) -> Result<(), Fail> {
     let alloc = rt.alloc();
-    let options = options(alloc)?
-        .before_send(boxed_adds(alloc, 100)?)?
-        .add_integration(boxed_multiplies(alloc, 3, None)?)?
-        .add_integration(boxed_multiplies(alloc, 5, Some(Dsn::parse(alloc, DSN)?))?)?;
     let first = ScopeEdit::AddEventProcessor(boxed_adds(alloc, 3)?);
     let second = ScopeEdit::AddEventProcessor(boxed_adds(alloc, 4)?);
     let edits = vec![in alloc; first, second]?;
     // the processors, the integrations, the callback: (1 + 3 + 4) * 3 * 5 + 100
-    assert_eq!(rt;
-        captured(alloc, options, true, edits)?,
-        (id(9), Some(220), Some(id(9)))
-    );
+    let counted = (id(9), Some(220), Some(id(9)));
+    assert_eq!(rt; captured(alloc, counting(alloc)?, true, edits)?, counted);
     Ok(())
 }
 
@@ -145,28 +147,41 @@ fn held(alloc: Global, options: ClientOptions) -> Result<(bool, bool, bool, usiz
     ))
 }
 
+/// Options with a release, and with a DSN that an integration takes.
+fn silenced(alloc: Global) -> Result<ClientOptions, Refusal> {
+    options(alloc)?
+        .release("app@1")?
+        .add_integration(boxed_multiplies(alloc, 2, None)?)
+}
+
+/// Options without a DSN, to which an integration gives one.
+fn directed(alloc: Global) -> Result<ClientOptions, Refusal> {
+    let dsn = Dsn::parse(alloc, DSN)?;
+    ClientOptions::new(alloc).add_integration(boxed_multiplies(alloc, 2, Some(dsn))?)
+}
+
 #[test]
 fn set_up_changes_the_options(rt: HostRuntime) -> Result<(), Fail> {
     let alloc = rt.alloc();
-    let plain = options(alloc)?.release("app@1")?;
-    assert_eq!(rt; held(alloc, plain.clone()?)?, (true, true, true, 0));
-    let hiding = plain.clone()?.add_integration(boxed_hides(alloc)?)?;
+    let hiding = silenced(alloc)?.integrations(vec![in alloc; boxed_hides(alloc)?]?)?;
     assert_eq!(rt; held(alloc, hiding)?, (true, true, false, 1));
     // A DSN that is taken disables the client, but leaves its slot occupied.
-    let silenced = plain.add_integration(boxed_multiplies(alloc, 2, None)?)?;
-    assert_eq!(rt; held(alloc, silenced.clone()?)?, (false, false, true, 1));
-    let sent = captured(alloc, silenced, true, Vec::new(alloc))?;
-    assert_eq!(rt; sent, (id(9), Some(2), Some(id(9))));
+    assert_eq!(rt;
+        held(alloc, silenced(alloc)?.clone()?)?,
+        (false, false, true, 1)
+    );
+    let sent = (id(9), Some(2), Some(id(9)));
+    assert_eq!(rt;
+        captured(alloc, silenced(alloc)?, true, Vec::new(alloc))?,
+        sent
+    );
     // One that is given opens no slot.
-    let dsn = Dsn::parse(alloc, DSN)?;
-    let directed = ClientOptions::new(alloc).add_integration(boxed_multiplies(
-        alloc,
-        2,
-        Some(dsn),
-    )?)?;
-    assert_eq!(rt; held(alloc, directed.clone()?)?, (false, true, false, 1));
+    assert_eq!(rt; held(alloc, directed(alloc)?)?, (false, true, false, 1));
     let dropped = (Uuid::nil(), None, Some(Uuid::nil()));
-    assert_eq!(rt; captured(alloc, directed, true, Vec::new(alloc))?, dropped);
+    assert_eq!(rt;
+        captured(alloc, directed(alloc)?, true, Vec::new(alloc))?,
+        dropped
+    );
     Ok(())
 }
 
@@ -381,7 +396,8 @@ fn refused_losses_are_handed_back(rt: HostRuntime) -> Result<(), Fail> {
     recorder.record_lost_data(&event, TransportLossReason::NetworkError);
     let absorbed = absorbed(&mut first, &mut second, drainer.drain());
     assert_eq!(rt; absorbed, (Some(Refusal::ForeignLosses), true));
-    let Some(report) = second.take_report(LABEL)?.reply else {
+    let out = second.take_report(LABEL)?;
+    let Some(report) = &out.reply else {
         panic!(rt; "nothing is reported")
     };
     let lost = ClientReportItem {

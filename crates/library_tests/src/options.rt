@@ -7,6 +7,7 @@ use sentry_core::{
     ClientOptions, EventSamplingStrategy, MaxRequestBodySize, SessionMode, TracesSamplingStrategy,
 };
 use sentry_plain::Text;
+use std::alloc::Global;
 use std::test::Fail;
 
 /// The options that are on or off.
@@ -109,10 +110,9 @@ fn options_of_which_nothing_was_set(rt: HostRuntime) -> Result<(), Fail> {
     Ok(())
 }
 
-#[test]
-fn texts_are_set(rt: HostRuntime) -> Result<(), Fail> {
-    let alloc = rt.alloc();
-    let options = ClientOptions::new(alloc)
+/// Options with all texts set, and the release not taken away.
+fn named(alloc: Global) -> Result<ClientOptions, Refusal> {
+    ClientOptions::new(alloc)
         .dsn(DSN)?
         .release("app@1")?
         .environment("production")?
@@ -123,7 +123,12 @@ fn texts_are_set(rt: HostRuntime) -> Result<(), Fail> {
         .in_app_include(&["old"])?
         .in_app_include(&["app", "lib"])?
         .in_app_exclude(&["vendored"])?
-        .maybe_release(None)?;
+        .maybe_release(None)
+}
+
+#[test]
+fn texts_are_set(rt: HostRuntime) -> Result<(), Fail> {
+    let alloc = rt.alloc();
     let expected = [
         DSN,
         "app@1",
@@ -135,12 +140,11 @@ fn texts_are_set(rt: HostRuntime) -> Result<(), Fail> {
         "lib",
         "vendored",
     ];
-    assert_eq!(rt; texts(&options), expected);
-    assert_eq!(rt; lengths(&options), [2, 1, 0]);
-    let copy = options.clone()?;
+    let copy = named(alloc)?.clone()?;
     assert_eq!(rt; texts(&copy), expected);
-    let options = options.maybe_release(Some("app@2"))?;
-    assert_eq!(rt; texts(&options)[1], "app@2");
+    assert_eq!(rt; lengths(&copy), [2, 1, 0]);
+    let released = copy.maybe_release(Some("app@2"))?;
+    assert_eq!(rt; texts(&released)[1], "app@2");
     Ok(())
 }
 
