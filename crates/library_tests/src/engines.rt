@@ -119,7 +119,7 @@ fn what_drops_an_event_stops_what_follows(rt: HostRuntime) -> Result<(), Fail> {
 }
 
 #[test]
-fn want_of_memory_changes_nothing(rt: HostRuntime) -> Result<(), Fail> {
+fn out_of_memory_changes_nothing(rt: HostRuntime) -> Result<(), Fail> {
     let alloc = rt.alloc();
     let mut engine = Engine::new(alloc, 0);
     let options = options(alloc)?.before_send(boxed_adds(alloc, 0)?)?;

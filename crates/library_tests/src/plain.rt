@@ -67,7 +67,7 @@ fn are_keys(map: &TextMap<u64>, keys: [&str; 3]) -> bool {
 }
 
 #[test]
-fn the_winning_map_has_its_way(rt: HostRuntime) -> Result<(), Fail> {
+fn merge_takes_the_winning_map(rt: HostRuntime) -> Result<(), Fail> {
     let mut map = merged(rt.alloc())?;
     assert!(rt; map.len() == 3 && are_keys(&map, ["a", "b", "c"]));
     let held = [map.get("a"), map.get("b"), map.get("c"), map.get("d")];
@@ -124,7 +124,7 @@ fn nested_values_are_copied_and_compared(rt: HostRuntime) -> Result<(), Fail> {
 }
 
 #[test]
-fn the_winning_values_have_their_way(rt: HostRuntime) -> Result<(), Fail> {
+fn merge_takes_the_winning_values(rt: HostRuntime) -> Result<(), Fail> {
     let alloc = rt.alloc();
     let mut wins = ValueMap::new(alloc);
     wins.insert(Text::new(alloc, "truth")?, Value::Null)?;
