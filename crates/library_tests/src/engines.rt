@@ -8,7 +8,7 @@ use sentry_core::protocol::{
 };
 use sentry_core::types::Dsn;
 use sentry_core::{ClientOptions, Level, Scope, ScopeEdit};
-use sentry_plain::{Items, Text};
+use sentry_plain::{Boxed, Items, Text};
 use std::alloc::Global;
 use std::test::Fail;
 
@@ -253,7 +253,7 @@ fn calls(alloc: Global) -> Result<Vec<Call>, Refusal> {
     edits.push(ScopeEdit::SetTag(Text::new(alloc, "a")?, Text::new(alloc, "1")?))?;
     let mut calls = Items::new(alloc);
     calls.push(Call::AddClient {
-        options: options(alloc)?,
+        options: Boxed::new(alloc, options(alloc)?)?,
         transport: true,
         label: LABEL,
         now: 0,
@@ -267,7 +267,7 @@ fn calls(alloc: Global) -> Result<Vec<Call>, Refusal> {
     })?;
     calls.push(Call::NewHub {
         client: Some(CLIENT),
-        scope: scope(alloc),
+        scope: Boxed::new(alloc, scope(alloc))?,
     })?;
     calls.push(Call::Configure {
         hub: HUB,
@@ -276,7 +276,7 @@ fn calls(alloc: Global) -> Result<Vec<Call>, Refusal> {
     })?;
     calls.push(Call::CaptureEvent {
         hub: HUB,
-        event: Event::new(alloc, id(9), 1)?,
+        event: Boxed::new(alloc, Event::new(alloc, id(9), 1)?)?,
         fresh: fresh(1),
     })?;
     calls.push(Call::LastEventId(UNKNOWN))?;
@@ -296,17 +296,20 @@ fn push_later_calls(alloc: Global, calls: &mut Items<Call>) -> Result<(), Refusa
     calls.push(Call::TakeReport(LABEL))?;
     calls.push(Call::Absorb {
         label: LABEL,
-        losses: Losses::of(Category::Error, Reason::NetworkError, 2),
+        losses: Boxed::new(
+            alloc,
+            Losses::of(Category::Error, Reason::NetworkError, 2),
+        )?,
     })?;
     calls.push(Call::PrepareEvent {
         client: CLIENT,
-        event: Event::new(alloc, id(9), 1)?,
-        scope: Some(scope(alloc)),
+        event: Boxed::new(alloc, Event::new(alloc, id(9), 1)?)?,
+        scope: Some(Boxed::new(alloc, scope(alloc))?),
         fresh: fresh(4),
     })?;
     calls.push(Call::ClientCaptureEvent {
         client: CLIENT,
-        event: Event::new(alloc, id(9), 1)?,
+        event: Boxed::new(alloc, Event::new(alloc, id(9), 1)?)?,
         scope: None,
         fresh: fresh(4),
     })?;
@@ -417,7 +420,10 @@ fn a_quantity_that_wraps_to_zero_is_not_reported(rt: HostRuntime) -> Result<(), 
     for quantity in [u64::MAX, 2, u64::MAX] {
         engine.apply(Call::Absorb {
             label: LABEL,
-            losses: Losses::of(Category::Error, Reason::QueueOverflow, quantity),
+            losses: Boxed::new(
+                alloc,
+                Losses::of(Category::Error, Reason::QueueOverflow, quantity),
+            )?,
         })?;
     }
     assert!(rt; engine.take_report(LABEL)?.reply.is_none());

@@ -10,7 +10,7 @@ use sentry_base::protocol::{
     ClientKey, Draw, Envelope, Fresh, HubKey, Label, SpanId, TraceId, Uuid,
 };
 use sentry_engine::call::Call;
-use sentry_plain::{Items, Text};
+use sentry_plain::{Boxed, Items, Text};
 use sentry_state::clientoptions::{ClientOptions, PlainOptions, TracesSamplingStrategy};
 use sentry_state::scope::{Scope, ScopeEdit};
 use std::alloc::{AllocError, Global};
@@ -77,7 +77,7 @@ pub fn build_call(alloc: Global, number: u64, command: Command) -> Result<Replay
     let fresh = fresh(number);
     match command {
         Command::Client(release) => Ok(Call::AddClient {
-            options: options(alloc, release)?,
+            options: Boxed::new(alloc, options(alloc, release)?)?,
             transport: true,
             label: Label { tag: TAG, number },
             now,
@@ -87,7 +87,7 @@ pub fn build_call(alloc: Global, number: u64, command: Command) -> Result<Replay
                 tag: TAG,
                 number: client,
             }),
-            scope: Scope::new(alloc, fresh.trace_id, fresh.span_id),
+            scope: Boxed::new(alloc, Scope::new(alloc, fresh.trace_id, fresh.span_id))?,
         }),
         Command::Tag { hub, key, value } => {
             let mut edits = Items::new(alloc);

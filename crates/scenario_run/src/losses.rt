@@ -5,6 +5,7 @@ use crate::scenario::{Scenario, client_key, client_label};
 use crate::words::Words;
 use sentry_base::protocol::{Category, Envelope, Losses, Reason, Refusal};
 use sentry_engine::call::Call;
+use sentry_plain::Boxed;
 
 /// What a line loses of a client, reports of it or sends.
 #[derive(Clone, Copy)]
@@ -106,6 +107,7 @@ impl Scenario {
     // What a transport lost and a drain took.
     fn lose<'a>(&mut self, client: u64, losses: Losses) -> Result<Answer<'a>, Refusal> {
         let label = client_label(client);
+        let losses = Boxed::new(self.alloc, losses)?;
         let out = self.engine.apply(Call::Absorb { label, losses })?;
         Ok(Answer::of_sent(out))
     }

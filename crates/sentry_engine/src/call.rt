@@ -1,5 +1,5 @@
 //! Calls as values, one call, and a list of calls.
-ghost use Rattle.std.specs.Prelude.{◌≡◌, IfOk, IfErr};
+ghost use Rattle.std.specs.Prelude.{◌≡◌, IfOk, IfErr, option_copied};
 ghost use Rattle.sentry_base.specs.declared.protocol.refusal.Refusal.TheVariants.{OutOfMemory};
 ghost use Rattle.sentry_engine.specs.Worlds.{World, Stands, first_world};
 ghost use Rattle.sentry_engine.specs.Outcomes.{Does, DoesWith};
@@ -15,17 +15,18 @@ use sentry_base::protocol::{
     ClientKey, ClientReport, Draw, Envelope, ErrorLink, Event, Fresh, HubKey, Label, Level, Losses,
     Refusal, SampleRate, Uuid,
 };
-use sentry_plain::{Items, Shared, Text};
+use sentry_plain::{Boxed, Items, Shared, Text};
 use sentry_state::callbacks::EventCallback;
 use sentry_state::clientoptions::{Callbacks, ClientOptions};
 use sentry_state::scope::{Scope, ScopeEdit};
 use std::alloc::Global;
 
-/// A call of an engine, with its arguments: each variant stands for the method of its name.
+/// A call of an engine, with its arguments: each variant stands for the method of its name. Arguments that are large are
+/// in boxes, so that a call is cheap to move.
 #[derive(Drop)]
 pub enum Call<P, C> {
     AddClient {
-        options: ClientOptions<C>,
+        options: Boxed<ClientOptions<C>>,
         /// Whether the client has a transport.
         transport: bool,
         label: Label,
@@ -41,14 +42,14 @@ pub enum Call<P, C> {
     },
     PrepareEvent {
         client: ClientKey,
-        event: Event,
-        scope: Option<Scope<P>>,
+        event: Boxed<Event>,
+        scope: Option<Boxed<Scope<P>>>,
         fresh: Fresh,
     },
     ClientCaptureEvent {
         client: ClientKey,
-        event: Event,
-        scope: Option<Scope<P>>,
+        event: Boxed<Event>,
+        scope: Option<Boxed<Scope<P>>>,
         fresh: Fresh,
     },
     SendEnvelope {
@@ -59,11 +60,11 @@ pub enum Call<P, C> {
     /// Stands for `absorb`, of plain numbers.
     Absorb {
         label: Label,
-        losses: Losses,
+        losses: Boxed<Losses>,
     },
     NewHub {
         client: Option<ClientKey>,
-        scope: Scope<P>,
+        scope: Boxed<Scope<P>>,
     },
     Configure {
         hub: HubKey,
@@ -73,7 +74,7 @@ pub enum Call<P, C> {
     },
     CaptureEvent {
         hub: HubKey,
-        event: Event,
+        event: Boxed<Event>,
         fresh: Fresh,
     },
     CaptureMessage {
@@ -103,7 +104,7 @@ pub enum Reply<P, C> {
     /// The reply of `is_enabled`, `sample_should_send` and `is_active`.
     Decision(bool),
     /// The reply of `prepare_event`.
-    Prepared(Option<Event>),
+    Prepared(Option<Boxed<Event>>),
     Report(Option<ClientReport>),
     Hub(HubKey),
     Done,
@@ -111,11 +112,21 @@ pub enum Reply<P, C> {
     LastEvent(Option<Uuid>),
     /// The client of a hub's top layer.
     HubClient(Option<ClientKey>),
-    Scope(Scope<P>),
+    Scope(Boxed<Scope<P>>),
 }
 
 /// What a call answers: its reply and envelopes, or why it was refused.
 pub type Answer<P, C> = Result<Out<Reply<P, C>>, Refusal>;
+
+// The scope in a box, if there is one.
+fn lent_scope<P>(scope: &Option<Boxed<Scope<P>>>) -> Option<&Scope<P>>
+    ensures { option_copied result ≡ scope.now }
+{
+    match scope {
+        None => None,
+        Some(scope) => Some(scope.get()),
+    }
+}
 
 // The answer with its reply put into the one type of replies.
 fn answer_of<T: Into<Reply<P, C>>, P, C>(answer: Result<Out<T>, Refusal>) -> Answer<P, C>
@@ -140,7 +151,7 @@ impl<P: EventCallback + Drop, C: Callbacks> Engine<P, C> {
                 transport,
                 label,
                 now,
-            } => answer_of(self.add_client(options, transport, label, now)),
+            } => answer_of(self.add_client(options.into_inner(), transport, label, now)),
             Call::Options(client) => answer_of(self.options(client)),
             Call::Dsn(client) => answer_of(self.dsn(client)),
             Call::IsEnabled(client) => answer_of(self.is_enabled(client)),
@@ -152,26 +163,26 @@ impl<P: EventCallback + Drop, C: Callbacks> Engine<P, C> {
                 event,
                 scope,
                 fresh,
-            } => answer_of(self.prepare_event(client, event, scope.as_ref(), fresh)),
+            } => answer_of(self.prepare_event(client, event.into_inner(), lent_scope(&scope), fresh)),
             Call::ClientCaptureEvent {
                 client,
                 event,
                 scope,
                 fresh,
-            } => answer_of(self.client_capture_event(client, event, scope.as_ref(), fresh)),
+            } => answer_of(self.client_capture_event(client, event.into_inner(), lent_scope(&scope), fresh)),
             Call::SendEnvelope { client, envelope } => {
                 answer_of(self.send_envelope(client, envelope))
             }
             Call::TakeReport(label) => answer_of(self.take_report(label)),
-            Call::Absorb { label, losses } => answer_of(self.absorb_losses(label, &losses)),
-            Call::NewHub { client, scope } => answer_of(self.new_hub(client, scope)),
+            Call::Absorb { label, losses } => answer_of(self.absorb_losses(label, losses.get())),
+            Call::NewHub { client, scope } => answer_of(self.new_hub(client, scope.into_inner())),
             Call::Configure { hub, edits, now } => answer_of(self.configure(
                 hub,
                 edits.into_vec(),
                 now,
             )),
             Call::CaptureEvent { hub, event, fresh } => {
-                answer_of(self.capture_event(hub, event, fresh))
+                answer_of(self.capture_event(hub, event.into_inner(), fresh))
             }
             Call::CaptureMessage {
                 hub,

@@ -1,7 +1,8 @@
 //! The values that records consist of. Contracts see each of them as plain data: a text as its bytes, a list as a list,
-//! a map as its entries in order, and a share as the value that it shares.
+//! a map as its entries in order, and a share or a box as the value in it.
 #![tactic(auto)]
 
+mod boxed;
 mod items;
 mod plain_eq;
 mod shared;
@@ -10,6 +11,7 @@ mod text;
 mod text_map;
 mod value;
 
+pub use boxed::Boxed;
 pub use items::Items;
 pub use plain_eq::{PlainEq, is_same};
 pub use shared::Shared;

@@ -2,7 +2,7 @@
 use crate::call::Reply;
 use sentry_base::dsn::Dsn;
 use sentry_base::protocol::{ClientKey, ClientReport, Event, HubKey, Uuid};
-use sentry_plain::Shared;
+use sentry_plain::{Boxed, Shared};
 use sentry_state::clientoptions::ClientOptions;
 use sentry_state::scope::Scope;
 
@@ -94,13 +94,13 @@ impl<P, C> From<Option<Uuid>> for Reply<P, C> {
     }
 }
 
-impl<P, C> From<Option<Event>> for Reply<P, C> {
+impl<P, C> From<Option<Boxed<Event>>> for Reply<P, C> {
     ghost use Rattle.std.specs.Prelude.{◌≡◌};
     ghost use Rattle.sentry_engine.specs.declared.call.Reply.TheVariants.{Prepared};
 
     ghost from_gives = { λ event reply. reply ≡ Prepared event };
 
-    fn from(event: Option<Event>) -> Reply<P, C> {
+    fn from(event: Option<Boxed<Event>>) -> Reply<P, C> {
         Reply::Prepared(event)
     }
 }
@@ -127,13 +127,13 @@ impl<P, C> From<Option<ClientKey>> for Reply<P, C> {
     }
 }
 
-impl<P, C> From<Scope<P>> for Reply<P, C> {
+impl<P, C> From<Boxed<Scope<P>>> for Reply<P, C> {
     ghost use Rattle.std.specs.Prelude.{◌≡◌};
     ghost use Rattle.sentry_engine.specs.declared.call.Reply.TheVariants.{Scope};
 
     ghost from_gives = { λ scope reply. reply ≡ Scope scope };
 
-    fn from(scope: Scope<P>) -> Reply<P, C> {
+    fn from(scope: Boxed<Scope<P>>) -> Reply<P, C> {
         Reply::Scope(scope)
     }
 }

@@ -16,11 +16,21 @@ use sentry_base::protocol::{
 };
 use sentry_parts::client_reports::LossBook;
 use sentry_parts::pipeline::prepare_event;
-use sentry_plain::{Items, Shared};
+use sentry_plain::{Boxed, Items, Shared};
 use sentry_state::callbacks::EventCallback;
 use sentry_state::clientoptions::{Callbacks, ClientOptions};
 use sentry_state::scope::Scope;
 use std::alloc::{AllocError, Global};
+
+// The event in a box, if there is one.
+fn into_box(alloc: Global, event: Option<Event>) -> Result<Option<Boxed<Event>>, AllocError>
+    ensures { IfOk result (λ boxed. boxed ≡ event) }
+{
+    match event {
+        None => Ok(None),
+        Some(event) => Ok(Some(Boxed::new(alloc, event)?)),
+    }
+}
 
 // A share of the options, after the `setup` of their integrations.
 fn set_up<C: Callbacks>(
@@ -199,7 +209,7 @@ impl<P: EventCallback + Drop, C: Callbacks> Engine<P, C> {
         event: Event,
         scope: Option<&Scope<P>>,
         fresh: Fresh,
-    ) -> Result<Out<Option<Event>>, Refusal>
+    ) -> Result<Out<Option<Boxed<Event>>>, Refusal>
         ensures { Does self.old self.new result
             (call.prepare_event P.gives C.meanings client event (option_copied scope.entry) fresh) }
     {
@@ -210,7 +220,10 @@ impl<P: EventCallback + Drop, C: Callbacks> Engine<P, C> {
         let mut event = Some(event);
         let preparation = prepare_event(self.alloc, held.options.get(), scope, fresh, &mut event)?;
         match preparation.loss_reason() {
-            None => Ok(self.out(event)),
+            None => {
+                let event = into_box(self.alloc, event)?;
+                Ok(self.out(event))
+            }
             Some(reason) => {
                 self.record_lost_event(label, reason);
                 Ok(self.out(None))

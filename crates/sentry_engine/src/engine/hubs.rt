@@ -13,7 +13,7 @@ use crate::engine::captures::{capture, captured_id};
 use crate::engine::{Engine, Hub, Out};
 use sentry_base::protocol::{ClientKey, ErrorLink, Event, Fresh, HubKey, Level, Refusal, Uuid};
 use sentry_base::utils::event_from_error;
-use sentry_plain::Text;
+use sentry_plain::{Boxed, Text};
 use sentry_state::callbacks::EventCallback;
 use sentry_state::clientoptions::Callbacks;
 use sentry_state::scope::{Scope, ScopeEdit, Stack};
@@ -325,13 +325,13 @@ impl<P: EventCallback + Drop, C: Callbacks> Engine<P, C> {
     ///
     /// `Stale`: the hub isn't held. `OutOfMemory`.
     #[tactic(auto, unfolding(crate::specs::Hubs::scope))]
-    pub fn scope(&self, hub: HubKey) -> Result<Out<Scope<P>>, Refusal>
+    pub fn scope(&self, hub: HubKey) -> Result<Out<Boxed<Scope<P>>>, Refusal>
         ensures { Does self.now self.now result (call.scope hub) }
     {
         let Some(held) = self.hub_at(hub) else {
             return Err(Refusal::Stale);
         };
-        let scope = held.stack.top.scope.clone()?;
+        let scope = Boxed::new(self.alloc, held.stack.top.scope.clone()?)?;
         Ok(self.out(scope))
     }
 }

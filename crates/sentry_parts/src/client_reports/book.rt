@@ -96,6 +96,10 @@ impl LossBook {
     pub fn report(&self, alloc: Global) -> Result<Option<ClientReport>, AllocError>
         ensures { IfOk result (λ report. report ≡ report_of (report_items self.now.pending)) }
     {
+        // A look at all quantities at once, since there is seldom anything to report.
+        if self.pending == Losses::none() {
+            return Ok(None);
+        }
         Ok(report_of(list_all(alloc, &self.pending.quantities)?))
     }
 
