@@ -18,6 +18,7 @@ mod record_losses;
 mod refusal;
 mod request;
 mod sdk;
+mod session;
 mod user;
 
 pub use attachment::Attachment;
@@ -30,7 +31,7 @@ pub use event::Event;
 pub use exception::{Exception, Mechanism};
 pub use fresh::Fresh;
 pub use ids::{OrganizationId, SpanId, TraceId};
-pub use keys::{ClientKey, HubKey, Label};
+pub use keys::{ClientKey, HubKey, Label, SessionKey};
 pub use level::Level;
 pub use losses::{
     CATEGORIES, Category, LOSS_QUANTITIES, LossSource, Losses, REASONS, Reason, loss_index,
@@ -40,5 +41,8 @@ pub use refusal::Refusal;
 pub use request::Request;
 pub use sdk::{ClientSdkInfo, ClientSdkPackage};
 pub use sentry_plain::{Value, ValueMap, Values};
+pub use session::{
+    SessionAggregateItem, SessionAggregates, SessionAttributes, SessionStatus, SessionUpdate,
+};
 pub use user::User;
 pub use uuid::Uuid;

@@ -7,6 +7,7 @@ use crate::protocol::client_report::ClientReport;
 use crate::protocol::event::Event;
 use crate::protocol::ids::TraceId;
 use crate::protocol::rates::SampleRate;
+use crate::protocol::session::{SessionAggregates, SessionUpdate};
 use sentry_plain::{Items, Text};
 use std::alloc::{AllocError, Global};
 use uuid::Uuid;
@@ -51,6 +52,8 @@ impl Drop for DynamicSamplingContext {
 #[derive(Drop, PartialEq)]
 pub enum EnvelopeItem {
     Event(Event),
+    SessionUpdate(SessionUpdate),
+    SessionAggregates(SessionAggregates),
     Attachment(Attachment),
     ClientReport(ClientReport),
 }
@@ -62,7 +65,10 @@ impl EnvelopeItem {
     {
         match self {
             EnvelopeItem::Event(event) => Some(event.event_id),
-            EnvelopeItem::Attachment(_) | EnvelopeItem::ClientReport(_) => None,
+            EnvelopeItem::SessionUpdate(_)
+            | EnvelopeItem::SessionAggregates(_)
+            | EnvelopeItem::Attachment(_)
+            | EnvelopeItem::ClientReport(_) => None,
         }
     }
 }
@@ -145,6 +151,12 @@ impl Clone for EnvelopeItem {
     fn clone(&self) -> Result<EnvelopeItem, AllocError> {
         match self {
             EnvelopeItem::Event(event) => Ok(EnvelopeItem::Event(event.clone()?)),
+            EnvelopeItem::SessionUpdate(update) => {
+                Ok(EnvelopeItem::SessionUpdate(update.clone()?))
+            }
+            EnvelopeItem::SessionAggregates(aggregates) => {
+                Ok(EnvelopeItem::SessionAggregates(aggregates.clone()?))
+            }
             EnvelopeItem::Attachment(attachment) => {
                 Ok(EnvelopeItem::Attachment(attachment.clone()?))
             }

@@ -1,6 +1,6 @@
 //! What is lost if a record is dropped.
 ghost use Rattle.std.specs.Prelude.{◌≡◌};
-ghost use Rattle.sentry_base.specs.declared.protocol.losses.Category.TheVariants.{Error, Attachment as OfAttachment};
+ghost use Rattle.sentry_base.specs.declared.protocol.losses.Category.TheVariants.{Error, Session, Attachment as OfAttachment};
 ghost use Rattle.sentry_base.specs.Losses.{loss_of};
 ghost use Rattle.sentry_base.specs.RecordLosses.{item_losses, report_losses, envelope_losses};
 
@@ -9,12 +9,30 @@ use crate::protocol::client_report::{ClientReport, ClientReportItem};
 use crate::protocol::envelope::{Envelope, EnvelopeItem};
 use crate::protocol::event::Event;
 use crate::protocol::losses::{Category, LossSource, Losses, Reason};
+use crate::protocol::session::{SessionAggregates, SessionUpdate};
 
 impl LossSource for Event {
     ghost losses_under = { λ _ reason. loss_of Error reason 1 };
 
     fn losses(&self, reason: Reason) -> Losses {
         Losses::of(Category::Error, reason, 1)
+    }
+}
+
+impl LossSource for SessionUpdate {
+    ghost losses_under = { λ _ reason. loss_of Session reason 1 };
+
+    fn losses(&self, reason: Reason) -> Losses {
+        Losses::of(Category::Session, reason, 1)
+    }
+}
+
+// The counts together are one loss, however many sessions they count.
+impl LossSource for SessionAggregates {
+    ghost losses_under = { λ _ reason. loss_of Session reason 1 };
+
+    fn losses(&self, reason: Reason) -> Losses {
+        Losses::of(Category::Session, reason, 1)
     }
 }
 
@@ -54,6 +72,8 @@ impl LossSource for EnvelopeItem {
     fn losses(&self, reason: Reason) -> Losses {
         match self {
             EnvelopeItem::Event(event) => event.losses(reason),
+            EnvelopeItem::SessionUpdate(update) => update.losses(reason),
+            EnvelopeItem::SessionAggregates(aggregates) => aggregates.losses(reason),
             EnvelopeItem::Attachment(attachment) => attachment.losses(reason),
             EnvelopeItem::ClientReport(report) => report.losses(reason),
         }
