@@ -1,9 +1,9 @@
 -- What is lost if a record is dropped for a reason.
-use Rattle.std.specs.Prelude.{ℕ, List}
+use Rattle.std.specs.Prelude.{ℕ, List, length}
 use Rattle.sentry_base.specs.declared.protocol.client_report.ClientReportItem.{ClientReportItem}
 use Rattle.sentry_base.specs.declared.protocol.envelope.EnvelopeItem.{EnvelopeItem}
 use Rattle.sentry_base.specs.declared.protocol.envelope.EnvelopeItem.TheVariants as item
-use Rattle.sentry_base.specs.declared.protocol.losses.Category.TheVariants.{Error, Attachment}
+use Rattle.sentry_base.specs.declared.protocol.losses.Category.TheVariants.{Error, Attachment, LogItem, Metric}
 use Rattle.sentry_base.specs.declared.protocol.losses.Reason.{Reason}
 use Rattle.sentry_base.specs.Losses.{loss_of, sum_losses}
 
@@ -14,6 +14,8 @@ report_losses items = sum_losses (λ item. loss_of item.category item.reason ite
 abbrev pub item_losses : Reason → EnvelopeItem → List ℕ
 item_losses reason (item.Event event) = loss_of Error reason 1
 item_losses reason (item.Attachment attachment) = loss_of Attachment reason 1
+item_losses reason (item.Logs logs) = loss_of LogItem reason (length logs)
+item_losses reason (item.Metrics metrics) = loss_of Metric reason (length metrics)
 item_losses reason (item.ClientReport report) = report_losses report.items
 
 -- an envelope loses its items

@@ -6,6 +6,8 @@ use crate::protocol::attachment::Attachment;
 use crate::protocol::client_report::ClientReport;
 use crate::protocol::event::Event;
 use crate::protocol::ids::TraceId;
+use crate::protocol::log::Log;
+use crate::protocol::metric::Metric;
 use crate::protocol::rates::SampleRate;
 use sentry_plain::{Items, Text};
 use std::alloc::{AllocError, Global};
@@ -52,6 +54,10 @@ impl Drop for DynamicSamplingContext {
 pub enum EnvelopeItem {
     Event(Event),
     Attachment(Attachment),
+    /// A batch of logs.
+    Logs(Items<Log>),
+    /// A batch of metrics.
+    Metrics(Items<Metric>),
     ClientReport(ClientReport),
 }
 
@@ -62,7 +68,10 @@ impl EnvelopeItem {
     {
         match self {
             EnvelopeItem::Event(event) => Some(event.event_id),
-            EnvelopeItem::Attachment(_) | EnvelopeItem::ClientReport(_) => None,
+            EnvelopeItem::Attachment(_)
+            | EnvelopeItem::Logs(_)
+            | EnvelopeItem::Metrics(_)
+            | EnvelopeItem::ClientReport(_) => None,
         }
     }
 }
@@ -148,6 +157,8 @@ impl Clone for EnvelopeItem {
             EnvelopeItem::Attachment(attachment) => {
                 Ok(EnvelopeItem::Attachment(attachment.clone()?))
             }
+            EnvelopeItem::Logs(logs) => Ok(EnvelopeItem::Logs(logs.clone()?)),
+            EnvelopeItem::Metrics(metrics) => Ok(EnvelopeItem::Metrics(metrics.clone()?)),
             EnvelopeItem::ClientReport(report) => Ok(EnvelopeItem::ClientReport(report.clone()?)),
         }
     }
