@@ -12,3 +12,4 @@ pub mod UtilityTexts
 pub mod Losses
 pub mod RecordLosses
 pub mod ErrorEvents
+pub mod Metrics

@@ -12,13 +12,16 @@ mod fresh;
 mod ids;
 mod keys;
 mod level;
+mod log;
 mod losses;
+mod metric;
 mod rates;
 mod record_losses;
 mod refusal;
 mod request;
 mod sdk;
 mod session;
+mod unit;
 mod user;
 
 pub use attachment::Attachment;
@@ -33,9 +36,11 @@ pub use fresh::Fresh;
 pub use ids::{OrganizationId, SpanId, TraceId};
 pub use keys::{ClientKey, HubKey, Label, SessionKey};
 pub use level::Level;
+pub use log::{Log, LogAttribute, LogLevel};
 pub use losses::{
     CATEGORIES, Category, LOSS_QUANTITIES, LossSource, Losses, REASONS, Reason, loss_index,
 };
+pub use metric::{Metric, MetricDraft, MetricType};
 pub use rates::{Draw, SampleRate};
 pub use refusal::Refusal;
 pub use request::Request;
@@ -44,5 +49,6 @@ pub use sentry_plain::{Value, ValueMap, Values};
 pub use session::{
     SessionAggregateItem, SessionAggregates, SessionAttributes, SessionStatus, SessionUpdate,
 };
+pub use unit::Unit;
 pub use user::User;
 pub use uuid::Uuid;

@@ -6,3 +6,4 @@ pub mod LossDrains
 pub mod LossRecording
 pub mod LossParts
 pub mod WrongSteps
+pub mod BatchLemmas

@@ -6,3 +6,8 @@ pub mod LossMachine
 pub mod WrongSteps
 pub mod WrittenRun
 pub mod LossBooks
+pub mod Ticks
+pub mod Batches
+pub mod DefaultAttributes
+pub mod Telemetry
+pub mod Drafts

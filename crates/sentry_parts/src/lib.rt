@@ -1,5 +1,8 @@
 //! The parts of an engine, each of which can be used by itself.
 #![tactic(auto)]
 
+pub mod batcher;
 pub mod client_reports;
+pub mod metrics;
 pub mod pipeline;
+pub mod tick;

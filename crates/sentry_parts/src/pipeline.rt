@@ -4,6 +4,10 @@ ghost use Rattle.std.specs.Option.{option_or, option_copied, option_and_then};
 ghost use Rattle.sentry_base.specs.declared.protocol.event.Event.{Event};
 ghost use Rattle.sentry_parts.specs.Pipeline.{with_id, with_sdk, sdk_info, with_defaults, fill_if_any, process_if_any, sample, loss_reason, prepare_event};
 
+mod attributes;
+mod telemetry;
+
+pub use attributes::{DefaultAttribute, default_log_attributes, default_metric_attributes};
 use sentry_base::protocol::{ClientSdkInfo, ClientSdkPackage, Draw, Event, Fresh, Reason, Uuid};
 use sentry_plain::{Items, Text};
 use sentry_state::callbacks::EventCallback;
@@ -11,6 +15,7 @@ use sentry_state::clientoptions::{Callbacks, ClientOptions, EventSamplingStrateg
 use sentry_state::constants::{PACKAGE_NAME, SDK_NAME, VERSION};
 use sentry_state::scope::Scope;
 use std::alloc::{AllocError, Global};
+pub use telemetry::{prepare_log, prepare_metric};
 
 /// The callback that dropped an event.
 #[derive(Clone, Copy, Debug, PartialEq, Eq)]

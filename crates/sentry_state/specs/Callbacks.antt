@@ -1,8 +1,11 @@
--- Callbacks as partial functions on events and breadcrumbs; those on events are called in order.
-use Rattle.std.specs.Prelude.{Option, Some, None, List, [], ◌∷◌}
+-- Callbacks as partial functions on events, breadcrumbs, logs and metrics; those on events are called in order.
+use Rattle.std.specs.Prelude.{Option, Some, None, List, [], ◌∷◌, unwrap_or}
+use Rattle.std.specs.List.{filter_map}
 use Rattle.std.specs.Option.{option_and_then}
 use Rattle.sentry_base.specs.declared.protocol.breadcrumb.Breadcrumb.{Breadcrumb}
 use Rattle.sentry_base.specs.declared.protocol.event.Event.{Event}
+use Rattle.sentry_base.specs.declared.protocol.log.Log.{Log}
+use Rattle.sentry_base.specs.declared.protocol.metric.Metric.{Metric}
 use Rattle.sentry_plain.specs.Texts.{Bytes}
 use Rattle.sentry_state.specs.declared.clientoptions.plain.PlainOptions.{PlainOptions}
 
@@ -13,6 +16,14 @@ Partial = Event → Option Event
 -- the same for breadcrumbs
 abbrev pub PartialOnBreadcrumbs : Type 0
 PartialOnBreadcrumbs = Breadcrumb → Option Breadcrumb
+
+-- for logs
+abbrev pub PartialOnLogs : Type 0
+PartialOnLogs = Log → Option Log
+
+-- and for metrics
+abbrev pub PartialOnMetrics : Type 0
+PartialOnMetrics = Metric → Option Metric
 
 module _ {P : Type 0} (gives : P → Partial) where
   -- the event after each processor in turn, up to the first that drops it
@@ -30,6 +41,9 @@ pub record IntegrationMeaning : Type 0 where
 pub record Meanings : Type 0 where
   pub integrations : List IntegrationMeaning
   pub before_send : Option Partial
+  pub before_breadcrumb : Option PartialOnBreadcrumbs
+  pub before_send_log : Option PartialOnLogs
+  pub before_send_metric : Option PartialOnMetrics
 
 -- the options after the `setup` of each integration in turn
 abbrev pub set_up_all : List IntegrationMeaning → PlainOptions → PlainOptions
@@ -42,7 +56,23 @@ process_by_all [] options event = Some event
 process_by_all (integration ∷ integrations) options event =
     option_and_then (process_by_all integrations options) (integration.process_event options event)
 
+-- the event after each integration in turn, where one that drops it leaves it as it was
+abbrev pub enrich_by_all : List IntegrationMeaning → PlainOptions → Event → Event
+enrich_by_all [] options event = event
+enrich_by_all (integration ∷ integrations) options event =
+    enrich_by_all integrations options (unwrap_or (integration.process_event options event) event)
+
 -- the event after a callback, if there is one
 abbrev pub call_if_any : Option Partial → Partial
 call_if_any None event = Some event
 call_if_any (Some callback) event = callback event
+
+-- the breadcrumbs after a callback, if there is one: each as it changes it, without those that it drops
+abbrev pub call_on_each : Option PartialOnBreadcrumbs → List Breadcrumb → List Breadcrumb
+call_on_each None breadcrumbs = breadcrumbs
+call_on_each (Some callback) breadcrumbs = filter_map callback breadcrumbs
+
+-- the log or the metric after a callback, if there is one
+abbrev pub call_on_item : {X : Type 0} → Option (X → Option X) → X → Option X
+call_on_item None item = Some item
+call_on_item (Some callback) item = callback item

@@ -66,8 +66,14 @@ default_options_with callbacks = record {
 }
 
 -- the default options: no integrations, and no callback
-abbrev pub default_options : {E I : Type 0} → ClientOptions (ClientCallbacks E I)
-default_options = default_options_with (record { integrations = []; before_send = None })
+abbrev pub default_options : {E I B L M : Type 0} → ClientOptions (ClientCallbacks E I B L M)
+default_options = default_options_with (record {
+  integrations = [];
+  before_send = None;
+  before_breadcrumb = None;
+  before_send_log = None;
+  before_send_metric = None;
+})
 
 -- ---- builders
 

@@ -1,12 +1,15 @@
-//! The traits that callers implement: callbacks on events and breadcrumbs, and integrations.
+//! The traits that callers implement: callbacks on events, breadcrumbs, logs and metrics, and integrations.
 ghost use Rattle.std.specs.Prelude.{◌≡◌, IfOk, OnOk};
-ghost use Rattle.sentry_state.specs.Callbacks.{Partial, PartialOnBreadcrumbs, IntegrationMeaning};
+ghost use Rattle.sentry_state.specs.Callbacks.{Partial, PartialOnBreadcrumbs, PartialOnLogs, PartialOnMetrics, IntegrationMeaning};
 
 mod boxed;
 
 use crate::clientoptions::PlainOptions;
-pub use boxed::{BoxedBreadcrumbCallback, BoxedEventCallback, BoxedIntegration};
-use sentry_base::protocol::{Breadcrumb, Event};
+pub use boxed::{
+    BoxedBreadcrumbCallback, BoxedEventCallback, BoxedIntegration, BoxedLogCallback,
+    BoxedMetricCallback,
+};
+use sentry_base::protocol::{Breadcrumb, Event, Log, Metric};
 use std::alloc::AllocError;
 
 /// A callback on events, which changes or drops an event: an event processor of a scope, or `before_send`.
@@ -31,6 +34,30 @@ pub trait BreadcrumbCallback {
     /// Returns the breadcrumb to keep, or `None` to drop it.
     fn call(&self, breadcrumb: Breadcrumb) -> Result<Option<Breadcrumb>, AllocError>
         ensures { IfOk result (λ made. made ≡ gives self.now breadcrumb) };
+}
+
+/// A callback on logs, which changes or drops a log before a client queues it.
+///
+/// It may run out of memory. Otherwise its result is a function of its argument, which `gives` names.
+pub trait LogCallback {
+    /// The function.
+    ghost gives: { Self → PartialOnLogs };
+
+    /// Returns the log to queue, or `None` to drop it.
+    fn call(&self, log: Log) -> Result<Option<Log>, AllocError>
+        ensures { IfOk result (λ made. made ≡ gives self.now log) };
+}
+
+/// A callback on metrics, which changes or drops a metric before a client queues it.
+///
+/// It may run out of memory. Otherwise its result is a function of its argument, which `gives` names.
+pub trait MetricCallback {
+    /// The function.
+    ghost gives: { Self → PartialOnMetrics };
+
+    /// Returns the metric to queue, or `None` to drop it.
+    fn call(&self, metric: Metric) -> Result<Option<Metric>, AllocError>
+        ensures { IfOk result (λ made. made ≡ gives self.now metric) };
 }
 
 /// An extension of a client. It sees the options of the client when that is added, and each event after the scope.

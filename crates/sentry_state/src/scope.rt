@@ -6,6 +6,8 @@ ghost use Rattle.sentry_state.specs.Scopes.{new_scope, propagation_of, propagati
 mod edit;
 mod fill;
 mod stack;
+mod telemetry;
+mod trace;
 mod trail;
 
 pub use edit::ScopeEdit;
@@ -16,6 +18,7 @@ use sentry_base::protocol::{
 use sentry_plain::{Items, Shared, Text, TextMap};
 pub use stack::{Stack, StackLayer};
 use std::alloc::{AllocError, Global};
+pub use trace::ActiveTrace;
 pub use trail::Trail;
 
 /// What a hub knows about the surroundings of the events that are captured while the scope is its top one.

@@ -6,6 +6,8 @@ use crate::protocol::attachment::Attachment;
 use crate::protocol::client_report::ClientReport;
 use crate::protocol::event::Event;
 use crate::protocol::ids::TraceId;
+use crate::protocol::log::Log;
+use crate::protocol::metric::Metric;
 use crate::protocol::rates::SampleRate;
 use crate::protocol::session::{SessionAggregates, SessionUpdate};
 use sentry_plain::{Items, Text};
@@ -55,6 +57,10 @@ pub enum EnvelopeItem {
     SessionUpdate(SessionUpdate),
     SessionAggregates(SessionAggregates),
     Attachment(Attachment),
+    /// A batch of logs.
+    Logs(Items<Log>),
+    /// A batch of metrics.
+    Metrics(Items<Metric>),
     ClientReport(ClientReport),
 }
 
@@ -68,6 +74,8 @@ impl EnvelopeItem {
             EnvelopeItem::SessionUpdate(_)
             | EnvelopeItem::SessionAggregates(_)
             | EnvelopeItem::Attachment(_)
+            | EnvelopeItem::Logs(_)
+            | EnvelopeItem::Metrics(_)
             | EnvelopeItem::ClientReport(_) => None,
         }
     }
@@ -160,6 +168,8 @@ impl Clone for EnvelopeItem {
             EnvelopeItem::Attachment(attachment) => {
                 Ok(EnvelopeItem::Attachment(attachment.clone()?))
             }
+            EnvelopeItem::Logs(logs) => Ok(EnvelopeItem::Logs(logs.clone()?)),
+            EnvelopeItem::Metrics(metrics) => Ok(EnvelopeItem::Metrics(metrics.clone()?)),
             EnvelopeItem::ClientReport(report) => Ok(EnvelopeItem::ClientReport(report.clone()?)),
         }
     }

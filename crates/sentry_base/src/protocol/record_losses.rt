@@ -1,6 +1,6 @@
 //! What is lost if a record is dropped.
-ghost use Rattle.std.specs.Prelude.{◌≡◌};
-ghost use Rattle.sentry_base.specs.declared.protocol.losses.Category.TheVariants.{Error, Session, Attachment as OfAttachment};
+ghost use Rattle.std.specs.Prelude.{◌≡◌, length};
+ghost use Rattle.sentry_base.specs.declared.protocol.losses.Category.TheVariants.{Error, Session, Attachment as OfAttachment, LogItem, Metric as OfMetric};
 ghost use Rattle.sentry_base.specs.Losses.{loss_of};
 ghost use Rattle.sentry_base.specs.RecordLosses.{item_losses, report_losses, envelope_losses};
 
@@ -8,8 +8,11 @@ use crate::protocol::attachment::Attachment;
 use crate::protocol::client_report::{ClientReport, ClientReportItem};
 use crate::protocol::envelope::{Envelope, EnvelopeItem};
 use crate::protocol::event::Event;
+use crate::protocol::log::Log;
 use crate::protocol::losses::{Category, LossSource, Losses, Reason};
+use crate::protocol::metric::Metric;
 use crate::protocol::session::{SessionAggregates, SessionUpdate};
+use sentry_plain::Items;
 
 impl LossSource for Event {
     ghost losses_under = { λ _ reason. loss_of Error reason 1 };
@@ -44,6 +47,39 @@ impl LossSource for Attachment {
     }
 }
 
+impl LossSource for Log {
+    ghost losses_under = { λ _ reason. loss_of LogItem reason 1 };
+
+    fn losses(&self, reason: Reason) -> Losses {
+        Losses::of(Category::LogItem, reason, 1)
+    }
+}
+
+impl LossSource for Metric {
+    ghost losses_under = { λ _ reason. loss_of OfMetric reason 1 };
+
+    fn losses(&self, reason: Reason) -> Losses {
+        Losses::of(Category::Metric, reason, 1)
+    }
+}
+
+// A batch loses each of its items.
+impl LossSource for Items<Log> {
+    ghost losses_under = { λ logs reason. loss_of LogItem reason (length logs) };
+
+    fn losses(&self, reason: Reason) -> Losses {
+        Losses::of(Category::LogItem, reason, self.len() as u64)
+    }
+}
+
+impl LossSource for Items<Metric> {
+    ghost losses_under = { λ metrics reason. loss_of OfMetric reason (length metrics) };
+
+    fn losses(&self, reason: Reason) -> Losses {
+        Losses::of(Category::Metric, reason, self.len() as u64)
+    }
+}
+
 impl ClientReportItem {
     // What is lost with the item, for the reason that it states.
     fn losses(&self) -> Losses
@@ -75,6 +111,8 @@ impl LossSource for EnvelopeItem {
             EnvelopeItem::SessionUpdate(update) => update.losses(reason),
             EnvelopeItem::SessionAggregates(aggregates) => aggregates.losses(reason),
             EnvelopeItem::Attachment(attachment) => attachment.losses(reason),
+            EnvelopeItem::Logs(logs) => logs.losses(reason),
+            EnvelopeItem::Metrics(metrics) => metrics.losses(reason),
             EnvelopeItem::ClientReport(report) => report.losses(reason),
         }
     }

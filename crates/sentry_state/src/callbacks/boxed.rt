@@ -1,8 +1,10 @@
 //! Callbacks in boxes, so that one client or scope can have callbacks of several types. The instances stand beside
 //! their traits, since another crate may not write them. Nothing else below the top crate uses boxes.
-use crate::callbacks::{BreadcrumbCallback, EventCallback, Integration};
+use crate::callbacks::{
+    BreadcrumbCallback, EventCallback, Integration, LogCallback, MetricCallback,
+};
 use crate::clientoptions::PlainOptions;
-use sentry_base::protocol::{Breadcrumb, Event};
+use sentry_base::protocol::{Breadcrumb, Event, Log, Metric};
 use std::alloc::AllocError;
 
 /// A boxed event processor or `before_send`.
@@ -10,6 +12,12 @@ pub type BoxedEventCallback = Box<dyn EventCallback + Send + Sync + Drop>;
 
 /// A boxed `before_breadcrumb`.
 pub type BoxedBreadcrumbCallback = Box<dyn BreadcrumbCallback + Send + Sync + Drop>;
+
+/// A boxed `before_send_log`.
+pub type BoxedLogCallback = Box<dyn LogCallback + Send + Sync + Drop>;
+
+/// A boxed `before_send_metric`.
+pub type BoxedMetricCallback = Box<dyn MetricCallback + Send + Sync + Drop>;
 
 /// A boxed integration.
 pub type BoxedIntegration = Box<dyn Integration + Send + Sync + Drop>;
@@ -27,6 +35,22 @@ impl BreadcrumbCallback for BoxedBreadcrumbCallback {
 
     fn call(&self, breadcrumb: Breadcrumb) -> Result<Option<Breadcrumb>, AllocError> {
         BreadcrumbCallback::call(&**self, breadcrumb)
+    }
+}
+
+impl LogCallback for BoxedLogCallback {
+    ghost gives = { λ callback. (LogCallback-box callback).gives callback.value };
+
+    fn call(&self, log: Log) -> Result<Option<Log>, AllocError> {
+        LogCallback::call(&**self, log)
+    }
+}
+
+impl MetricCallback for BoxedMetricCallback {
+    ghost gives = { λ callback. (MetricCallback-box callback).gives callback.value };
+
+    fn call(&self, metric: Metric) -> Result<Option<Metric>, AllocError> {
+        MetricCallback::call(&**self, metric)
     }
 }
 
