@@ -30,7 +30,7 @@ pub use event::Event;
 pub use exception::{Exception, Mechanism};
 pub use fresh::Fresh;
 pub use ids::{OrganizationId, SpanId, TraceId};
-pub use keys::{ClientKey, HubKey, Label};
+pub use keys::{ClientKey, HubKey, Label, SessionKey};
 pub use level::Level;
 pub use losses::{
     CATEGORIES, Category, LOSS_QUANTITIES, LossSource, Losses, REASONS, Reason, loss_index,

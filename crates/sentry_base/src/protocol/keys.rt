@@ -1,4 +1,4 @@
-//! Keys to the clients, hubs and losses of an engine.
+//! Keys to the clients, hubs, sessions and losses of an engine.
 //!
 //! A key is the tag of its engine and a number, which is never used for another key of that kind.
 
@@ -12,6 +12,13 @@ pub struct ClientKey {
 /// The key of a hub.
 #[derive(Clone, Copy, Debug, PartialEq, Eq)]
 pub struct HubKey {
+    pub tag: u64,
+    pub number: u64,
+}
+
+/// The key of a session.
+#[derive(Clone, Copy, Debug, PartialEq, Eq)]
+pub struct SessionKey {
     pub tag: u64,
     pub number: u64,
 }
