@@ -1,5 +1,5 @@
 -- What is printed of envelopes and of answers.
-use Rattle.std.specs.Prelude.{◌++◌, Ok, Err, List, [], ◌∷◌, codes, unwrap_or, flat_map}
+use Rattle.std.specs.Prelude.{ℕ, ◌++◌, Ok, Err, List, [], ◌∷◌, codes, unwrap_or, flat_map, length}
 use Rattle.std.specs.List.{join_by}
 use Rattle.std.specs.Fmt.{decimal}
 use Rattle.uuid.specs.Text.{simple_text, lower}
@@ -35,6 +35,10 @@ event_text event =
 abbrev pub attachment_text : Attachment → Bytes
 attachment_text attachment = codes "attachment " ++ attachment.filename
 
+-- the number of the items of a batch; no command makes metrics
+abbrev pub batch_text : Bytes → ℕ → Bytes
+batch_text name count = name ++ codes " " ++ decimal count
+
 -- how much of a category was lost for a reason
 abbrev pub loss_text : ClientReportItem → Bytes
 loss_text loss =
@@ -47,6 +51,8 @@ report_text report = codes "report " ++ join_by loss_text (codes ",") report.ite
 abbrev pub item_text : EnvelopeItem → Bytes
 item_text (item.Event event) = event_text event
 item_text (item.Attachment attachment) = attachment_text attachment
+item_text (item.Logs logs) = batch_text (codes "logs") (length logs)
+item_text (item.Metrics metrics) = batch_text (codes "metrics") (length metrics)
 item_text (item.ClientReport report) = report_text report
 
 -- the line of an envelope of this client

@@ -3,7 +3,7 @@ ghost use Rattle.std.specs.Prelude.{◌≡◌, ◌++◌, OnOk, string_bytes};
 ghost use Rattle.std.specs.List.{join_by};
 ghost use Rattle.sentry_plain.specs.Texts.{Bytes};
 ghost use Rattle.replay_run.specs.Commands.{level_word};
-ghost use Rattle.replay_run.specs.Printing.{tag_text, tags_text, event_text, attachment_text, loss_text, report_text, item_text, envelope_line, answer_text};
+ghost use Rattle.replay_run.specs.Printing.{tag_text, tags_text, event_text, attachment_text, batch_text, loss_text, report_text, item_text, envelope_line, answer_text};
 
 use crate::engine::ReplayAnswer;
 use sentry_base::protocol::{
@@ -97,6 +97,13 @@ impl Print for Attachment {
     }
 }
 
+// A batch is told by the number of its items.
+fn print_batch(name: &str, count: usize, text: &mut String) -> Result<(), AllocError>
+    ensures { OnOk result (string_bytes text.new ≡ string_bytes text.old ++ batch_text name.now count) }
+{
+    write!(text, "{name} {count}")
+}
+
 impl Print for ClientReportItem {
     ghost shown = { loss_text };
 
@@ -124,6 +131,8 @@ impl Print for EnvelopeItem {
         match self {
             EnvelopeItem::Event(event) => event.print(text),
             EnvelopeItem::Attachment(attachment) => attachment.print(text),
+            EnvelopeItem::Logs(logs) => print_batch("logs", logs.len(), text),
+            EnvelopeItem::Metrics(metrics) => print_batch("metrics", metrics.len(), text),
             EnvelopeItem::ClientReport(report) => report.print(text),
         }
     }

@@ -4,6 +4,7 @@ mod envelopes;
 mod events;
 mod lists;
 mod replies;
+mod telemetry;
 mod values;
 
 use crate::answer::Answer;

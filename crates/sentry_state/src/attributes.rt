@@ -8,6 +8,7 @@ use sentry_plain::{Text, TextMap};
 use std::alloc::{AllocError, Global};
 
 /// Inserts a text at a key, unless the attributes have a value there. If memory runs out, they are unchanged.
+#[tactic(auto, using(crate::proofs::FillLemmas::own_kept))]
 pub fn put_if_absent(
     alloc: Global,
     attributes: &mut TextMap<LogAttribute>,
@@ -46,6 +47,7 @@ fn fill_text(
 }
 
 // Tells of a user, in each attribute that is absent.
+#[tactic(auto, using(crate::proofs::FillLemmas::user_filled))]
 pub(crate) fn fill_user(
     alloc: Global,
     attributes: &mut TextMap<LogAttribute>,

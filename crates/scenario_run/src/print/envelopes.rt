@@ -1,6 +1,7 @@
 //! Envelopes and their items.
 use crate::print::Shown;
 use crate::print::lists::{push_joined, push_labeled, push_list};
+use crate::print::telemetry::push_batch;
 use sentry_base::protocol::{
     Attachment, ClientKey, ClientReport, ClientReportItem, DynamicSamplingContext, Envelope,
     EnvelopeItem, SampleRate, TraceId,
@@ -56,6 +57,8 @@ impl Shown for EnvelopeItem {
         match self {
             EnvelopeItem::Event(event) => event.push_to(text),
             EnvelopeItem::Attachment(attachment) => attachment.push_to(text),
+            EnvelopeItem::Logs(logs) => push_batch(text, "logs", logs),
+            EnvelopeItem::Metrics(metrics) => push_batch(text, "metrics", metrics),
             EnvelopeItem::ClientReport(report) => report.push_to(text),
         }
     }

@@ -1,0 +1,97 @@
+//! Logs and metrics, and their batches.
+use crate::print::Shown;
+use crate::print::lists::{PLAIN, push_joined, push_labeled, push_map};
+use sentry_base::protocol::{Log, LogAttribute, LogLevel, Metric, MetricType, Unit};
+use sentry_plain::Items;
+use std::alloc::AllocError;
+
+/// The number of the items of a batch, and each of them in braces.
+pub fn push_batch<T: Shown>(
+    text: &mut String,
+    name: &str,
+    items: &Items<T>,
+) -> Result<(), AllocError> {
+    let count = items.len();
+    write!(text, "{name} {count} {{")?;
+    push_joined(text, items.as_slice(), "; ")?;
+    text.push_str("}")
+}
+
+impl Shown for Log {
+    fn push_to(&self, text: &mut String) -> Result<(), AllocError> {
+        let at = self.timestamp;
+        write!(text, "at={at} ")?;
+        self.level.push_to(text)?;
+        push_labeled(text, " ", &self.body)?;
+        push_labeled(text, " trace=", &self.trace_id)?;
+        text.push_str(" ")?;
+        push_map(text, &self.attributes, PLAIN)
+    }
+}
+
+impl Shown for Metric {
+    fn push_to(&self, text: &mut String) -> Result<(), AllocError> {
+        let at = self.timestamp;
+        let value = self.value;
+        write!(text, "at={at} ")?;
+        self.metric_type.push_to(text)?;
+        push_labeled(text, " ", &self.name)?;
+        write!(text, " {value}")?;
+        push_labeled(text, " ", &self.unit)?;
+        push_labeled(text, " trace=", &self.trace_id)?;
+        push_labeled(text, " span=", &self.span_id)?;
+        text.push_str(" ")?;
+        push_map(text, &self.attributes, PLAIN)
+    }
+}
+
+impl Shown for LogAttribute {
+    fn push_to(&self, text: &mut String) -> Result<(), AllocError> {
+        self.0.push_to(text)
+    }
+}
+
+impl Shown for LogLevel {
+    fn push_to(&self, text: &mut String) -> Result<(), AllocError> {
+        text.push_str(match self {
+            LogLevel::Trace => "trace",
+            LogLevel::Debug => "debug",
+            LogLevel::Info => "info",
+            LogLevel::Warn => "warn",
+            LogLevel::Error => "error",
+            LogLevel::Fatal => "fatal",
+        })
+    }
+}
+
+impl Shown for MetricType {
+    fn push_to(&self, text: &mut String) -> Result<(), AllocError> {
+        text.push_str(match self {
+            MetricType::Counter => "counter",
+            MetricType::Gauge => "gauge",
+            MetricType::Distribution => "distribution",
+        })
+    }
+}
+
+impl Shown for Unit {
+    fn push_to(&self, text: &mut String) -> Result<(), AllocError> {
+        text.push_str(match self {
+            Unit::Nanosecond => "nanosecond",
+            Unit::Microsecond => "microsecond",
+            Unit::Millisecond => "millisecond",
+            Unit::Second => "second",
+            Unit::Minute => "minute",
+            Unit::Hour => "hour",
+            Unit::Day => "day",
+            Unit::Week => "week",
+            Unit::Bit => "bit",
+            Unit::Byte => "byte",
+            Unit::Kilobyte => "kilobyte",
+            Unit::Megabyte => "megabyte",
+            Unit::Ratio => "ratio",
+            Unit::Percent => "percent",
+            Unit::Other(name) => name.as_str(),
+        })
+    }
+}
