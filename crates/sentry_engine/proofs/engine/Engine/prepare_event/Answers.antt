@@ -2,9 +2,9 @@ use Rattle.std.proofs.Common.{rules, refl}
 use Rattle.sentry_engine.specs.Clients.{prepare_event}
 use Rattle.sentry_engine.proofs.engine.Engine.prepare_event.Goals as goal
 
-pub returns-in-None : goal.returns-in-None
+pub returns-in_ok-event-in-None : goal.returns-in_ok-event-in-None
 unfolding prepare_event
-returns-in-None g c =
+returns-in_ok-event-in-None g c =
     let preparation = c.prepare_event.ensures.preparation c.args.event refl in
     let event = c.prepare_event.ensures.event c.args.event refl in
     search rules
