@@ -14,9 +14,9 @@ use Rattle.replay_run.specs.declared.engine.NoCallbacks.{NoCallbacks}
 abbrev pub same_event : NoProcessor → Partial
 same_event processor event = Some event
 
--- no integrations, and no `before_send`
+-- no integrations, and no callback
 abbrev pub no_callbacks : NoCallbacks → Meanings
-no_callbacks callbacks = record { integrations = []; before_send = None }
+no_callbacks callbacks = record { integrations = []; before_send = None; before_breadcrumb = None }
 
 abbrev pub ReplayEngine : Type 0
 ReplayEngine = Engine NoProcessor NoCallbacks

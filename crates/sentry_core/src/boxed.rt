@@ -1,10 +1,11 @@
 //! The types that users configure, over boxed callbacks.
-use sentry_state::callbacks::{BoxedEventCallback, BoxedIntegration};
+use sentry_state::callbacks::{BoxedBreadcrumbCallback, BoxedEventCallback, BoxedIntegration};
 
 /// The callbacks of a client.
 pub type ClientCallbacks = sentry_state::clientoptions::ClientCallbacks<
     BoxedEventCallback,
     BoxedIntegration,
+    BoxedBreadcrumbCallback,
 >;
 
 /// The options of a client.

@@ -19,7 +19,8 @@ pub use sentry_base::protocol::{Breadcrumb, Envelope, Level, User};
 pub use sentry_base::utils::{event_from_error, parse_type_from_debug};
 pub use sentry_plain::{Items, Shared, Text, TextMap};
 pub use sentry_state::callbacks::{
-    BoxedEventCallback, BoxedIntegration, EventCallback, Integration,
+    BoxedBreadcrumbCallback, BoxedEventCallback, BoxedIntegration, BreadcrumbCallback,
+    EventCallback, Integration,
 };
 pub use sentry_state::clientoptions::{
     EventSamplingStrategy, MaxRequestBodySize, PlainOptions, SessionMode, TracesSamplingStrategy,

@@ -66,8 +66,8 @@ default_options_with callbacks = record {
 }
 
 -- the default options: no integrations, and no callback
-abbrev pub default_options : {E I : Type 0} → ClientOptions (ClientCallbacks E I)
-default_options = default_options_with (record { integrations = []; before_send = None })
+abbrev pub default_options : {E I B : Type 0} → ClientOptions (ClientCallbacks E I B)
+default_options = default_options_with (record { integrations = []; before_send = None; before_breadcrumb = None })
 
 -- ---- builders
 

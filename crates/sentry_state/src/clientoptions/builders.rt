@@ -333,15 +333,16 @@ fn share_all<T: Drop>(alloc: Global, values: Vec<T>) -> Result<Items<Shared<T>>,
     Ok(shares)
 }
 
-// Options whose integrations have one type, and whose `before_send` has one type. With boxes the types can be mixed.
-impl<E: Drop, I: Drop> ClientOptions<ClientCallbacks<E, I>> {
+// Options whose callbacks of a kind have one type. With boxes the types can be mixed.
+impl<E: Drop, I: Drop, B: Drop> ClientOptions<ClientCallbacks<E, I, B>> {
     /// The defaults, with no integrations and no callbacks. It takes no memory.
-    pub fn new(alloc: Global) -> ClientOptions<ClientCallbacks<E, I>>
+    pub fn new(alloc: Global) -> ClientOptions<ClientCallbacks<E, I, B>>
         ensures { result ≡ default_options }
     {
         let callbacks = ClientCallbacks {
             integrations: Items::new(alloc),
             before_send: None,
+            before_breadcrumb: None,
         };
         ClientOptions::with_callbacks(alloc, callbacks)
     }
@@ -352,7 +353,7 @@ impl<E: Drop, I: Drop> ClientOptions<ClientCallbacks<E, I>> {
     pub fn from_dsn<D: IntoDsn>(
         alloc: Global,
         dsn: D,
-    ) -> Result<ClientOptions<ClientCallbacks<E, I>>, Refusal>
+    ) -> Result<ClientOptions<ClientCallbacks<E, I, B>>, Refusal>
         ensures { (answer : Result (Option DsnParts) Refusal) × D.into_dsn_gives dsn answer
             × (result ≡ with_dsn_read default_options answer) }
     {
@@ -365,7 +366,7 @@ impl<E: Drop, I: Drop> ClientOptions<ClientCallbacks<E, I>> {
     pub fn integrations(
         mut self,
         integrations: Vec<I>,
-    ) -> Result<ClientOptions<ClientCallbacks<E, I>>, Refusal>
+    ) -> Result<ClientOptions<ClientCallbacks<E, I, B>>, Refusal>
         ensures { Makes result (record self {
           callbacks = record self.callbacks { integrations = integrations.items };
         }) }
@@ -380,7 +381,7 @@ impl<E: Drop, I: Drop> ClientOptions<ClientCallbacks<E, I>> {
     pub fn add_integration(
         mut self,
         integration: I,
-    ) -> Result<ClientOptions<ClientCallbacks<E, I>>, Refusal>
+    ) -> Result<ClientOptions<ClientCallbacks<E, I, B>>, Refusal>
         ensures { Makes result (record self {
           callbacks = record self.callbacks { integrations = self.callbacks.integrations ++ integration ∷ [] };
         }) }
@@ -396,10 +397,25 @@ impl<E: Drop, I: Drop> ClientOptions<ClientCallbacks<E, I>> {
     pub fn before_send(
         mut self,
         before_send: E,
-    ) -> Result<ClientOptions<ClientCallbacks<E, I>>, Refusal>
+    ) -> Result<ClientOptions<ClientCallbacks<E, I, B>>, Refusal>
         ensures { Makes result (record self { callbacks = record self.callbacks { before_send = Some before_send } }) }
     {
         self.callbacks.before_send = Some(Shared::new(self.allocator(), before_send)?);
+        Ok(self)
+    }
+
+    /// Sets the callback that each breadcrumb passes through before a scope keeps it, which may change or drop it.
+    ///
+    /// Errors: `OutOfMemory`.
+    pub fn before_breadcrumb(
+        mut self,
+        before_breadcrumb: B,
+    ) -> Result<ClientOptions<ClientCallbacks<E, I, B>>, Refusal>
+        ensures { Makes result (record self {
+          callbacks = record self.callbacks { before_breadcrumb = Some before_breadcrumb };
+        }) }
+    {
+        self.callbacks.before_breadcrumb = Some(Shared::new(self.allocator(), before_breadcrumb)?);
         Ok(self)
     }
 }

@@ -1,11 +1,14 @@
 //! The callbacks of a client.
-ghost use Rattle.std.specs.Prelude.{◌≡◌, IfOk, OnOk, map, option_map};
+ghost use Rattle.std.specs.Prelude.{◌≡◌, ◌++◌, List, IfOk, OnOk, map, option_map, unwrap_or};
+ghost use Rattle.std.specs.List.{cons_option, filter_map};
 ghost use Rattle.std.specs.Option.{option_and_then};
-ghost use Rattle.sentry_state.specs.Callbacks.{Meanings, set_up_all, process_by_all, call_if_any};
+ghost use Rattle.sentry_base.specs.declared.protocol.breadcrumb.Breadcrumb.{Breadcrumb};
+ghost use Rattle.sentry_state.specs.Callbacks.{Meanings, set_up_all, process_by_all, enrich_by_all};
+ghost use Rattle.sentry_state.specs.Callbacks.{call_if_any, call_on_each};
 
-use crate::callbacks::{EventCallback, Integration};
+use crate::callbacks::{BreadcrumbCallback, EventCallback, Integration};
 use crate::clientoptions::plain::PlainOptions;
-use sentry_base::protocol::Event;
+use sentry_base::protocol::{Breadcrumb, Event};
 use sentry_plain::{Items, Shared, Text};
 use std::alloc::{AllocError, Global};
 
@@ -33,34 +36,101 @@ pub trait Callbacks: Drop {
         ensures { OnOk result
             (event.new ≡ option_and_then (process_by_all (meanings self.now).integrations options.now) event.old) };
 
+    /// Passes the event through each integration in turn, where one that drops it leaves it as it was.
+    fn enrich_event(&self, event: Event, options: &PlainOptions) -> Result<Event, AllocError>
+        ensures { IfOk result
+            (λ made. made ≡ enrich_by_all (meanings self.now).integrations options.now event) };
+
     /// Passes the event through `before_send`, if that is set.
     fn before_send(&self, event: &mut Option<Event>) -> Result<(), AllocError>
         ensures { OnOk result (event.new ≡ option_and_then (call_if_any (meanings self.now).before_send) event.old) };
+
+    /// Passes each breadcrumb through `before_breadcrumb`, if that is set, and returns those that it keeps, in order.
+    fn before_breadcrumb(
+        &self,
+        breadcrumbs: Items<Breadcrumb>,
+    ) -> Result<Items<Breadcrumb>, AllocError>
+        ensures { IfOk result (λ kept. kept ≡ call_on_each (meanings self.now).before_breadcrumb breadcrumbs) };
 }
 
-/// The callbacks of a client, where all integrations have one type. With boxes several types can be mixed.
-#[derive(Drop)]
-pub struct ClientCallbacks<E, I> {
+/// The callbacks of a client, where those of a kind have one type: `E` that of callbacks on events, `I` that of
+/// integrations, `B` that of callbacks on breadcrumbs. With boxes several types can be mixed.
+pub struct ClientCallbacks<E, I, B> {
     pub integrations: Items<Shared<I>>,
     pub before_send: Option<Shared<E>>,
+    pub before_breadcrumb: Option<Shared<B>>,
 }
 
-impl<E: Drop, I: Drop> Clone for ClientCallbacks<E, I> {
+impl<E: Drop, I: Drop, B: Drop> Drop for ClientCallbacks<E, I, B> {
+    fn drop(self) {
+        let ClientCallbacks {
+            integrations: _,
+            before_send: _,
+            before_breadcrumb: _,
+        } = self;
+    }
+}
+
+impl<E: Drop, I: Drop, B: Drop> Clone for ClientCallbacks<E, I, B> {
     // The clone shares the callbacks.
     ghost is_clone = { λ old new. new ≡ old };
 
-    fn clone(&self) -> Result<ClientCallbacks<E, I>, AllocError> {
+    fn clone(&self) -> Result<ClientCallbacks<E, I, B>, AllocError> {
         Ok(ClientCallbacks {
             integrations: self.integrations.clone()?,
             before_send: self.before_send.clone()?,
+            before_breadcrumb: self.before_breadcrumb.clone()?,
         })
     }
 }
 
-impl<E: EventCallback + Drop, I: Integration + Drop> Callbacks for ClientCallbacks<E, I> {
+// The event after an integration, or as it was if the integration drops it.
+fn enrich<I: Integration>(
+    integration: &I,
+    event: Event,
+    options: &PlainOptions,
+) -> Result<Event, AllocError>
+    ensures { IfOk result (λ made. made
+        ≡ unwrap_or ((I.meaning integration.now).process_event options.now event) event) }
+{
+    let made = integration.process_event(event.clone()?, options)?;
+    Ok(made.unwrap_or(event))
+}
+
+// Appends a breadcrumb, if there is one.
+fn push_if_any(
+    kept: &mut Items<Breadcrumb>,
+    breadcrumb: Option<Breadcrumb>,
+) -> Result<(), AllocError>
+    ensures { OnOk result ((rest : List Breadcrumb) → kept.new ++ rest ≡ kept.old ++ cons_option breadcrumb rest) }
+{
+    match breadcrumb {
+        None => Ok(()),
+        Some(breadcrumb) => kept.push(breadcrumb),
+    }
+}
+
+// The breadcrumbs as the callback changes them, without those that it drops.
+fn call_on_each<B: BreadcrumbCallback>(
+    callback: &B,
+    breadcrumbs: Vec<Breadcrumb>,
+) -> Result<Items<Breadcrumb>, AllocError>
+    ensures { IfOk result (λ kept. kept ≡ filter_map (B.gives callback.now) breadcrumbs.items) }
+{
+    let mut kept = Items::new(*breadcrumbs.allocator());
+    for breadcrumb in breadcrumbs {
+        push_if_any(&mut kept, callback.call(breadcrumb)?)?;
+    }
+    Ok(kept)
+}
+
+impl<E: EventCallback + Drop, I: Integration + Drop, B: BreadcrumbCallback + Drop> Callbacks
+    for ClientCallbacks<E, I, B>
+{
     ghost meanings = { λ callbacks. record {
       integrations = map I.meaning callbacks.integrations;
       before_send = option_map E.gives callbacks.before_send;
+      before_breadcrumb = option_map B.gives callbacks.before_breadcrumb;
     } };
 
     fn integration_names(&self, alloc: Global) -> Result<Items<Text>, AllocError> {
@@ -92,6 +162,14 @@ impl<E: EventCallback + Drop, I: Integration + Drop> Callbacks for ClientCallbac
         Ok(())
     }
 
+    fn enrich_event(&self, event: Event, options: &PlainOptions) -> Result<Event, AllocError> {
+        let mut event = event;
+        for integration in self.integrations.as_slice() {
+            event = enrich(integration.get(), event, options)?;
+        }
+        Ok(event)
+    }
+
     fn before_send(&self, event: &mut Option<Event>) -> Result<(), AllocError> {
         let Some(callback) = &self.before_send else {
             return Ok(());
@@ -101,5 +179,15 @@ impl<E: EventCallback + Drop, I: Integration + Drop> Callbacks for ClientCallbac
         };
         *event = callback.get().call(given)?;
         Ok(())
+    }
+
+    fn before_breadcrumb(
+        &self,
+        breadcrumbs: Items<Breadcrumb>,
+    ) -> Result<Items<Breadcrumb>, AllocError> {
+        match &self.before_breadcrumb {
+            None => Ok(breadcrumbs),
+            Some(callback) => call_on_each(callback.get(), breadcrumbs.into_vec()),
+        }
     }
 }
