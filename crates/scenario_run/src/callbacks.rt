@@ -1,15 +1,16 @@
-//! What scopes and clients of a scenario call on events: event processors, `before_send` and integrations.
+//! What scopes and clients of a scenario call: event processors, `before_send`, integrations and `before_breadcrumb`.
 ghost use Rattle.std.specs.Prelude.{◌≡◌, IfOk};
-ghost use Rattle.scenario_run.specs.Callbacks.{handle, extend, drop_if_begins, message_text, begins_with, set_tag, add_os};
+ghost use Rattle.scenario_run.specs.Callbacks.{handle, extend, keep_or_drop, drop_if_begins};
+ghost use Rattle.scenario_run.specs.Callbacks.{text_or_empty, begins_with, set_tag, add_os};
 
-use sentry_base::protocol::{Context, Event};
+use sentry_base::protocol::{Breadcrumb, Context, Event};
 use sentry_plain::Text;
-use sentry_state::callbacks::{EventCallback, Integration};
+use sentry_state::callbacks::{BreadcrumbCallback, EventCallback, Integration};
 use sentry_state::clientoptions::{ClientCallbacks, PlainOptions};
 use std::alloc::{AllocError, Global};
 
 /// The callbacks of a client.
-pub type Callbacks = ClientCallbacks<Handler, Extension>;
+pub type Callbacks = ClientCallbacks<Handler, Extension, BreadcrumbFilter>;
 
 /// An event processor or `before_send`.
 #[derive(Drop)]
@@ -66,11 +67,27 @@ impl Integration for Extension {
     }
 }
 
-/// The message of an event, or the empty text.
-fn message_text(event: &Event) -> &str
-    ensures { result.now ≡ message_text event.now }
+/// A `before_breadcrumb` that drops breadcrumbs whose message begins with this.
+#[derive(Drop)]
+pub struct BreadcrumbFilter(pub Text);
+
+impl BreadcrumbCallback for BreadcrumbFilter {
+    ghost gives = { keep_or_drop };
+
+    fn call(&self, breadcrumb: Breadcrumb) -> Result<Option<Breadcrumb>, AllocError> {
+        let message = text_or_empty(&breadcrumb.message);
+        if begins_with(message, self.0.as_str()) {
+            return Ok(None);
+        }
+        Ok(Some(breadcrumb))
+    }
+}
+
+/// A text, or the empty one in place of none.
+fn text_or_empty(text: &Option<Text>) -> &str
+    ensures { result.now ≡ text_or_empty text.now }
 {
-    match &event.message {
+    match text {
         Some(message) => message.as_str(),
         None => "",
     }
@@ -85,7 +102,7 @@ fn begins_with(text: &str, prefix: &str) -> bool
 fn drop_if_begins(prefix: &str, event: Event) -> Option<Event>
     ensures { result ≡ drop_if_begins prefix.now event }
 {
-    if begins_with(message_text(&event), prefix) {
+    if begins_with(text_or_empty(&event.message), prefix) {
         return None;
     }
     Some(event)

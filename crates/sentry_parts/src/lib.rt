@@ -2,4 +2,5 @@
 #![tactic(auto)]
 
 pub mod client_reports;
+pub mod os_attributes;
 pub mod pipeline;
