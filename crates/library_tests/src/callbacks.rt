@@ -1,7 +1,10 @@
 //! Callbacks in boxes, as users of the library hand them in.
-use sentry_core::protocol::Event;
+use sentry_core::protocol::{Breadcrumb, Event};
 use sentry_core::types::Dsn;
-use sentry_core::{BoxedEventCallback, BoxedIntegration, EventCallback, Integration, PlainOptions};
+use sentry_core::{
+    BoxedBreadcrumbCallback, BoxedEventCallback, BoxedIntegration, BreadcrumbCallback,
+    EventCallback, Integration, PlainOptions,
+};
 use std::alloc::{AllocError, Global};
 
 /// Adds to the event's moment. At 0 it is refused its memory, so that a call of it shows.
@@ -23,6 +26,26 @@ impl EventCallback for Adds {
     }
 }
 
+/// Drops the breadcrumbs from a moment on. If that is 0, it is refused its memory, so that a call of it shows.
+#[derive(Drop)]
+struct KeepsUntil(u64);
+
+impl BreadcrumbCallback for KeepsUntil {
+    ghost use Rattle.std.specs.Prelude.{Some, None, nat_lt, if◌then◌else◌};
+
+    ghost gives = { λ s breadcrumb. if nat_lt breadcrumb.timestamp s.0 then Some breadcrumb else None };
+
+    fn call(&self, breadcrumb: Breadcrumb) -> Result<Option<Breadcrumb>, AllocError> {
+        if self.0 == 0 {
+            return Err(AllocError);
+        }
+        if breadcrumb.timestamp < self.0 {
+            return Ok(Some(breadcrumb));
+        }
+        Ok(None)
+    }
+}
+
 /// Drops every event.
 #[derive(Drop)]
 struct Drops;
@@ -37,7 +60,8 @@ impl EventCallback for Drops {
     }
 }
 
-/// Gives the options its DSN, or none, and multiplies the event's moment. By 0 it is refused its memory.
+/// Gives the options its DSN, or none, and multiplies the event's moment. By 0 it is refused its memory, but for the
+/// event of `add_client`, which alone has the nil id.
 #[derive(Drop)]
 struct Multiplies {
     factor: u64,
@@ -67,7 +91,7 @@ impl Integration for Multiplies {
         event: Event,
         _options: &PlainOptions,
     ) -> Result<Option<Event>, AllocError> {
-        if self.factor == 0 {
+        if self.factor == 0 && !event.event_id.is_nil() {
             return Err(AllocError);
         }
         let mut event = event;
@@ -110,6 +134,15 @@ impl Integration for Hides {
 /// A callback that adds to the moment, or, at 0, is refused its memory.
 pub(crate) fn boxed_adds(alloc: Global, number: u64) -> Result<BoxedEventCallback, AllocError> {
     let callback: BoxedEventCallback = Box::new(alloc, Adds(number))?;
+    Ok(callback)
+}
+
+/// A callback that drops the breadcrumbs from a moment on, or, if that is 0, is refused its memory.
+pub(crate) fn boxed_keeps_until(
+    alloc: Global,
+    moment: u64,
+) -> Result<BoxedBreadcrumbCallback, AllocError> {
+    let callback: BoxedBreadcrumbCallback = Box::new(alloc, KeepsUntil(moment))?;
     Ok(callback)
 }
 

@@ -1,10 +1,12 @@
 //! Engines over boxed callbacks, whole runs of calls, and keys and numbers that no command can name.
-use crate::callbacks::{boxed_adds, boxed_drops, boxed_hides, boxed_multiplies};
+use crate::callbacks::{
+    boxed_adds, boxed_drops, boxed_hides, boxed_keeps_until, boxed_multiplies,
+};
 use sentry_core::client_report::{Drained, LossWords, TransportLossReason};
 use sentry_core::engine::{Call, Engine, Out, Reply};
 use sentry_core::protocol::{
-    Category, ClientKey, ClientReportItem, Draw, Envelope, EnvelopeItem, Event, Fresh, HubKey,
-    Label, Losses, Reason, Refusal, SampleRate, SpanId, TraceId, Uuid,
+    Breadcrumb, Category, ClientKey, ClientReportItem, Draw, Envelope, EnvelopeItem, Event, Fresh,
+    HubKey, Label, Losses, Reason, Refusal, SampleRate, SpanId, TraceId, Uuid,
 };
 use sentry_core::types::Dsn;
 use sentry_core::{ClientOptions, Level, Scope, ScopeEdit};
@@ -130,6 +132,31 @@ fn out_of_memory_changes_nothing(rt: HostRuntime) -> Result<(), Fail> {
         .err();
     assert_eq!(rt; refusal, Some(Refusal::OutOfMemory));
     assert_eq!(rt; engine.last_event_id(hub)?.reply, None);
+    Ok(())
+}
+
+/// Why breadcrumbs of the moments below a count are refused, if they are, on a hub of a client whose callback keeps
+/// those until a moment, and how many the scope has after that.
+fn added(alloc: Global, until: u64, count: u64) -> Result<(Option<Refusal>, usize), Refusal> {
+    let options = options(alloc)?.before_breadcrumb(boxed_keeps_until(alloc, until)?)?;
+    let mut engine = Engine::new(alloc, 0);
+    let client = engine.add_client(options, true, LABEL, 0)?.reply;
+    let hub = engine.new_hub(Some(client), scope(alloc))?.reply;
+    let mut breadcrumbs = Vec::new(alloc);
+    for moment in 0..count {
+        breadcrumbs.push(Breadcrumb::new(alloc, moment)?)?;
+    }
+    let refusal = engine.add_breadcrumbs(hub, breadcrumbs).err();
+    Ok((refusal, engine.scope(hub)?.reply.breadcrumbs.len()))
+}
+
+#[test]
+fn breadcrumbs_go_through_a_boxed_callback(rt: HostRuntime) -> Result<(), Fail> {
+    let alloc = rt.alloc();
+    assert_eq!(rt; added(alloc, 2, 3)?, (None, 2));
+    assert_eq!(rt; added(alloc, 0, 3)?, (Some(Refusal::OutOfMemory), 0));
+    // An empty list calls no callback.
+    assert_eq!(rt; added(alloc, 0, 0)?, (None, 0));
     Ok(())
 }
 

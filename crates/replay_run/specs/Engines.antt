@@ -14,9 +14,15 @@ use Rattle.replay_run.specs.declared.engine.NoCallbacks.{NoCallbacks}
 abbrev pub same_event : NoProcessor → Partial
 same_event processor event = Some event
 
--- no integrations, and no `before_send`
+-- no integrations, and no callback
 abbrev pub no_callbacks : NoCallbacks → Meanings
-no_callbacks callbacks = record { integrations = []; before_send = None }
+no_callbacks callbacks = record {
+  integrations = [];
+  before_send = None;
+  before_breadcrumb = None;
+  before_send_log = None;
+  before_send_metric = None;
+}
 
 abbrev pub ReplayEngine : Type 0
 ReplayEngine = Engine NoProcessor NoCallbacks

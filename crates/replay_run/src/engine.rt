@@ -1,7 +1,7 @@
 //! The engine of this program: its scopes have no processors, and its clients have no callbacks.
 ghost use Rattle.replay_run.specs.Engines.{same_event, no_callbacks};
 
-use sentry_base::protocol::Event;
+use sentry_base::protocol::{Breadcrumb, Event, Log, Metric};
 use sentry_engine::call::{Answer, Call};
 use sentry_engine::engine::Engine;
 use sentry_plain::{Items, Text};
@@ -50,7 +50,26 @@ impl Callbacks for NoCallbacks {
         Ok(())
     }
 
+    fn enrich_event(&self, event: Event, _options: &PlainOptions) -> Result<Event, AllocError> {
+        Ok(event)
+    }
+
     fn before_send(&self, _event: &mut Option<Event>) -> Result<(), AllocError> {
         Ok(())
+    }
+
+    fn before_breadcrumb(
+        &self,
+        breadcrumbs: Items<Breadcrumb>,
+    ) -> Result<Items<Breadcrumb>, AllocError> {
+        Ok(breadcrumbs)
+    }
+
+    fn before_send_log(&self, log: Log) -> Result<Option<Log>, AllocError> {
+        Ok(Some(log))
+    }
+
+    fn before_send_metric(&self, metric: Metric) -> Result<Option<Metric>, AllocError> {
+        Ok(Some(metric))
     }
 }

@@ -1,25 +1,41 @@
--- The callbacks of a scenario, as partial functions on events.
-use Rattle.std.specs.Prelude.{Bool, ◌==◌, Some, None, [], if◌then◌else◌, codes, unwrap_or}
+-- The callbacks of a scenario, as partial functions on events, breadcrumbs, logs and metrics.
+use Rattle.std.specs.Prelude.{Bool, ◌==◌, Option, Some, None, [], if◌then◌else◌, codes, unwrap_or}
 use Rattle.std.specs.List.{starts_with}
 use Rattle.sentry_plain.specs.Texts.{Bytes, put}
 use Rattle.sentry_plain.specs.Defaults.{with_default}
+use Rattle.sentry_base.specs.declared.protocol.breadcrumb.Breadcrumb.{Breadcrumb}
 use Rattle.sentry_base.specs.declared.protocol.event.Event.{Event}
+use Rattle.sentry_base.specs.declared.protocol.log.Log.{Log}
+use Rattle.sentry_base.specs.declared.protocol.metric.Metric.{Metric}
 use Rattle.sentry_base.specs.declared.protocol.context.Context.TheVariants as context
-use Rattle.sentry_state.specs.Callbacks.{Partial, IntegrationMeaning}
+use Rattle.sentry_state.specs.Callbacks.{Partial, PartialOnBreadcrumbs, PartialOnLogs, PartialOnMetrics, IntegrationMeaning}
 use Rattle.scenario_run.specs.declared.callbacks.Handler.{Handler}
 use Rattle.scenario_run.specs.declared.callbacks.Handler.TheVariants as handler
+use Rattle.scenario_run.specs.declared.callbacks.BreadcrumbFilter.{BreadcrumbFilter}
+use Rattle.scenario_run.specs.declared.callbacks.LogFilter.{LogFilter}
+use Rattle.scenario_run.specs.declared.callbacks.MetricFilter.{MetricFilter}
 use Rattle.scenario_run.specs.declared.callbacks.Extension.{Extension}
 use Rattle.scenario_run.specs.declared.callbacks.Extension.TheVariants as extension
 
--- no message is the empty text
-abbrev pub message_text : Event → Bytes
-message_text event = unwrap_or event.message []
+-- no text is the empty one
+abbrev pub text_or_empty : Option Bytes → Bytes
+text_or_empty text = unwrap_or text []
 
 abbrev pub begins_with : Bytes → Bytes → Bool
 begins_with text prefix = starts_with ◌==◌ text prefix
 
 abbrev pub drop_if_begins : Bytes → Partial
-drop_if_begins prefix event = if begins_with (message_text event) prefix then None else Some event
+drop_if_begins prefix event = if begins_with (text_or_empty event.message) prefix then None else Some event
+
+abbrev pub keep_or_drop : BreadcrumbFilter → PartialOnBreadcrumbs
+keep_or_drop filter breadcrumb =
+    if begins_with (text_or_empty breadcrumb.message) filter.0 then None else Some breadcrumb
+
+abbrev pub keep_or_drop_log : LogFilter → PartialOnLogs
+keep_or_drop_log filter log = if begins_with log.body filter.0 then None else Some log
+
+abbrev pub keep_or_drop_metric : MetricFilter → PartialOnMetrics
+keep_or_drop_metric filter metric = if begins_with metric.name filter.0 then None else Some metric
 
 abbrev pub set_tag : Bytes → Bytes → Event → Event
 set_tag key value event = record event { tags = put event.tags key value }

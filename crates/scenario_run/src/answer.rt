@@ -1,6 +1,6 @@
 //! What commands come to.
 use sentry_base::dsn::{Dsn, ParseDsnError};
-use sentry_base::headers::{HeaderParseError, TracePropagationContext};
+use sentry_base::headers::{HeaderParseError, TraceHeader, TracePropagationContext};
 use sentry_base::protocol::{ClientKey, ClientReport, Envelope, Refusal, Uuid};
 use sentry_engine::engine::Out;
 use sentry_plain::Items;
@@ -43,6 +43,10 @@ pub enum Reply<'a> {
         is_active: bool,
     },
     Headers(Result<TracePropagationContext, HeaderParseError>),
+    HubHeaders {
+        hub: u64,
+        headers: Items<TraceHeader>,
+    },
     Dsn(Result<Option<Dsn>, ParseDsnError>),
     DebugType(&'a str),
     Sensitive(bool),

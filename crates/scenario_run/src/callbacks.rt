@@ -1,15 +1,18 @@
-//! What scopes and clients of a scenario call on events: event processors, `before_send` and integrations.
+//! What scopes and clients of a scenario call: event processors, integrations and the callbacks of options.
 ghost use Rattle.std.specs.Prelude.{◌≡◌, IfOk};
-ghost use Rattle.scenario_run.specs.Callbacks.{handle, extend, drop_if_begins, message_text, begins_with, set_tag, add_os};
+ghost use Rattle.scenario_run.specs.Callbacks.{handle, extend, keep_or_drop, keep_or_drop_log, keep_or_drop_metric};
+ghost use Rattle.scenario_run.specs.Callbacks.{drop_if_begins, text_or_empty, begins_with, set_tag, add_os};
 
-use sentry_base::protocol::{Context, Event};
+use sentry_base::protocol::{Breadcrumb, Context, Event, Log, Metric};
 use sentry_plain::Text;
-use sentry_state::callbacks::{EventCallback, Integration};
+use sentry_state::callbacks::{
+    BreadcrumbCallback, EventCallback, Integration, LogCallback, MetricCallback,
+};
 use sentry_state::clientoptions::{ClientCallbacks, PlainOptions};
 use std::alloc::{AllocError, Global};
 
 /// The callbacks of a client.
-pub type Callbacks = ClientCallbacks<Handler, Extension>;
+pub type Callbacks = ClientCallbacks<Handler, Extension, BreadcrumbFilter, LogFilter, MetricFilter>;
 
 /// An event processor or `before_send`.
 #[derive(Drop)]
@@ -66,11 +69,57 @@ impl Integration for Extension {
     }
 }
 
-/// The message of an event, or the empty text.
-fn message_text(event: &Event) -> &str
-    ensures { result.now ≡ message_text event.now }
+/// A `before_breadcrumb` that drops breadcrumbs whose message begins with this.
+#[derive(Drop)]
+pub struct BreadcrumbFilter(pub Text);
+
+impl BreadcrumbCallback for BreadcrumbFilter {
+    ghost gives = { keep_or_drop };
+
+    fn call(&self, breadcrumb: Breadcrumb) -> Result<Option<Breadcrumb>, AllocError> {
+        let message = text_or_empty(&breadcrumb.message);
+        if begins_with(message, self.0.as_str()) {
+            return Ok(None);
+        }
+        Ok(Some(breadcrumb))
+    }
+}
+
+/// A `before_send_log` that drops logs whose body begins with this.
+#[derive(Drop)]
+pub struct LogFilter(pub Text);
+
+impl LogCallback for LogFilter {
+    ghost gives = { keep_or_drop_log };
+
+    fn call(&self, log: Log) -> Result<Option<Log>, AllocError> {
+        if begins_with(log.body.as_str(), self.0.as_str()) {
+            return Ok(None);
+        }
+        Ok(Some(log))
+    }
+}
+
+/// A `before_send_metric` that drops metrics whose name begins with this.
+#[derive(Drop)]
+pub struct MetricFilter(pub Text);
+
+impl MetricCallback for MetricFilter {
+    ghost gives = { keep_or_drop_metric };
+
+    fn call(&self, metric: Metric) -> Result<Option<Metric>, AllocError> {
+        if begins_with(metric.name.as_str(), self.0.as_str()) {
+            return Ok(None);
+        }
+        Ok(Some(metric))
+    }
+}
+
+/// A text, or the empty one in place of none.
+fn text_or_empty(text: &Option<Text>) -> &str
+    ensures { result.now ≡ text_or_empty text.now }
 {
-    match &event.message {
+    match text {
         Some(message) => message.as_str(),
         None => "",
     }
@@ -85,7 +134,7 @@ fn begins_with(text: &str, prefix: &str) -> bool
 fn drop_if_begins(prefix: &str, event: Event) -> Option<Event>
     ensures { result ≡ drop_if_begins prefix.now event }
 {
-    if begins_with(message_text(&event), prefix) {
+    if begins_with(text_or_empty(&event.message), prefix) {
         return None;
     }
     Some(event)

@@ -1,4 +1,5 @@
 //! Commands, and the lines that spell them.
+use crate::breadcrumbs::BreadcrumbCommand;
 use crate::captures::CaptureCommand;
 use crate::clients::ClientCommand;
 use crate::headers::HeaderCommand;
@@ -17,6 +18,7 @@ pub enum Command<'a> {
     Loss(LossCommand),
     Hub(HubCommand),
     Scope(ScopeCommand<'a>),
+    Breadcrumb(BreadcrumbCommand<'a>),
     Capture(CaptureCommand<'a>),
     Header(HeaderCommand<'a>),
     Text(TextCommand<'a>),
@@ -42,6 +44,9 @@ impl<'a> Command<'a> {
         }
         if let Some(command) = ScopeCommand::read(name, words) {
             return Some(Command::Scope(command));
+        }
+        if let Some(command) = BreadcrumbCommand::read(name, words) {
+            return Some(Command::Breadcrumb(command));
         }
         if let Some(command) = CaptureCommand::read(name, words) {
             return Some(Command::Capture(command));

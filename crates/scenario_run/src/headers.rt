@@ -1,9 +1,10 @@
-//! Lines on headers: `header` and `parse`.
+//! Lines on headers: `header`, `parse` and `headers`.
 use crate::answer::{Answer, Reply};
 use crate::fault::Failure;
-use crate::scenario::Scenario;
+use crate::scenario::{Scenario, hub_key};
 use crate::words::Words;
 use sentry_base::headers::TracePropagationContext;
+use sentry_base::protocol::Refusal;
 use sentry_plain::{Items, Text};
 use std::alloc::AllocError;
 
@@ -21,6 +22,8 @@ pub enum HeaderCommand<'a> {
     Keep { name: &'a str, value: &'a str },
     /// `parse`
     Parse,
+    /// `headers H`
+    OfHub(u64),
 }
 
 impl<'a> HeaderCommand<'a> {
@@ -33,6 +36,7 @@ impl<'a> HeaderCommand<'a> {
                 value: words.rest()?,
             },
             "parse" => HeaderCommand::Parse,
+            "headers" => HeaderCommand::OfHub(words.number()?),
             _ => return None,
         };
         words.end()?;
@@ -41,7 +45,7 @@ impl<'a> HeaderCommand<'a> {
 }
 
 impl Scenario {
-    /// Keeps a header, or reads those that are kept.
+    /// Keeps a header, reads those that are kept, or makes those of a hub.
     pub fn perform_on_headers<'a>(
         &mut self,
         command: &HeaderCommand<'_>,
@@ -52,6 +56,7 @@ impl Scenario {
                 Reply::Nothing
             }
             HeaderCommand::Parse => self.parse_headers(),
+            HeaderCommand::OfHub(hub) => self.headers_of_hub(*hub)?,
         };
         Ok(Answer::new(self.alloc, reply))
     }
@@ -70,5 +75,15 @@ impl Scenario {
         )));
         self.headers = Items::new(self.alloc);
         Reply::Headers(parsed)
+    }
+
+    // The headers that pass on the trace of a hub's top scope.
+    fn headers_of_hub<'a>(&self, hub: u64) -> Result<Reply<'a>, Refusal> {
+        let scope = self.engine.scope(hub_key(hub))?.reply;
+        let mut headers = Items::new(self.alloc);
+        for header in scope.iter_trace_propagation_headers()? {
+            headers.push(header)?;
+        }
+        Ok(Reply::HubHeaders { hub, headers })
     }
 }

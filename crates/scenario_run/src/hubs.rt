@@ -1,5 +1,6 @@
-//! Lines on hubs: `hub`, `active` and `last`.
+//! Lines on hubs: `hub`, `copy`, `active` and `last`.
 use crate::answer::{Answer, Reply};
+use crate::callbacks::Handler;
 use crate::fault::Failure;
 use crate::scenario::{Scenario, client_key, hub_key};
 use crate::words::Words;
@@ -11,6 +12,11 @@ use sentry_state::scope::Scope;
 pub enum HubCommand {
     /// `hub C` or `hub -`
     Add(Option<u64>),
+    /// `copy H C` or `copy H -`
+    Copy {
+        hub: u64,
+        client: Option<u64>,
+    },
     /// `active H`
     IsActive(u64),
     /// `last H`
@@ -23,6 +29,10 @@ impl HubCommand {
         let mut words = words;
         let command = match name {
             "hub" => HubCommand::Add(words.number_or_none()?),
+            "copy" => HubCommand::Copy {
+                hub: words.number()?,
+                client: words.number_or_none()?,
+            },
             "active" => HubCommand::IsActive(words.number()?),
             "last" => HubCommand::LastEvent(words.number()?),
             _ => return None,
@@ -37,18 +47,31 @@ impl Scenario {
     pub fn perform_on_hub<'a>(&mut self, command: HubCommand) -> Result<Answer<'a>, Failure> {
         match command {
             HubCommand::Add(client) => Ok(self.add_hub(client)?),
+            HubCommand::Copy { hub, client } => Ok(self.copy_hub(hub, client)?),
             HubCommand::IsActive(hub) => Ok(self.is_active(hub)?),
             HubCommand::LastEvent(hub) => Ok(self.last_event(hub)?),
         }
     }
 
+    // A hub with a new scope.
     fn add_hub<'a>(&mut self, client: Option<u64>) -> Result<Answer<'a>, Refusal> {
-        let client = match client {
-            Some(number) => Some(client_key(number)),
-            None => None,
-        };
         let fresh = self.fresh();
         let scope = Scope::new(self.alloc, fresh.trace_id, fresh.span_id);
+        self.add_hub_with(client, scope)
+    }
+
+    // A hub with a copy of the top scope of another.
+    fn copy_hub<'a>(&mut self, hub: u64, client: Option<u64>) -> Result<Answer<'a>, Refusal> {
+        let scope = self.engine.scope(hub_key(hub))?.reply;
+        self.add_hub_with(client, scope)
+    }
+
+    fn add_hub_with<'a>(
+        &mut self,
+        client: Option<u64>,
+        scope: Scope<Handler>,
+    ) -> Result<Answer<'a>, Refusal> {
+        let client = client.map(client_key);
         Ok(Answer::of_sent(self.engine.new_hub(client, scope)?))
     }
 

@@ -3,6 +3,7 @@
 #![tactic(auto)]
 
 mod answer;
+mod breadcrumbs;
 mod callbacks;
 mod captures;
 mod clients;

@@ -1,11 +1,12 @@
 //! Lines on losses and reports: `lose`, `report` and `empty`.
+ghost use Rattle.scenario_run.specs.Losses.{losses_of_kind};
+
 use crate::answer::{Answer, Reply};
 use crate::fault::Failure;
 use crate::scenario::{Scenario, client_key, client_label};
 use crate::words::Words;
-use sentry_base::protocol::{Category, Envelope, Losses, Reason, Refusal};
-use sentry_engine::call::Call;
-use sentry_plain::Boxed;
+use sentry_base::protocol::{Category, Envelope, LossSource, Losses, Reason, Refusal};
+use sentry_parts::client_reports::{LossWords, TransportLossReason};
 
 /// What a line loses of a client, reports of it or sends.
 #[derive(Clone, Copy)]
@@ -14,7 +15,7 @@ pub enum LossCommand {
     Lose {
         client: u64,
         kind: Kind,
-        reason: Reason,
+        reason: TransportLossReason,
     },
     /// `report C`
     Report(u64),
@@ -64,29 +65,33 @@ fn read_kind(word: &str) -> Option<Kind> {
     }
 }
 
-fn read_reason(word: &str) -> Option<Reason> {
+fn read_reason(word: &str) -> Option<TransportLossReason> {
     match word {
-        "send_error" => Some(Reason::SendError),
-        "internal_sdk_error" => Some(Reason::InternalSdkError),
-        "network_error" => Some(Reason::NetworkError),
-        "ratelimit_backoff" => Some(Reason::RatelimitBackoff),
-        "queue_overflow" => Some(Reason::QueueOverflow),
+        "send_error" => Some(TransportLossReason::SendError),
+        "internal_sdk_error" => Some(TransportLossReason::InternalError),
+        "network_error" => Some(TransportLossReason::NetworkError),
+        "ratelimit_backoff" => Some(TransportLossReason::RatelimitBackoff),
+        "queue_overflow" => Some(TransportLossReason::QueueOverflow),
         _ => None,
     }
 }
 
-/// What is lost with an envelope of this kind. A transaction counts as a span itself.
-fn losses_of(kind: Kind, reason: Reason) -> Losses {
-    match kind {
-        Kind::Event => Losses::of(Category::Error, reason, 1),
-        Kind::Transaction => {
-            let mut losses = Losses::of(Category::Transaction, reason, 1);
-            losses.add(&Losses::of(Category::Span, reason, 3));
-            losses
+// A transaction counts as a span itself.
+impl LossSource for Kind {
+    ghost losses_under = { losses_of_kind };
+
+    fn losses(&self, reason: Reason) -> Losses {
+        match self {
+            Kind::Event => Losses::of(Category::Error, reason, 1),
+            Kind::Transaction => {
+                let mut losses = Losses::of(Category::Transaction, reason, 1);
+                losses.add(&Losses::of(Category::Span, reason, 3));
+                losses
+            }
+            Kind::Logs => Losses::of(Category::LogItem, reason, 3),
+            Kind::Attachment => Losses::of(Category::Attachment, reason, 1),
+            Kind::Session => Losses::of(Category::Session, reason, 1),
         }
-        Kind::Logs => Losses::of(Category::LogItem, reason, 3),
-        Kind::Attachment => Losses::of(Category::Attachment, reason, 1),
-        Kind::Session => Losses::of(Category::Session, reason, 1),
     }
 }
 
@@ -98,18 +103,28 @@ impl Scenario {
                 client,
                 kind,
                 reason,
-            } => Ok(self.lose(client, losses_of(kind, reason))?),
+            } => Ok(self.lose(client, kind, reason)?),
             LossCommand::Report(client) => Ok(self.report(client)?),
             LossCommand::Empty(client) => Ok(self.send_empty(client)?),
         }
     }
 
-    // What a transport lost and a drain took.
-    fn lose<'a>(&mut self, client: u64, losses: Losses) -> Result<Answer<'a>, Refusal> {
-        let label = client_label(client);
-        let losses = Boxed::new(self.alloc, losses)?;
-        let out = self.engine.apply(Call::Absorb { label, losses })?;
-        Ok(Answer::of_sent(out))
+    // The loss goes through words of the client's label: it is recorded, drained and absorbed.
+    fn lose<'a>(
+        &mut self,
+        client: u64,
+        kind: Kind,
+        reason: TransportLossReason,
+    ) -> Result<Answer<'a>, Refusal> {
+        let (mut recorder, mut drainer) = LossWords::new(self.alloc, client_label(client))?;
+        recorder.record_lost_data(&kind, reason);
+        match self.engine.absorb(drainer.drain()) {
+            Ok(out) => Ok(Answer::of_sent(out)),
+            Err((refusal, drained)) => {
+                drained.into_parts();
+                Err(refusal)
+            }
+        }
     }
 
     fn report<'a>(&mut self, client: u64) -> Result<Answer<'a>, Refusal> {

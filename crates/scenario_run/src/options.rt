@@ -1,5 +1,7 @@
 //! The options of a `client` line, each a word `OPTION=VALUE`.
-use crate::callbacks::{Callbacks, Extension, Handler};
+use crate::callbacks::{
+    BreadcrumbFilter, Callbacks, Extension, Handler, LogFilter, MetricFilter,
+};
 use crate::words::{number, small};
 use sentry_base::protocol::{OrganizationId, Refusal, SampleRate};
 use sentry_plain::Text;
@@ -23,6 +25,12 @@ pub enum ClientOption<'a> {
     MaxBreadcrumbs(u64),
     /// Drops events whose message begins with this.
     BeforeSend(&'a str),
+    /// Drops breadcrumbs whose message begins with this.
+    BeforeBreadcrumb(&'a str),
+    /// Drops logs whose body begins with this.
+    BeforeSendLog(&'a str),
+    /// Drops metrics whose name begins with this.
+    BeforeSendMetric(&'a str),
     /// An integration that adds a context `os`.
     OsIntegration,
     /// An integration that drops events whose message begins with this.
@@ -47,6 +55,9 @@ impl<'a> ClientOption<'a> {
             "mode" => Some(ClientOption::SessionMode(mode(value)?)),
             "crumbs" => Some(ClientOption::MaxBreadcrumbs(number(value)?)),
             "before_send" => Some(ClientOption::BeforeSend(value)),
+            "before_crumb" => Some(ClientOption::BeforeBreadcrumb(value)),
+            "before_log" => Some(ClientOption::BeforeSendLog(value)),
+            "before_metric" => Some(ClientOption::BeforeSendMetric(value)),
             "integration" => integration(value),
             "transport" => Some(ClientOption::Transport(flag(value)?)),
             "dsn" => Some(dsn(value)),
@@ -172,6 +183,15 @@ fn set_option(
         ClientOption::SessionMode(mode) => Ok(options.session_mode(mode)),
         ClientOption::MaxBreadcrumbs(count) => Ok(options.max_breadcrumbs(count as usize)),
         ClientOption::BeforeSend(prefix) => options.before_send(dropper(alloc, prefix)?),
+        ClientOption::BeforeBreadcrumb(prefix) => {
+            options.before_breadcrumb(BreadcrumbFilter(Text::new(alloc, prefix)?))
+        }
+        ClientOption::BeforeSendLog(prefix) => {
+            options.before_send_log(LogFilter(Text::new(alloc, prefix)?))
+        }
+        ClientOption::BeforeSendMetric(prefix) => {
+            options.before_send_metric(MetricFilter(Text::new(alloc, prefix)?))
+        }
         ClientOption::OsIntegration => options.add_integration(Extension::Os),
         ClientOption::DropIntegration(prefix) => {
             options.add_integration(Extension::Drop(Text::new(alloc, prefix)?))

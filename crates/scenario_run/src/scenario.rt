@@ -103,6 +103,7 @@ impl Scenario {
             Command::Loss(command) => self.perform_on_losses(*command),
             Command::Hub(command) => self.perform_on_hub(*command),
             Command::Scope(command) => self.configure(command),
+            Command::Breadcrumb(command) => self.add_breadcrumbs(*command),
             Command::Capture(command) => self.capture(command),
             Command::Header(command) => self.perform_on_headers(command),
             Command::Text(command) => self.read_text(command),

@@ -14,6 +14,7 @@ use Rattle.sentry_base.specs.declared.protocol.envelope.Envelope.{Envelope}
 use Rattle.sentry_base.specs.declared.protocol.fresh.Fresh.{Fresh}
 use Rattle.sentry_state.specs.declared.scope.Scope.{Scope}
 use Rattle.sentry_parts.specs.LossBooks.{report_point}
+use Rattle.sentry_parts.specs.OsAttributes.{os_attributes}
 use Rattle.sentry_parts.specs.Pipeline.{loss_reason}
 use Rattle.sentry_parts.specs.Pipeline as pipeline
 use Rattle.sentry_engine.specs.Books.{with_book, with_report, pending_report, with_entry, with_entry_if_any}
@@ -26,18 +27,25 @@ abbrev pub is_enabled_client : {C : Type 0} → Client C → Bool
 is_enabled_client client = is_some client.options.plain.dsn && client.occupied
 
 module _ {P C : Type 0} where
-  -- a client, under the next number, after the `setup` of its integrations, with a book for its label; its slot is
-  -- occupied where it had a DSN before that, and has a transport
-  unfoldable pub add_client : (C → Meanings) → ClientOptions C → Bool → Label → World P C → Outcome P C ClientKey
-  add_client meanings options transport label world =
+  -- the options after the `setup` of their integrations
+  abbrev pub set_up : (C → Meanings) → ClientOptions C → ClientOptions C
+  set_up meanings options =
+      record options { plain = set_up_all (meanings options.callbacks).integrations options.plain }
+
+  -- a client, under the next number, after the `setup` of its integrations, with what they then say of the operating
+  -- system, and a book for its label; its slot is occupied where it had a DSN before that, and has a transport
+  unfoldable pub add_client : (C → Meanings) → ClientOptions C → Bool → Label → ℕ → World P C
+      → Outcome P C ClientKey
+  add_client meanings options transport label now world =
       require ForeignLosses world (label.tag == world.tag)
       (require Full world (nat_lt world.next.client (2 ^ 64 - 1))
       (reply_with (record { tag = world.tag; number = world.next.client }) [] (record world {
         next = record world.next { client = world.next.client + 1 };
         clients = put world.clients world.next.client (record {
-          options = record options { plain = set_up_all (meanings options.callbacks).integrations options.plain };
+          options = set_up meanings options;
           label = label;
           occupied = is_some options.plain.dsn && transport;
+          os = os_attributes meanings (set_up meanings options) now;
         });
         books = with_book world.books label.number;
       })))

@@ -1,10 +1,11 @@
 -- What the calls on hubs answer, hand out and leave.
-use Rattle.std.specs.Prelude.{nat_lt, ◌-◌, ℕ, Bool, false, Option, Some, None, List, [], ◌+◌, ◌^◌}
+use Rattle.std.specs.Prelude.{nat_lt, ◌==◌, ◌-◌, ℕ, Bool, false, Option, Some, None, List, [], length, ◌+◌, ◌^◌, if◌then◌else◌}
 use Rattle.sentry_plain.specs.Texts.{Bytes}
 use Rattle.sentry_plain.specs.Tables.{put}
 use Rattle.sentry_base.specs.Events.{nil_id}
 use Rattle.sentry_base.specs.ErrorEvents.{error_event}
 use Rattle.sentry_base.specs.declared.protocol.error_link.ErrorLink.{ErrorLink}
+use Rattle.sentry_base.specs.declared.protocol.breadcrumb.Breadcrumb.{Breadcrumb}
 use Rattle.sentry_base.specs.declared.protocol.keys.ClientKey.{ClientKey}
 use Rattle.sentry_base.specs.declared.protocol.keys.HubKey.{HubKey}
 use Rattle.sentry_base.specs.declared.protocol.event.Event.{Event}
@@ -13,14 +14,20 @@ use Rattle.sentry_base.specs.declared.protocol.fresh.Fresh.{Fresh}
 use Rattle.sentry_base.specs.declared.protocol.refusal.Refusal.TheVariants.{Stale, Full}
 use Rattle.sentry_state.specs.declared.scope.Scope.{Scope}
 use Rattle.sentry_state.specs.declared.scope.edit.ScopeEdit.{ScopeEdit}
-use Rattle.sentry_state.specs.Scopes.{edit_all}
+use Rattle.sentry_state.specs.Scopes.{edit_all, breadcrumb_trail}
 use Rattle.sentry_state.specs.Stacks.{one_layer}
-use Rattle.sentry_state.specs.Callbacks.{Partial, Meanings}
+use Rattle.sentry_state.specs.Callbacks.{Partial, Meanings, call_on_each}
 use Rattle.sentry_engine.specs.Books.{pending_report, with_entry_if_any}
 use Rattle.sentry_engine.specs.Captures.{capture, captured_id, captured_envelopes, message_event}
 use Rattle.sentry_engine.specs.Clients.{is_enabled_client}
 use Rattle.sentry_engine.specs.Worlds.{World}
 use Rattle.sentry_engine.specs.Outcomes.{Outcome, require_some, let_some, require, reply_with, hub_at, plain_client_at, is_held_or_none, with_hub, with_scope}
+use Rattle.sentry_engine.specs.declared.engine.Hub.{Hub}
+
+-- the hub whose top scope has the last n of its breadcrumbs followed by the added ones
+abbrev pub with_breadcrumbs : {P : Type 0} → Hub P → ℕ → List Breadcrumb → Hub P
+with_breadcrumbs hub n added =
+    with_scope hub (record hub.stack.top.scope { breadcrumbs = breadcrumb_trail n hub.stack.top.scope.breadcrumbs added })
 
 module _ {P C : Type 0} where
   -- a hub with one layer, under the next number
@@ -38,6 +45,17 @@ module _ {P C : Type 0} where
   configure key edits world =
       require_some Stale world (hub_at world key) (λ hub.
       reply_with tt [] (with_hub world key (with_scope hub (edit_all edits hub.stack.top.scope))))
+
+  -- breadcrumbs for the top scope, under the client of its layer: those that its callback keeps are added, and the
+  -- last ones stay, as many as its options say; with no client, or no breadcrumb, nothing changes
+  unfoldable pub add_breadcrumbs : (C → Meanings) → HubKey → List Breadcrumb → World P C → Outcome P C (Unit {0})
+  add_breadcrumbs meanings key breadcrumbs world =
+      require_some Stale world (hub_at world key) (λ hub.
+      if length breadcrumbs == 0 then reply_with tt [] world else
+      let_some hub.stack.top.client (reply_with tt [] world) (λ client_key.
+      let_some (plain_client_at world client_key) (reply_with tt [] world) (λ client.
+      reply_with tt [] (with_hub world key (with_breadcrumbs hub client.options.plain.max_breadcrumbs
+      (call_on_each (meanings client.options.callbacks).before_breadcrumb breadcrumbs))))))
 
   -- the last event id of a hub
   unfoldable pub last_event_id : HubKey → World P C → Outcome P C (Option (List ℕ))

@@ -4,7 +4,7 @@ use Rattle.sentry_base.specs.declared.protocol.refusal.Refusal.{Refusal}
 use Rattle.sentry_state.specs.Callbacks.{Partial, Meanings}
 use Rattle.sentry_engine.specs.declared.engine.Out.{Out}
 use Rattle.sentry_engine.specs.declared.call.Call.{Call}
-use Rattle.sentry_engine.specs.declared.call.Call.TheVariants.{AddClient, Options, Dsn, IsEnabled, SampleShouldSend, PrepareEvent, ClientCaptureEvent, SendEnvelope, TakeReport, Absorb, NewHub, Configure, CaptureEvent, CaptureMessage, CaptureError, LastEventId, Client, IsActive, Scope}
+use Rattle.sentry_engine.specs.declared.call.Call.TheVariants.{AddClient, Options, Dsn, IsEnabled, SampleShouldSend, PrepareEvent, ClientCaptureEvent, SendEnvelope, TakeReport, Absorb, NewHub, Configure, AddBreadcrumbs, CaptureEvent, CaptureMessage, CaptureError, LastEventId, Client, IsActive, Scope}
 use Rattle.sentry_engine.specs.declared.call.Reply.{Reply}
 use Rattle.sentry_engine.specs.declared.call.Reply.TheVariants as reply
 use Rattle.sentry_engine.specs.Worlds.{World}
@@ -37,7 +37,7 @@ module _ {P C : Type 0} (gives : P → Partial) (meanings : C → Meanings) wher
   -- what a call replies, hands out and leaves
   unfoldable pub step : Call P C → World P C → Outcome P C (Reply P C)
   step (AddClient options transport label now) world =
-      map_reply reply.Client (clients.add_client meanings options transport label world)
+      map_reply reply.Client (clients.add_client meanings options transport label now world)
   step (Options client) world = map_reply reply.Options (clients.options client world)
   step (Dsn client) world = map_reply reply.Dsn (clients.dsn client world)
   step (IsEnabled client) world = map_reply reply.Decision (clients.is_enabled client world)
@@ -51,6 +51,8 @@ module _ {P C : Type 0} (gives : P → Partial) (meanings : C → Meanings) wher
   step (Absorb label lost) world = map_reply (λ _. reply.Done) (losses.absorb label lost.quantities world)
   step (NewHub client scope) world = map_reply reply.Hub (hubs.new_hub client scope world)
   step (Configure hub edits now) world = map_reply (λ _. reply.Done) (hubs.configure hub edits world)
+  step (AddBreadcrumbs hub breadcrumbs) world =
+      map_reply (λ _. reply.Done) (hubs.add_breadcrumbs meanings hub breadcrumbs world)
   step (CaptureEvent hub event fresh) world =
       map_reply reply.Event (hubs.capture_event gives meanings hub event fresh world)
   step (CaptureMessage hub message level fresh) world =

@@ -3,6 +3,7 @@ use Rattle.std.specs.Prelude.{◌≡◌, ℕ, Bool, List, [], map}
 use Rattle.sentry_base.specs.declared.protocol.keys.Label.{Label}
 use Rattle.sentry_state.specs.declared.clientoptions.ClientOptions.{ClientOptions}
 use Rattle.sentry_parts.specs.LossBooks.{LossEntry, book_of}
+use Rattle.sentry_parts.specs.declared.os_attributes.OsAttributes.{OsAttributes}
 use Rattle.sentry_engine.specs.declared.engine.Client.{Client}
 use Rattle.sentry_engine.specs.declared.engine.Hub.{Hub}
 use Rattle.sentry_engine.specs.declared.engine.NextNumbers.{NextNumbers}
@@ -13,6 +14,7 @@ pub record ClientState (C : Type 0) : Type 0 where
   pub options : ClientOptions C
   pub label : Label
   pub occupied : Bool
+  pub os : OsAttributes
 
 -- all that the calls did: the clients, the hubs, and for each label of a client the history of its losses
 pub record World (P C : Type 0) : Type 0 where
@@ -29,7 +31,12 @@ map_values f entries = map (λ entry. (entry.0, f entry.1)) entries
 module _ {C : Type 0} where
   -- what an engine keeps of a client
   abbrev pub plain_client : ClientState C → Client C
-  plain_client client = record { options = client.options; label = client.label; occupied = client.occupied }
+  plain_client client = record {
+    options = client.options;
+    label = client.label;
+    occupied = client.occupied;
+    os = client.os;
+  }
 
 -- the engine has all of the world, but of its clients and books only what is kept
 pub record Stands {P C : Type 0} (engine : Engine P C) (world : World P C) : Type 0 where

@@ -12,8 +12,8 @@ mod replies;
 use crate::engine::{Engine, Out};
 use sentry_base::dsn::Dsn;
 use sentry_base::protocol::{
-    ClientKey, ClientReport, Draw, Envelope, ErrorLink, Event, Fresh, HubKey, Label, Level, Losses,
-    Refusal, SampleRate, Uuid,
+    Breadcrumb, ClientKey, ClientReport, Draw, Envelope, ErrorLink, Event, Fresh, HubKey, Label,
+    Level, Losses, Refusal, SampleRate, Uuid,
 };
 use sentry_plain::{Boxed, Items, Shared, Text};
 use sentry_state::callbacks::EventCallback;
@@ -71,6 +71,10 @@ pub enum Call<P, C> {
         edits: Items<ScopeEdit<P>>,
         /// The moment in nanoseconds since the epoch.
         now: u64,
+    },
+    AddBreadcrumbs {
+        hub: HubKey,
+        breadcrumbs: Items<Breadcrumb>,
     },
     CaptureEvent {
         hub: HubKey,
@@ -181,6 +185,9 @@ impl<P: EventCallback + Drop, C: Callbacks> Engine<P, C> {
                 edits.into_vec(),
                 now,
             )),
+            Call::AddBreadcrumbs { hub, breadcrumbs } => {
+                answer_of(self.add_breadcrumbs(hub, breadcrumbs.into_vec()))
+            }
             Call::CaptureEvent { hub, event, fresh } => {
                 answer_of(self.capture_event(hub, event.into_inner(), fresh))
             }

@@ -11,6 +11,7 @@ mod hubs;
 
 use sentry_base::protocol::{ClientKey, Envelope, HubKey, Label, Uuid};
 use sentry_parts::client_reports::LossBook;
+use sentry_parts::os_attributes::OsAttributes;
 use sentry_plain::{Items, Shared, Table};
 use sentry_state::callbacks::EventCallback;
 use sentry_state::clientoptions::{Callbacks, ClientOptions};
@@ -31,6 +32,8 @@ struct Client<C> {
     label: Label,
     // Whether its transport slot is occupied: it had a DSN when it was added, and it has a transport.
     occupied: bool,
+    // What its logs say of the operating system by default.
+    os: OsAttributes,
 }
 
 impl<C: Drop> Drop for Client<C> {
@@ -39,6 +42,7 @@ impl<C: Drop> Drop for Client<C> {
             options: _,
             label: _,
             occupied: _,
+            os: _,
         } = self;
     }
 }

@@ -1,12 +1,11 @@
 -- The attributes that a client gives to each log and metric that lacks them.
-use Rattle.std.specs.Prelude.{◌≡◌, Option, Some, None, List, [], ◌∷◌, ◌++◌, codes}
+use Rattle.std.specs.Prelude.{Option, Some, None, List, [], ◌∷◌, ◌++◌, codes}
 use Rattle.sentry_plain.specs.Defaults.{with_default}
 use Rattle.sentry_plain.specs.Texts.{Bytes}
-use Rattle.sentry_base.specs.declared.protocol.context.Context.{Context}
-use Rattle.sentry_base.specs.declared.protocol.context.Context.TheVariants.{Os}
 use Rattle.sentry_state.specs.Constants.{sdk_name, sdk_version}
 use Rattle.sentry_state.specs.Fills.{Attributes, text_attribute}
 use Rattle.sentry_state.specs.declared.clientoptions.plain.PlainOptions.{PlainOptions}
+use Rattle.sentry_parts.specs.declared.os_attributes.OsAttributes.{OsAttributes}
 use Rattle.sentry_parts.specs.declared.pipeline.attributes.DefaultAttribute.{DefaultAttribute}
 
 abbrev pub default_of : Bytes → Bytes → DefaultAttribute
@@ -17,16 +16,6 @@ abbrev pub default_if_any : Bytes → Option Bytes → List DefaultAttribute
 default_if_any key None = []
 default_if_any key (Some value) = default_of key value ∷ []
 
--- the name of the operating system, in a context that describes one
-abbrev pub os_name : Option Context → Option Bytes
-os_name (Some (Os name version)) = name
-os_name _ = None
-
--- its version
-abbrev pub os_version : Option Context → Option Bytes
-os_version (Some (Os name version)) = version
-os_version _ = None
-
 -- what the options and the SDK say of the program
 abbrev pub default_metric_attributes : PlainOptions → List DefaultAttribute
 default_metric_attributes options =
@@ -36,11 +25,11 @@ default_metric_attributes options =
     ++ default_if_any (codes "server.address") options.server_name)
 
 -- the same, and the operating system
-abbrev pub default_log_attributes : PlainOptions → Option Context → List DefaultAttribute
+abbrev pub default_log_attributes : PlainOptions → OsAttributes → List DefaultAttribute
 default_log_attributes options os =
     default_metric_attributes options
-    ++ default_if_any (codes "os.name") (os_name os)
-    ++ default_if_any (codes "os.version") (os_version os)
+    ++ default_if_any (codes "os.name") os.name
+    ++ default_if_any (codes "os.version") os.version
 
 -- the attributes with each default put in where they have nothing at its key
 abbrev pub fill_defaults : List DefaultAttribute → Attributes → Attributes

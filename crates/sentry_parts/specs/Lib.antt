@@ -1,4 +1,5 @@
 pub mod Pipeline
+pub mod OsAttributes
 pub mod Reasons
 pub mod LossViews
 pub mod LossWords

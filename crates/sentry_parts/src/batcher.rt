@@ -113,7 +113,6 @@ impl<T: Drop> Batch<T> {
 
 /// Whatever came to a batch: fewer than a hundred items are queued. Each batch that it handed out has an item and a
 /// hundred at most. And the items of these batches, in order, followed by the queue, are the accepted items.
-#[tactic(auto, using(crate::proofs::BatchLemmas::queued_short, crate::proofs::BatchLemmas::batches_sized, crate::proofs::BatchLemmas::batches_joined))]
 pub fn batches_keep_items<T>()
     ensures bound { (history : List (BatchEntry T)) → length (queued history) < BATCH_ITEMS }
     ensures sizes { (history : List (BatchEntry T)) → AllByRecursion IsBatch (batches history) }

@@ -4,5 +4,6 @@
 pub mod batcher;
 pub mod client_reports;
 pub mod metrics;
+pub mod os_attributes;
 pub mod pipeline;
 pub mod tick;

@@ -71,6 +71,10 @@ pub record FillsUser (user : Option User) (new : Attributes) (old : Attributes) 
 
 -- ---- logs and metrics
 
+-- whether a metric is told of the user: that has to be allowed, and the metric itself says nothing of one
+abbrev pub takes_user : Bool → Attributes → Bool
+takes_user send_default_pii attributes = send_default_pii && not (has_user attributes)
+
 module _ {P : Type 0} where
   -- the trace of the scope; no span is active in it
   abbrev pub active_trace : Scope P → ActiveTrace
@@ -82,10 +86,6 @@ module _ {P : Type 0} where
     trace_id = Some (active_trace scope).trace_id;
     attributes = fill_user_if_any scope.user log.attributes;
   }
-
-  -- whether a metric is told of the user: that has to be allowed, and the metric itself says nothing of one
-  abbrev pub takes_user : Bool → Attributes → Bool
-  takes_user send_default_pii attributes = send_default_pii && not (has_user attributes)
 
   -- the metric with what the scope sets
   abbrev pub fill_metric : Bool → Scope P → Metric → Metric

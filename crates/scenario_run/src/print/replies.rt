@@ -3,7 +3,7 @@ use crate::answer::Reply;
 use crate::print::Shown;
 use crate::print::lists::{push_joined, push_labeled};
 use sentry_base::dsn::{Dsn, ParseDsnError};
-use sentry_base::headers::{HeaderParseError, TracePropagationContext};
+use sentry_base::headers::{HeaderParseError, TraceHeader, TracePropagationContext};
 use sentry_base::protocol::{ClientReport, OrganizationId, Uuid};
 use std::alloc::AllocError;
 
@@ -23,6 +23,7 @@ impl Shown for Reply<'_> {
             Reply::LastEvent { hub, id } => push_last_event(text, *hub, *id),
             Reply::Active { hub, is_active } => writeln!(text, "active {hub} {is_active}"),
             Reply::Headers(parsed) => push_headers(text, parsed),
+            Reply::HubHeaders { hub, headers } => push_hub_headers(text, *hub, headers.as_slice()),
             Reply::Dsn(read) => push_dsn_answer(text, read),
             Reply::DebugType(name) => writeln!(text, "debugtype {name}"),
             Reply::Sensitive(is_sensitive) => writeln!(text, "sensitive {is_sensitive}"),
@@ -89,6 +90,22 @@ fn push_headers(
     match parsed {
         Ok(context) => context.push_to(text)?,
         Err(cause) => write!(text, "{cause}")?,
+    }
+    text.push_str("\n")
+}
+
+// A header's value is the id of the trace, and after a `-` that of the span and the decision on sampling.
+fn push_hub_headers(
+    text: &mut String,
+    hub: u64,
+    headers: &[TraceHeader],
+) -> Result<(), AllocError> {
+    write!(text, "headers {hub}")?;
+    for (name, value) in headers {
+        match value.as_str().split_once('-') {
+            Some((trace, rest)) => write!(text, " {name} T{trace}-S{rest}")?,
+            None => write!(text, " {name} {value}")?,
+        }
     }
     text.push_str("\n")
 }

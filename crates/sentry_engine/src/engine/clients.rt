@@ -1,11 +1,11 @@
 //! The calls on clients.
 ghost use Rattle.std.specs.Prelude.{◌≡◌, IfOk, OnOk, OnErr, Ok, [], nat_lt};
 ghost use Rattle.sentry_plain.specs.Tables.{put};
-ghost use Rattle.sentry_state.specs.Callbacks.{set_up_all};
 ghost use Rattle.sentry_engine.specs.Worlds.{World, ClientState, Stands, plain_client};
 ghost use Rattle.sentry_engine.specs.Books.{with_book};
 ghost use Rattle.sentry_engine.specs.Outcomes.{Does, DoesWithoutMemory};
 ghost use Rattle.std.specs.Option.{option_copied};
+ghost use Rattle.sentry_engine.specs.Clients.{set_up};
 ghost use Rattle.sentry_engine.specs.Clients as call;
 
 use crate::engine::captures::{add_report, capture, captured_id};
@@ -15,6 +15,7 @@ use sentry_base::protocol::{
     ClientKey, Draw, Envelope, Event, Fresh, Label, Refusal, SampleRate, Uuid,
 };
 use sentry_parts::client_reports::LossBook;
+use sentry_parts::os_attributes::os_attributes;
 use sentry_parts::pipeline::prepare_event;
 use sentry_plain::{Boxed, Items, Shared};
 use sentry_state::callbacks::EventCallback;
@@ -37,9 +38,7 @@ fn set_up<C: Callbacks>(
     alloc: Global,
     mut options: ClientOptions<C>,
 ) -> Result<Shared<ClientOptions<C>>, AllocError>
-    ensures { IfOk result (λ share. share ≡ record options {
-      plain = set_up_all (C.meanings options.callbacks).integrations options.plain;
-    }) }
+    ensures { IfOk result (λ share. share ≡ set_up C.meanings options) }
 {
     options.callbacks.set_up(&mut options.plain)?;
     Shared::new(alloc, options)
@@ -85,8 +84,8 @@ impl<P: EventCallback + Drop, C: Callbacks> Engine<P, C> {
 
     /// Adds a client with these options, after the `setup` of its integrations, and answers its key. Its losses go to
     /// the book of the label. `transport` says whether there is one to send its envelopes, which it does if the options
-    /// have a DSN before any `setup`. `_now` is the moment in nanoseconds since the epoch, from which its queues are to
-    /// wait.
+    /// have a DSN before any `setup`. `now` is the moment in nanoseconds since the epoch. It is that of an event which
+    /// goes through the integrations, so that they say what logs tell of the operating system by default.
     ///
     /// `ForeignLosses`: the label has another tag than the engine. `Full`: the numbers are used up. `OutOfMemory`.
     #[tactic(auto, unfolding(crate::specs::Clients::add_client))]
@@ -95,9 +94,9 @@ impl<P: EventCallback + Drop, C: Callbacks> Engine<P, C> {
         options: ClientOptions<C>,
         transport: bool,
         label: Label,
-        _now: u64,
+        now: u64,
     ) -> Result<Out<ClientKey>, Refusal>
-        ensures { Does self.old self.new result (call.add_client C.meanings options transport label) }
+        ensures { Does self.old self.new result (call.add_client C.meanings options transport label now) }
     {
         if label.tag != self.tag {
             return Err(Refusal::ForeignLosses);
@@ -107,10 +106,13 @@ impl<P: EventCallback + Drop, C: Callbacks> Engine<P, C> {
         }
         let number = self.next.client;
         let occupied = options.plain.dsn.is_some() && transport;
+        let options = set_up(self.alloc, options)?;
+        let os = os_attributes(self.alloc, options.get(), now)?;
         let client = Client {
-            options: set_up(self.alloc, options)?,
+            options,
             label,
             occupied,
+            os,
         };
         self.insert_client_and_book(number, client)?;
         self.next.client = number + 1;

@@ -7,13 +7,16 @@ ghost use Rattle.sentry_engine.specs.Worlds.{World, Stands};
 ghost use Rattle.sentry_engine.specs.Outcomes.{Does, DoesWithoutMemory, hub_at, with_scope};
 ghost use Rattle.sentry_base.specs.declared.protocol.event.Event.{Event};
 ghost use Rattle.sentry_engine.specs.Captures.{message_event};
+ghost use Rattle.sentry_engine.specs.Hubs.{with_breadcrumbs};
 ghost use Rattle.sentry_engine.specs.Hubs as call;
 
 use crate::engine::captures::{capture, captured_id};
 use crate::engine::{Engine, Hub, Out};
-use sentry_base::protocol::{ClientKey, ErrorLink, Event, Fresh, HubKey, Level, Refusal, Uuid};
+use sentry_base::protocol::{
+    Breadcrumb, ClientKey, ErrorLink, Event, Fresh, HubKey, Level, Refusal, Uuid,
+};
 use sentry_base::utils::event_from_error;
-use sentry_plain::{Boxed, Text};
+use sentry_plain::{Boxed, Items, Text};
 use sentry_state::callbacks::EventCallback;
 use sentry_state::clientoptions::Callbacks;
 use sentry_state::scope::{Scope, ScopeEdit, Stack};
@@ -61,6 +64,29 @@ impl<P: EventCallback + Drop, C: Callbacks> Engine<P, C> {
             return Ok(());
         };
         hub.stack.top.scope.edit(setter)
+    }
+
+    // Adds breadcrumbs to the top scope of a hub, in place. Where it is out of memory, nothing has changed.
+    #[tactic(auto, using(crate::proofs::Keeping::changed_same))]
+    fn add_to_trail(
+        &mut self,
+        number: u64,
+        breadcrumbs: Items<Breadcrumb>,
+        max_breadcrumbs: usize,
+    ) -> Result<(), AllocError>
+        ensures in_world { OnOk result ((world : World P C) (hub : Hub P) → Stands self.old world →
+            value_at self.old.hubs number ≡ Some hub → Stands self.new (record world {
+              hubs = replace_at world.hubs number (with_breadcrumbs hub max_breadcrumbs breadcrumbs);
+            })) }
+        ensures err { OnErr result (self.new ≡ self.old) }
+    {
+        let Some(hub) = self.hubs.get_mut(number) else {
+            return Ok(());
+        };
+        hub.stack
+            .top
+            .scope
+            .add_breadcrumbs(breadcrumbs, max_breadcrumbs)
     }
 
     // Writes the top scope of a hub that is held.
@@ -161,6 +187,38 @@ impl<P: EventCallback + Drop, C: Callbacks> Engine<P, C> {
             Ok(edit) => self.configure_one(hub, edit),
             Err(edits) => self.configure_all(hub, edits),
         }
+    }
+
+    /// Adds breadcrumbs to the top scope of a hub. Each goes through the `before_breadcrumb` of the top layer's client.
+    /// The scope keeps the last `max_breadcrumbs` of all that it then has, which is an option of the client. Without a
+    /// client, or without a breadcrumb, nothing changes and no callback is called.
+    ///
+    /// `Stale`: the hub isn't held. `OutOfMemory`: none of the breadcrumbs is added.
+    #[tactic(auto, unfolding(crate::specs::Hubs::add_breadcrumbs))]
+    pub fn add_breadcrumbs(
+        &mut self,
+        hub: HubKey,
+        breadcrumbs: Vec<Breadcrumb>,
+    ) -> Result<Out<()>, Refusal>
+        ensures { Does self.old self.new result (call.add_breadcrumbs C.meanings hub breadcrumbs.items) }
+    {
+        let Some(held) = self.hub_at(hub) else {
+            return Err(Refusal::Stale);
+        };
+        if breadcrumbs.is_empty() {
+            return Ok(self.out(()));
+        }
+        let Some(client_key) = held.stack.top.client else {
+            return Ok(self.out(()));
+        };
+        let Some(client) = self.client_at(client_key) else {
+            return Ok(self.out(()));
+        };
+        let max_breadcrumbs = client.options.get().plain.max_breadcrumbs;
+        let callbacks = &client.options.get().callbacks;
+        let kept = callbacks.before_breadcrumb(Items::from_vec(breadcrumbs))?;
+        self.add_to_trail(hub.number, kept, max_breadcrumbs)?;
+        Ok(self.out(()))
     }
 
     /// The id that the last capture on a hub answered, if its top layer had a client at one.

@@ -1,9 +1,10 @@
 //! The attributes that a client gives to each log and metric that lacks them.
-ghost use Rattle.std.specs.Prelude.{◌≡◌, ◌++◌, ◌∷◌, [], IfOk, OnOk, codes, option_copied};
+ghost use Rattle.std.specs.Prelude.{◌≡◌, ◌++◌, ◌∷◌, [], IfOk, OnOk};
 ghost use Rattle.sentry_state.specs.Fills.{KeepsOwn};
-ghost use Rattle.sentry_parts.specs.DefaultAttributes.{default_of, default_if_any, default_metric_attributes, default_log_attributes, os_name, os_version, fill_defaults};
+ghost use Rattle.sentry_parts.specs.DefaultAttributes.{default_of, default_if_any, default_metric_attributes, default_log_attributes, fill_defaults};
 
-use sentry_base::protocol::{Context, LogAttribute};
+use crate::os_attributes::OsAttributes;
+use sentry_base::protocol::LogAttribute;
 use sentry_plain::{Items, Text, TextMap};
 use sentry_state::attributes::put_if_absent;
 use sentry_state::clientoptions::PlainOptions;
@@ -58,25 +59,6 @@ fn add_if_any(
     }
 }
 
-// Adds the name and the version of the operating system, if the context says them.
-fn add_os(
-    alloc: Global,
-    defaults: &mut Items<DefaultAttribute>,
-    os: Option<&Context>,
-) -> Result<(), AllocError>
-    ensures { OnOk result (defaults.new ≡ defaults.old
-        ++ default_if_any (codes "os.name") (os_name (option_copied os.entry))
-        ++ default_if_any (codes "os.version") (os_version (option_copied os.entry))) }
-{
-    match os {
-        Some(Context::Os { name, version }) => {
-            add_if_any(alloc, defaults, "os.name", name)?;
-            add_if_any(alloc, defaults, "os.version", version)
-        }
-        _ => Ok(()),
-    }
-}
-
 /// The default attributes of metrics: name and version of the SDK, and of the options the environment, the release and
 /// the server name, where they are set.
 pub fn default_metric_attributes(
@@ -94,17 +76,18 @@ pub fn default_metric_attributes(
     Ok(defaults)
 }
 
-/// The default attributes of logs: those of metrics, and the name and the version of the operating system, where the
-/// context `os` says them.
+/// The default attributes of logs: those of metrics, and the name and the version of the operating system, where they
+/// are known.
 pub fn default_log_attributes(
     alloc: Global,
     options: &PlainOptions,
-    os: Option<&Context>,
+    os: &OsAttributes,
 ) -> Result<Items<DefaultAttribute>, AllocError>
-    ensures { IfOk result (λ defaults. defaults ≡ default_log_attributes options.now (option_copied os.entry)) }
+    ensures { IfOk result (λ defaults. defaults ≡ default_log_attributes options.now os.now) }
 {
     let mut defaults = default_metric_attributes(alloc, options)?;
-    add_os(alloc, &mut defaults, os)?;
+    add_if_any(alloc, &mut defaults, "os.name", &os.name)?;
+    add_if_any(alloc, &mut defaults, "os.version", &os.version)?;
     Ok(defaults)
 }
 

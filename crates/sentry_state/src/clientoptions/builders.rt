@@ -420,6 +420,7 @@ impl<E: Drop, I: Drop, B: Drop, L: Drop, M: Drop> ClientOptions<ClientCallbacks<
         self.callbacks.before_breadcrumb = Some(Shared::new(self.allocator(), before_breadcrumb)?);
         Ok(self)
     }
+
     /// Sets the callback that each log passes through before a client queues it, which may change or drop it.
     ///
     /// Errors: `OutOfMemory`.

@@ -214,6 +214,7 @@ where
             Some(callback) => call_on_each(callback.get(), breadcrumbs.into_vec()),
         }
     }
+
     fn before_send_log(&self, log: Log) -> Result<Option<Log>, AllocError> {
         match &self.before_send_log {
             None => Ok(Some(log)),
