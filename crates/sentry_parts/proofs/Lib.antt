@@ -6,3 +6,6 @@ pub mod LossDrains
 pub mod LossRecording
 pub mod LossParts
 pub mod WrongSteps
+pub mod SessionLemmas
+pub mod AggregateLemmas
+pub mod QueueLemmas

@@ -6,3 +6,9 @@ pub mod LossMachine
 pub mod WrongSteps
 pub mod WrittenRun
 pub mod LossBooks
+pub mod Sessions
+pub mod SessionSteps
+pub mod SessionLaws
+pub mod AggregateOrder
+pub mod SessionQueues
+pub mod QueueSteps

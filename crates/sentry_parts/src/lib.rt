@@ -3,3 +3,4 @@
 
 pub mod client_reports;
 pub mod pipeline;
+pub mod session;
