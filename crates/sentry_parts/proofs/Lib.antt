@@ -7,3 +7,6 @@ pub mod LossRecording
 pub mod LossParts
 pub mod WrongSteps
 pub mod BatchLemmas
+pub mod SessionLemmas
+pub mod AggregateLemmas
+pub mod QueueLemmas

@@ -12,3 +12,9 @@ pub mod Batches
 pub mod DefaultAttributes
 pub mod Telemetry
 pub mod Drafts
+pub mod Sessions
+pub mod SessionSteps
+pub mod SessionLaws
+pub mod AggregateOrder
+pub mod SessionQueues
+pub mod QueueSteps

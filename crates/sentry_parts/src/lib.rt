@@ -6,4 +6,5 @@ pub mod client_reports;
 pub mod metrics;
 pub mod os_attributes;
 pub mod pipeline;
+pub mod session;
 pub mod tick;
