@@ -27,7 +27,9 @@ use Rattle.sentry_engine.specs.declared.engine.Hub.{Hub}
 -- the hub whose top scope has the last n of its breadcrumbs followed by the added ones
 abbrev pub with_breadcrumbs : {P : Type 0} → Hub P → ℕ → List Breadcrumb → Hub P
 with_breadcrumbs hub n added =
-    with_scope hub (record hub.stack.top.scope { breadcrumbs = breadcrumb_trail n hub.stack.top.scope.breadcrumbs added })
+    with_scope hub (record hub.stack.top.scope {
+      breadcrumbs = breadcrumb_trail n hub.stack.top.scope.breadcrumbs added;
+    })
 
 module _ {P C : Type 0} where
   -- a hub with one layer, under the next number
