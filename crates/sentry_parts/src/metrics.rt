@@ -7,23 +7,14 @@ ghost use Rattle.sentry_parts.specs.Drafts.{with_attribute};
 use sentry_base::protocol::{LogAttribute, MetricDraft, MetricType, Unit, Value};
 use sentry_plain::Text;
 use std::alloc::{AllocError, Global};
-use std::marker::{Model, PhantomData};
+use std::marker::PhantomData;
 
-/// A metric of one type before it is captured: a `CounterMetric`, a `GaugeMetric` or a `DistributionMetric`. Contracts
-/// see its draft.
+/// A metric of one type before it is captured: a `CounterMetric`, a `GaugeMetric` or a `DistributionMetric`.
 #[derive(Drop)]
 pub struct TypedMetric<K> {
+    pub draft: MetricDraft,
     alloc: Global,
-    draft: MetricDraft,
     kind: PhantomData<K>,
-}
-
-impl<K> Model for TypedMetric<K> {
-    ghost use Rattle.sentry_base.specs.declared.protocol.metric.MetricDraft.{MetricDraft};
-
-    ghost Value = { MetricDraft };
-
-    ghost view = { λ metric. metric.draft };
 }
 
 /// The type of counters.
@@ -56,21 +47,21 @@ pub type DistributionMetric = TypedMetric<OfDistribution>;
 
 /// A counter of this name, by which the value is added.
 pub fn counter(alloc: Global, name: &str, value: i64) -> Result<CounterMetric, AllocError>
-    ensures { IfOk result (λ metric. metric ≡ new_draft of_type.Counter name.now value) }
+    ensures { IfOk result (λ metric. metric.draft ≡ new_draft of_type.Counter name.now value) }
 {
     TypedMetric::new(alloc, MetricType::Counter, name, value)
 }
 
 /// A gauge of this name that stands at the value.
 pub fn gauge(alloc: Global, name: &str, value: i64) -> Result<GaugeMetric, AllocError>
-    ensures { IfOk result (λ metric. metric ≡ new_draft of_type.Gauge name.now value) }
+    ensures { IfOk result (λ metric. metric.draft ≡ new_draft of_type.Gauge name.now value) }
 {
     TypedMetric::new(alloc, MetricType::Gauge, name, value)
 }
 
 /// A distribution of this name to which the value belongs.
 pub fn distribution(alloc: Global, name: &str, value: i64) -> Result<DistributionMetric, AllocError>
-    ensures { IfOk result (λ metric. metric ≡ new_draft of_type.Distribution name.now value) }
+    ensures { IfOk result (λ metric. metric.draft ≡ new_draft of_type.Distribution name.now value) }
 {
     TypedMetric::new(alloc, MetricType::Distribution, name, value)
 }
@@ -82,18 +73,18 @@ impl<K> TypedMetric<K> {
         name: &str,
         value: i64,
     ) -> Result<TypedMetric<K>, AllocError>
-        ensures { IfOk result (λ metric. metric ≡ new_draft metric_type name.now value) }
+        ensures { IfOk result (λ metric. metric.draft ≡ new_draft metric_type name.now value) }
     {
         Ok(TypedMetric {
-            alloc,
             draft: MetricDraft::new(alloc, metric_type, name, value)?,
+            alloc,
             kind: PhantomData,
         })
     }
 
     /// Sets an attribute. It replaces one of the same key.
     pub fn attribute(mut self, key: &str, value: Value) -> Result<TypedMetric<K>, AllocError>
-        ensures { IfOk result (λ metric. metric ≡ with_attribute key.now value self) }
+        ensures { IfOk result (λ metric. metric.draft ≡ with_attribute key.now value self.draft) }
     {
         let key = Text::new(self.alloc, key)?;
         self.draft.attributes.insert(key, LogAttribute(value))?;
@@ -104,7 +95,7 @@ impl<K> TypedMetric<K> {
 impl<K: HasUnit> TypedMetric<K> {
     /// Sets the unit of the value.
     pub fn unit(mut self, unit: Unit) -> TypedMetric<K>
-        ensures { result ≡ record self { unit = Some unit } }
+        ensures { result.draft ≡ record self.draft { unit = Some unit } }
     {
         self.draft.unit = Some(unit);
         self
@@ -123,7 +114,7 @@ pub trait IntoProtocolMetric {
 }
 
 impl<K> IntoProtocolMetric for TypedMetric<K> {
-    ghost draft_of = { λ metric. metric };
+    ghost draft_of = { λ metric. metric.draft };
 
     fn into_draft(self) -> MetricDraft {
         self.draft

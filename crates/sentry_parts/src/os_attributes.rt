@@ -27,7 +27,7 @@ impl Clone for OsAttributes {
 
 // What a context says of the operating system.
 fn os_of(context: Option<&Context>) -> Result<OsAttributes, AllocError>
-    ensures { IfOk result (λ os. os ≡ os_of (option_copied context)) }
+    ensures { IfOk result (λ os. os ≡ os_of (option_copied context.entry)) }
 {
     match context {
         Some(Context::Os { name, version }) => Ok(OsAttributes {
