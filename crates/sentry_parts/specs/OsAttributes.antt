@@ -4,6 +4,7 @@ use Rattle.sentry_plain.specs.Texts.{value_at}
 use Rattle.sentry_base.specs.Events.{new_event, nil_id}
 use Rattle.sentry_base.specs.declared.protocol.context.Context.{Context}
 use Rattle.sentry_base.specs.declared.protocol.context.Context.TheVariants.{Os}
+use Rattle.sentry_base.specs.declared.protocol.event.Event.{Event}
 use Rattle.sentry_state.specs.declared.clientoptions.ClientOptions.{ClientOptions}
 use Rattle.sentry_state.specs.Callbacks.{Meanings, enrich_by_all}
 use Rattle.sentry_parts.specs.declared.os_attributes.OsAttributes.{OsAttributes}
@@ -13,9 +14,12 @@ abbrev pub os_of : Option Context → OsAttributes
 os_of (Some (Os name version)) = record { name = name; version = version }
 os_of context = record { name = None; version = None }
 
--- what the context `os` says of it, in an event of this moment after each integration in turn
-abbrev pub os_attributes : {C : Type 0} → (C → Meanings) → ClientOptions C → ℕ → OsAttributes
-os_attributes meanings options now =
-    os_of (value_at
-    (enrich_by_all (meanings options.callbacks).integrations options.plain (new_event nil_id now)).contexts
-    (codes "os"))
+module _ {C : Type 0} where
+  -- an event of this moment, after each integration in turn
+  abbrev pub enriched_event : (C → Meanings) → ClientOptions C → ℕ → Event
+  enriched_event meanings options now =
+      enrich_by_all (meanings options.callbacks).integrations options.plain (new_event nil_id now)
+
+  -- what the context `os` of that event says
+  abbrev pub os_attributes : (C → Meanings) → ClientOptions C → ℕ → OsAttributes
+  os_attributes meanings options now = os_of (value_at (enriched_event meanings options now).contexts (codes "os"))

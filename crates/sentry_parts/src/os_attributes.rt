@@ -1,6 +1,6 @@
 //! What the integrations of a client say of the operating system, which is among the default attributes of its logs.
 ghost use Rattle.std.specs.Prelude.{◌≡◌, IfOk, option_copied};
-ghost use Rattle.sentry_parts.specs.OsAttributes.{os_of, os_attributes};
+ghost use Rattle.sentry_parts.specs.OsAttributes.{os_of, enriched_event, os_attributes};
 
 use sentry_base::protocol::{Context, Event, Uuid};
 use sentry_plain::Text;
@@ -41,6 +41,19 @@ fn os_of(context: Option<&Context>) -> Result<OsAttributes, AllocError>
     }
 }
 
+// An event of this moment, after each integration in turn. One that drops it leaves it as it was.
+fn enriched_event<C: Callbacks>(
+    alloc: Global,
+    options: &ClientOptions<C>,
+    now: u64,
+) -> Result<Event, AllocError>
+    ensures { IfOk result (λ event. event ≡ enriched_event C.meanings options.now now) }
+{
+    let event = Event::new(alloc, Uuid::nil(), now)?;
+    let event = options.callbacks.enrich_event(event, &options.plain)?;
+    Ok(event)
+}
+
 /// What the integrations of a client say of the operating system: the context `os` of an event of this moment, in
 /// nanoseconds since the epoch, after each integration in turn. One that drops the event leaves it as it was.
 pub fn os_attributes<C: Callbacks>(
@@ -50,7 +63,7 @@ pub fn os_attributes<C: Callbacks>(
 ) -> Result<OsAttributes, AllocError>
     ensures { IfOk result (λ os. os ≡ os_attributes C.meanings options.now now) }
 {
-    let event = Event::new(alloc, Uuid::nil(), now)?;
-    let event = options.callbacks.enrich_event(event, &options.plain)?;
-    os_of(event.contexts.get("os"))
+    let event = enriched_event(alloc, options, now)?;
+    let os = os_of(event.contexts.get("os"))?;
+    Ok(os)
 }
