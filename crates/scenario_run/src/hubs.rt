@@ -13,10 +13,7 @@ pub enum HubCommand {
     /// `hub C` or `hub -`
     Add(Option<u64>),
     /// `copy H C` or `copy H -`
-    Copy {
-        hub: u64,
-        client: Option<u64>,
-    },
+    Copy { hub: u64, client: Option<u64> },
     /// `active H`
     IsActive(u64),
     /// `last H`

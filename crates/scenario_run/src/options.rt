@@ -1,7 +1,5 @@
 //! The options of a `client` line, each a word `OPTION=VALUE`.
-use crate::callbacks::{
-    BreadcrumbFilter, Callbacks, Extension, Handler, LogFilter, MetricFilter,
-};
+use crate::callbacks::{BreadcrumbFilter, Callbacks, Extension, Handler, LogFilter, MetricFilter};
 use crate::words::{number, small};
 use sentry_base::protocol::{OrganizationId, Refusal, SampleRate};
 use sentry_plain::Text;

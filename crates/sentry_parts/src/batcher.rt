@@ -83,7 +83,7 @@ impl<T> Batch<T> {
     pub fn tick(&mut self, now: u64) -> Option<Items<T>>
         ensures queue { (history : List (BatchEntry T)) (moment : ℕ) → self.old ≡ queue_of history moment
             → self.new ≡ queue_of (tick_history (is_due BATCH_INTERVAL moment now) history)
-                (after_tick BATCH_INTERVAL moment now) }
+            (after_tick BATCH_INTERVAL moment now) }
         ensures batch { (history : List (BatchEntry T)) (moment : ℕ) → self.old ≡ queue_of history moment
             → result ≡ ticked_out (is_due BATCH_INTERVAL moment now) history }
     {

@@ -70,7 +70,12 @@ pub fn default_metric_attributes(
     let mut defaults = Items::new(alloc);
     add(alloc, &mut defaults, "sentry.sdk.name", SDK_NAME)?;
     add(alloc, &mut defaults, "sentry.sdk.version", VERSION)?;
-    add_if_any(alloc, &mut defaults, "sentry.environment", &options.environment)?;
+    add_if_any(
+        alloc,
+        &mut defaults,
+        "sentry.environment",
+        &options.environment,
+    )?;
     add_if_any(alloc, &mut defaults, "sentry.release", &options.release)?;
     add_if_any(alloc, &mut defaults, "server.address", &options.server_name)?;
     Ok(defaults)
