@@ -21,8 +21,8 @@ use sentry_state::clientoptions::{Callbacks, ClientOptions};
 use sentry_state::scope::{Scope, ScopeEdit};
 use std::alloc::Global;
 
-/// A call of an engine, with its arguments: each variant stands for the method of its name. Arguments that are large are
-/// in boxes, so that a call is cheap to move.
+/// A call of an engine, with its arguments: each variant stands for the method of its name. Large arguments are in
+/// boxes, so that a call is cheap to move.
 #[derive(Drop)]
 pub enum Call<P, C> {
     AddClient {
