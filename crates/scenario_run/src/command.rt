@@ -3,6 +3,7 @@ use crate::captures::CaptureCommand;
 use crate::clients::ClientCommand;
 use crate::headers::HeaderCommand;
 use crate::hubs::HubCommand;
+use crate::layers::LayerCommand;
 use crate::losses::LossCommand;
 use crate::scopes::ScopeCommand;
 use crate::settings::Setting;
@@ -16,6 +17,7 @@ pub enum Command<'a> {
     Client(ClientCommand<'a>),
     Loss(LossCommand),
     Hub(HubCommand),
+    Layer(LayerCommand),
     Scope(ScopeCommand<'a>),
     Capture(CaptureCommand<'a>),
     Header(HeaderCommand<'a>),
@@ -39,6 +41,9 @@ impl<'a> Command<'a> {
         }
         if let Some(command) = HubCommand::read(name, words) {
             return Some(Command::Hub(command));
+        }
+        if let Some(command) = LayerCommand::read(name, words) {
+            return Some(Command::Layer(command));
         }
         if let Some(command) = ScopeCommand::read(name, words) {
             return Some(Command::Scope(command));

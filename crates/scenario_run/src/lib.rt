@@ -11,6 +11,7 @@ mod fault;
 mod headers;
 mod hubs;
 mod lines;
+mod layers;
 mod losses;
 mod options;
 mod print;
