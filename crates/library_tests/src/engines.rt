@@ -9,7 +9,7 @@ use sentry_core::protocol::{
     HubKey, Label, Losses, Reason, Refusal, SampleRate, SpanId, TraceId, Uuid,
 };
 use sentry_core::types::Dsn;
-use sentry_core::{ClientOptions, Level, Scope, ScopeEdit};
+use sentry_core::{ClientOptions, Level, Scope, ScopeEdit, ScopeGuard};
 use sentry_plain::{Boxed, Items, Text};
 use std::alloc::Global;
 use std::test::Fail;
@@ -272,6 +272,8 @@ const CLIENT: ClientKey = ClientKey { tag: 0, number: 0 };
 
 const HUB: HubKey = HubKey { tag: 0, number: 0 };
 
+const NEXT_HUB: HubKey = HubKey { tag: 0, number: 1 };
+
 const UNKNOWN: HubKey = HubKey { tag: 0, number: 9 };
 
 /// Each call once, and one that is refused.
@@ -352,6 +354,24 @@ fn push_later_calls(alloc: Global, calls: &mut Items<Call>) -> Result<(), Refusa
     calls.push(Call::Client(HUB))?;
     calls.push(Call::IsActive(HUB))?;
     calls.push(Call::Scope(HUB))?;
+    push_layer_calls(calls)
+}
+
+/// The calls on layers and hubs, after which the client is dropped.
+fn push_layer_calls(calls: &mut Items<Call>) -> Result<(), Refusal> {
+    calls.push(Call::PushScope(HUB))?;
+    calls.push(Call::PopScope {
+        hub: HUB,
+        depth: 1,
+        now: 6,
+    })?;
+    calls.push(Call::NewHubFromTop(HUB))?;
+    calls.push(Call::ReleaseHub { hub: HUB, now: 7 })?;
+    calls.push(Call::BindClient {
+        hub: NEXT_HUB,
+        client: None,
+    })?;
+    calls.push(Call::DropClient(CLIENT))?;
     Ok(())
 }
 
@@ -375,6 +395,9 @@ fn is_expected(reply: &Reply, index: usize) -> bool {
         (17, Reply::HubClient(client)) => *client == Some(CLIENT),
         (18, Reply::Decision(decision)) => *decision,
         (19, Reply::Scope(scope)) => scope.tags.len() == 1,
+        (20, Reply::Depth(depth)) => *depth == 1,
+        (22, Reply::Hub(key)) => *key == NEXT_HUB,
+        (21 | 23..=25, Reply::Done) => true,
         _ => false,
     }
 }
@@ -383,7 +406,7 @@ fn is_expected(reply: &Reply, index: usize) -> bool {
 fn a_list_of_calls_answers_one_by_one(rt: HostRuntime) -> Result<(), Fail> {
     let alloc = rt.alloc();
     let (engine, answers) = Engine::run(alloc, 0, calls(alloc)?)?;
-    assert_eq!(rt; answers.len(), 20);
+    assert_eq!(rt; answers.len(), 26);
     for (index, answer) in answers.iter().enumerate() {
         match answer {
             Ok(out) => {
@@ -397,7 +420,39 @@ fn a_list_of_calls_answers_one_by_one(rt: HostRuntime) -> Result<(), Fail> {
             Err(refusal) => assert!(rt; index == 8 && *refusal == Refusal::Stale),
         }
     }
-    assert_eq!(rt; engine.last_event_id(HUB)?.reply, Some(id(5)));
+    assert_eq!(rt; engine.last_event_id(NEXT_HUB)?.reply, None);
+    Ok(())
+}
+
+/// Pushes a layer, for which the guard stands.
+fn push(engine: &mut Engine, hub: HubKey) -> Result<ScopeGuard, Refusal> {
+    let Out { reply, sent: _ } = engine.push_scope(hub)?;
+    Ok(reply)
+}
+
+/// Why a pop is refused, and the depth of the guard that comes back, if it is.
+fn pop(engine: &mut Engine, guard: ScopeGuard) -> Option<(Refusal, usize)> {
+    match engine.pop_scope(guard, 0) {
+        Ok(_) => None,
+        Err((refusal, guard)) => {
+            let (_hub, depth) = guard.into_parts();
+            Some((refusal, depth))
+        }
+    }
+}
+
+#[test]
+fn a_refused_guard_is_handed_back(rt: HostRuntime) -> Result<(), Fail> {
+    let alloc = rt.alloc();
+    let mut engine = Engine::new(alloc, 0);
+    engine.new_hub(None, scope(alloc))?;
+    let outer = push(&mut engine, HUB)?;
+    let pushed = engine.apply(Call::PushScope(HUB)).is_ok();
+    let refused = pop(&mut engine, outer);
+    assert!(rt; pushed);
+    assert_eq!(rt; refused, Some((Refusal::OutOfOrder, 1)));
+    let inner = push(&mut engine, HUB)?;
+    assert_eq!(rt; pop(&mut engine, inner), None);
     Ok(())
 }
 

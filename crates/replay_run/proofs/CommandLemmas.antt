@@ -8,9 +8,9 @@ use Rattle.std.proofs.lemmas.Slice.Eq.{bytes_eq-Decides}
 use Rattle.sentry_plain.specs.Texts.{Bytes}
 use Rattle.sentry_base.specs.declared.protocol.level.Level.{Level}
 use Rattle.replay_run.specs.declared.command.Command.{Command}
-use Rattle.replay_run.specs.declared.command.Command.TheVariants.{Client, Hub, Tag, Message, Empty}
+use Rattle.replay_run.specs.declared.command.Command.TheVariants.{Client, Hub, Tag, Message, Empty, Release}
 use Rattle.replay_run.specs.Commands.{IsWord, IsNumber, IsRelease, HasForm, level_word}
-use Rattle.replay_run.specs.Reading.{◌>>=◌, cut, is_word, number_of, level_of, client_of, hub_of, tag_of, message_of, empty_of, form_of, command_of}
+use Rattle.replay_run.specs.Reading.{◌>>=◌, cut, is_word, number_of, level_of, client_of, hub_of, tag_of, message_of, empty_of, release_of, form_of, command_of}
 use Rattle.replay_run.proofs.ReadingLemmas.{cut-solid, cut_some, number_some, number-is, number_solid, level_some, level-is, level_solid, is_word_some, is_word-is}
 
 -- what was read, and what came of it
@@ -66,6 +66,10 @@ empty-is : (text : Bytes) (client : ℕ) → IsNumber text client → empty_of t
 unfolding empty_of
 empty-is text client h = ap (λ o. o >>= λ n. Some (Empty n)) (number-is text client h)
 
+release-is : (text : Bytes) (hub : ℕ) → IsNumber text hub → release_of text ≡ Some (Release hub)
+unfolding release_of
+release-is text hub h = ap (λ o. o >>= λ n. Some (Release n)) (number-is text hub h)
+
 pub command-is : (line : Bytes) (command : Command) → HasForm line command → command_of line ≡ Some command
 unfolding command_of form_of
 command-is line (Client release) h = ap command_of h.2 ∙ client-is h.0 release h.1
@@ -75,6 +79,7 @@ command-is line (Tag hub key value) h =
 command-is line (Message hub level text) h =
     ap command_of (h.2 ∙ ap (λ rest. codes "message " ++ rest) (spaced h.0 (level_word level) text)) ∙ message-is h.0 text hub level h.1
 command-is line (Empty client) h = ap command_of h.2 ∙ empty-is h.0 client h.1
+command-is line (Release hub) h = ap command_of h.2 ∙ release-is h.0 hub h.1
 
 -- from the command to a form
 
@@ -146,6 +151,12 @@ empty_form text command e =
     bind_cases (HasForm (codes "empty " ++ text) command) (number_of text) _ command e (λ client number e.
     subst (HasForm (codes "empty " ++ text)) (same_Some _ _ e) (text, number_some text client number, refl))
 
+release_form : (text : Bytes) (command : Command) → release_of text ≡ Some command → HasForm (codes "release " ++ text) command
+unfolding release_of
+release_form text command e =
+    bind_cases (HasForm (codes "release " ++ text) command) (number_of text) _ command e (λ hub number e.
+    subst (HasForm (codes "release " ++ text)) (same_Some _ _ e) (text, number_some text hub number, refl))
+
 -- the first word is known, and so is the form
 formed : (line word rest front : Bytes) (command : Command) → cut line ≡ Some (word, rest) → word ≡ front → HasForm (front ++ (32 ∷ rest)) command → HasForm line command
 formed line word rest front command found same form =
@@ -163,9 +174,12 @@ form_form line word rest command found e =
           | inl h ↦ formed line word rest (codes "tag") command found h.0 (tag_form rest command h.1)
           | inr e ↦ elim (or_next word (codes "message") (message_of rest) _ (Some command) e) [
             | inl h ↦ formed line word rest (codes "message") command found h.0 (message_form rest command h.1)
-            | inr e ↦ elim (or_next word (codes "empty") (empty_of rest) None (Some command) e) [
+            | inr e ↦ elim (or_next word (codes "empty") (empty_of rest) _ (Some command) e) [
               | inl h ↦ formed line word rest (codes "empty") command found h.0 (empty_form rest command h.1)
-              | inr e ↦ absurd (none-some command e)
+              | inr e ↦ elim (or_next word (codes "release") (release_of rest) None (Some command) e) [
+                | inl h ↦ formed line word rest (codes "release") command found h.0 (release_form rest command h.1)
+                | inr e ↦ absurd (none-some command e)
+              ]
             ]
           ]
         ]

@@ -10,10 +10,10 @@ use Rattle.sentry_state.specs.Options.{default_plain_options, default_options_wi
 use Rattle.sentry_state.specs.declared.clientoptions.ClientOptions.{ClientOptions}
 use Rattle.sentry_state.specs.Scopes.{new_scope}
 use Rattle.sentry_state.specs.declared.scope.edit.ScopeEdit.TheVariants.{SetTag}
-use Rattle.sentry_engine.specs.declared.call.Call.TheVariants.{AddClient, NewHub, Configure, CaptureMessage, SendEnvelope}
+use Rattle.sentry_engine.specs.declared.call.Call.TheVariants.{AddClient, NewHub, Configure, CaptureMessage, SendEnvelope, ReleaseHub}
 use Rattle.replay_run.specs.declared.engine.NoCallbacks.{NoCallbacks}
 use Rattle.replay_run.specs.declared.command.Command.{Command}
-use Rattle.replay_run.specs.declared.command.Command.TheVariants.{Client, Hub, Tag, Message, Empty}
+use Rattle.replay_run.specs.declared.command.Command.TheVariants.{Client, Hub, Tag, Message, Empty, Release}
 use Rattle.replay_run.specs.Engines.{ReplayCall}
 
 -- the moment of the line of this number, which stops at 2^64-1
@@ -63,3 +63,4 @@ call_of number (Tag hub key value) =
 call_of number (Message hub level text) =
     CaptureMessage (record { tag = 0; number = hub }) text level (fresh_of number)
 call_of number (Empty client) = SendEnvelope (record { tag = 0; number = client }) empty_envelope
+call_of number (Release hub) = ReleaseHub (record { tag = 0; number = hub }) (moment_of number)

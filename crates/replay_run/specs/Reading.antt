@@ -8,7 +8,7 @@ use Rattle.sentry_base.specs.declared.protocol.level.Level.{Level}
 use Rattle.sentry_base.specs.declared.protocol.level.Level.TheVariants.{Debug, Info, Warning, Error, Fatal}
 use Rattle.replay_run.specs.Commands.{level_word}
 use Rattle.replay_run.specs.declared.command.Command.{Command}
-use Rattle.replay_run.specs.declared.command.Command.TheVariants.{Client, Hub, Tag, Message, Empty}
+use Rattle.replay_run.specs.declared.command.Command.TheVariants.{Client, Hub, Tag, Message, Empty, Release}
 
 infixl 10 ◌>>=◌
 -- goes on with what was read
@@ -63,6 +63,9 @@ message_of text =
 unfoldable pub empty_of : Bytes → Option Command
 empty_of text = number_of text >>= λ client. Some (Empty client)
 
+unfoldable pub release_of : Bytes → Option Command
+release_of text = number_of text >>= λ hub. Some (Release hub)
+
 unfoldable pub form_of : Bytes → Bytes → Option Command
 form_of word rest =
     if bytes_eq word (codes "client") then client_of rest
@@ -70,6 +73,7 @@ form_of word rest =
     else if bytes_eq word (codes "tag") then tag_of rest
     else if bytes_eq word (codes "message") then message_of rest
     else if bytes_eq word (codes "empty") then empty_of rest
+    else if bytes_eq word (codes "release") then release_of rest
     else None
 
 unfoldable pub command_of : Bytes → Option Command

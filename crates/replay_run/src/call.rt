@@ -117,5 +117,12 @@ pub fn build_call(alloc: Global, number: u64, command: Command) -> Result<Replay
             },
             envelope: Envelope::new(alloc),
         }),
+        Command::Release(hub) => Ok(Call::ReleaseHub {
+            hub: HubKey {
+                tag: TAG,
+                number: hub,
+            },
+            now,
+        }),
     }
 }

@@ -1,6 +1,6 @@
 //! Commands, and the lines that spell them.
 ghost use Rattle.std.specs.Prelude.{◌≡◌, IfOk, IfSome, IfNone};
-ghost use Rattle.replay_run.specs.Reading.{client_of, hub_of, tag_of, message_of, empty_of, form_of, command_of};
+ghost use Rattle.replay_run.specs.Reading.{client_of, hub_of, tag_of, message_of, empty_of, release_of, form_of, command_of};
 ghost use Rattle.replay_run.specs.Commands.{Spells};
 ghost use Rattle.replay_run.specs.declared.command.Command.{Command};
 ghost use Rattle.sentry_plain.specs.Texts.{Bytes};
@@ -23,6 +23,8 @@ pub enum Command {
     Message { hub: u64, level: Level, text: Text },
     /// Sends an empty envelope of the client of this number.
     Empty(u64),
+    /// Gives the hub of this number back.
+    Release(u64),
 }
 
 #[tactic(auto, unfolding(crate::specs::Reading::client_of))]
@@ -93,6 +95,13 @@ fn parse_empty(text: &str) -> Option<Command>
     Some(Command::Empty(parse_number(text)?))
 }
 
+#[tactic(auto, unfolding(crate::specs::Reading::release_of))]
+fn parse_release(text: &str) -> Option<Command>
+    ensures { result ≡ release_of text.now }
+{
+    Some(Command::Release(parse_number(text)?))
+}
+
 #[tactic(auto, unfolding(crate::specs::Reading::form_of, crate::specs::Reading::command_of))]
 fn parse_text(alloc: Global, line: &str) -> Result<Option<Command>, AllocError>
     ensures { IfOk result (λ found. found ≡ command_of line.now) }
@@ -106,6 +115,7 @@ fn parse_text(alloc: Global, line: &str) -> Result<Option<Command>, AllocError>
         "tag" => parse_tag(alloc, rest),
         "message" => parse_message(alloc, rest),
         "empty" => Ok(parse_empty(rest)),
+        "release" => Ok(parse_release(rest)),
         _ => Ok(None),
     }
 }

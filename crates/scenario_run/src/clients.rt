@@ -1,4 +1,4 @@
-//! Lines on clients and on sampling: `client`, `enabled` and `sample`.
+//! Lines on clients and on sampling: `client`, `enabled`, `drop` and `sample`.
 use crate::answer::{Answer, Reply};
 use crate::fault::Failure;
 use crate::options::{ClientPlan, OptionWords};
@@ -16,6 +16,8 @@ pub enum ClientCommand<'a> {
     },
     /// `enabled C`
     IsEnabled(u64),
+    /// `drop C`
+    Drop(u64),
     /// `sample MILLIONTHS DRAW`
     Sample {
         millionths: u32,
@@ -33,6 +35,7 @@ impl<'a> ClientCommand<'a> {
                 options: OptionWords::read(words.rest())?,
             },
             "enabled" => ClientCommand::IsEnabled(words.number()?),
+            "drop" => ClientCommand::Drop(words.number()?),
             "sample" => ClientCommand::Sample {
                 millionths: small(words.number()?),
                 draw: words.draw()?,
@@ -53,6 +56,7 @@ impl Scenario {
         match command {
             ClientCommand::Add { release, options } => Ok(self.add_client(*release, *options)?),
             ClientCommand::IsEnabled(client) => Ok(self.is_enabled(*client)?),
+            ClientCommand::Drop(client) => Ok(self.drop_client(*client)?),
             ClientCommand::Sample { millionths, draw } => Ok(self.sample(*millionths, *draw)?),
         }
     }
@@ -76,6 +80,10 @@ impl Scenario {
         let is_enabled = self.engine.is_enabled(client_key(client))?.reply;
         let reply = Reply::Enabled { client, is_enabled };
         Ok(Answer::new(self.alloc, reply))
+    }
+
+    fn drop_client<'a>(&mut self, client: u64) -> Result<Answer<'a>, Refusal> {
+        Ok(Answer::of_sent(self.engine.drop_client(client_key(client))?))
     }
 
     fn sample<'a>(&self, millionths: u32, draw: Draw) -> Result<Answer<'a>, Refusal> {

@@ -4,6 +4,7 @@ use crate::captures::CaptureCommand;
 use crate::clients::ClientCommand;
 use crate::headers::HeaderCommand;
 use crate::hubs::HubCommand;
+use crate::layers::LayerCommand;
 use crate::losses::LossCommand;
 use crate::scopes::ScopeCommand;
 use crate::settings::Setting;
@@ -17,6 +18,7 @@ pub enum Command<'a> {
     Client(ClientCommand<'a>),
     Loss(LossCommand),
     Hub(HubCommand),
+    Layer(LayerCommand),
     Scope(ScopeCommand<'a>),
     Breadcrumb(BreadcrumbCommand<'a>),
     Capture(CaptureCommand<'a>),
@@ -41,6 +43,9 @@ impl<'a> Command<'a> {
         }
         if let Some(command) = HubCommand::read(name, words) {
             return Some(Command::Hub(command));
+        }
+        if let Some(command) = LayerCommand::read(name, words) {
+            return Some(Command::Layer(command));
         }
         if let Some(command) = ScopeCommand::read(name, words) {
             return Some(Command::Scope(command));

@@ -12,6 +12,7 @@ mod fault;
 mod headers;
 mod hubs;
 mod lines;
+mod layers;
 mod losses;
 mod options;
 mod print;

@@ -6,7 +6,7 @@ use crate::fault::Failure;
 use crate::headers::Header;
 use sentry_base::protocol::{ClientKey, Draw, Fresh, HubKey, Label, SpanId, TraceId, Uuid};
 use sentry_engine::engine::Engine;
-use sentry_plain::Items;
+use sentry_plain::{Items, Table};
 use std::alloc::Global;
 
 /// The tag of the one engine, by which its keys are told.
@@ -20,6 +20,8 @@ pub struct Scenario {
     pub engine: Engine<Handler, Callbacks>,
     /// How many clients there are. A client's label has its number.
     pub clients: u64,
+    /// The depth of each hub that was pushed onto, by its number.
+    pub depths: Table<usize>,
     /// The number of the line that is being done.
     pub line: u64,
     /// The moment of each line in nanoseconds, or none where each has its own.
@@ -36,6 +38,7 @@ impl Drop for Scenario {
             alloc: _,
             engine: _,
             clients: _,
+            depths: _,
             line: _,
             now: _,
             draw: _,
@@ -66,6 +69,7 @@ impl Scenario {
             alloc,
             engine: Engine::new(alloc, TAG),
             clients: 0,
+            depths: Table::new(alloc),
             line: 0,
             now: None,
             draw: Draw::new(0).unwrap(),
@@ -102,6 +106,7 @@ impl Scenario {
             Command::Client(command) => self.perform_on_client(command),
             Command::Loss(command) => self.perform_on_losses(*command),
             Command::Hub(command) => self.perform_on_hub(*command),
+            Command::Layer(command) => self.perform_on_layers(*command),
             Command::Scope(command) => self.configure(command),
             Command::Breadcrumb(command) => self.add_breadcrumbs(*command),
             Command::Capture(command) => self.capture(command),

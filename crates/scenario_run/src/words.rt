@@ -70,6 +70,14 @@ impl<'a> Words<'a> {
         }
     }
 
+    /// The next word, as a number, or none where nothing is left.
+    pub fn number_if_any(&mut self) -> Option<Option<u64>> {
+        match self.left {
+            None => Some(None),
+            Some(_) => Some(Some(self.number()?)),
+        }
+    }
+
     /// The next word, as a draw, which is a number below 1000000.
     pub fn draw(&mut self) -> Option<Draw> {
         Draw::new(small(self.number()?))

@@ -17,6 +17,7 @@ pub use sentry_base::headers::{
 pub use sentry_base::protocol;
 pub use sentry_base::protocol::{Breadcrumb, Envelope, Level, User};
 pub use sentry_base::utils::{event_from_error, parse_type_from_debug};
+pub use sentry_engine::engine::ScopeGuard;
 pub use sentry_parts::metrics;
 pub use sentry_plain::{Boxed, Items, Shared, Text, TextMap};
 pub use sentry_state::callbacks::{

@@ -1,17 +1,19 @@
 -- What an engine finds and stores is what the world has, without the histories.
 use Rattle.std.proofs.Common.{◌≡◌, refl, ap, ◌∙◌, sym, ℕ, List, [], ◌∷◌, Bool, true, false, cond}
-use Rattle.std.specs.Prelude.{Option, Some, None, unwrap_or}
+use Rattle.std.specs.Prelude.{Option, Some, None, unwrap_or, ◌||◌}
 use Rattle.std.specs.Option.{option_map, is_some, option_and_then}
 use Rattle.std.specs.declared.cmp.Ordering.{Ordering}
 use Rattle.std.specs.declared.cmp.Ordering.TheVariants.{Less, Equal, Greater}
 use Rattle.std.specs.Ordering.{match_ordering, nat_cmp}
 use Rattle.std.specs.BTreeMap.{is_at}
+use Rattle.std.specs.List.{list_any}
 use Rattle.std.specs.Cmp.{nat_cmp_is}
 use Rattle.std.specs.Ordering.{is_eq}
 use Rattle.sentry_plain.specs.Tables.{value_at, put, replace_at, without}
 use Rattle.sentry_base.specs.declared.protocol.keys.Label.{Label}
 use Rattle.sentry_parts.specs.LossBooks.{Book, LossEntry, book_of, pending_losses, report_items, report_of}
-use Rattle.sentry_engine.specs.Books.{with_book, pending_report}
+use Rattle.sentry_engine.specs.Books.{with_book, is_label, has_client_of, without_unused_book, pending_report}
+use Rattle.sentry_engine.specs.declared.engine.Client.{Client}
 use Rattle.sentry_engine.specs.declared.engine.Engine.{Engine}
 use Rattle.sentry_engine.specs.Worlds.{World, ClientState, plain_client, map_values, Stands}
 
@@ -46,11 +48,24 @@ module _ {X Y : Type 0} (f : X → Y) where
       map_values-match (nat_cmp n c.0) _ _ _
       ∙ ap (λ rest. match_ordering (nat_cmp n c.0) ((n, f x) ∷ map_values f (c ∷ cs)) ((c.0, f x) ∷ map_values f cs) ((c.0, f c.1) ∷ rest)) (put-map_values cs n x)
 
+  pub without_map_values : (entries : List (ℕ × X)) (n : ℕ) → without (map_values f entries) n ≡ map_values f (without entries n)
+  without_map_values [] n = refl
+  without_map_values (c ∷ cs) n =
+      ap (λ rest. cond (is_at (nat_cmp n) c.0) (map_values f cs) ((c.0, f c.1) ∷ rest)) (without_map_values cs n)
+      ∙ sym (map_values-cond (is_at (nat_cmp n) c.0) cs (c ∷ without cs n))
+
   pub replace_at-map_values : (entries : List (ℕ × X)) (n : ℕ) (x : X) → map_values f (replace_at entries n x) ≡ replace_at (map_values f entries) n (f x)
   replace_at-map_values [] n x = refl
   replace_at-map_values (c ∷ cs) n x =
       map_values-cond (is_at (nat_cmp n) c.0) _ _
       ∙ ap (λ rest. cond (is_at (nat_cmp n) c.0) ((c.0, f x) ∷ map_values f cs) ((c.0, f c.1) ∷ rest)) (replace_at-map_values cs n x)
+
+module _ {C : Type 0} where
+  -- a label is that of a client that the engine keeps where it is that of a client of the world
+  client_of_label_in_world : (test : Label → Bool) (clients : List (ℕ × ClientState C))
+      → list_any (λ entry. test entry.1.label) (map_values plain_client clients) ≡ list_any (λ entry. test entry.1.label) clients
+  client_of_label_in_world test [] = refl
+  client_of_label_in_world test (c ∷ cs) = ap (λ b. test c.1.label || b) (client_of_label_in_world test cs)
 
 report_of_book : (o : Option (List LossEntry)) (book : Book) → Some book ≡ option_map book_of o
     → report_of (report_items book.pending) ≡ option_and_then (λ history. report_of (report_items (pending_losses history))) o
@@ -105,6 +120,34 @@ module _ {P C : Type 0} where
   new_book_in_world engine world s n has =
       ap (λ books. put books n (book_of [])) s.books ∙ sym (put-map_values book_of world.books n [])
       ∙ ap (λ b. map_values book_of (cond b world.books (put world.books n []))) (sym has ∙ has_book_in_world engine world s n)
+
+  -- the engine has a client of the label where the world has one
+  client_of_label : (engine : Engine P C) (world : World P C) → Stands engine world → (label : Label)
+      → list_any (λ entry. is_label label entry.1.label) engine.clients ≡ has_client_of label world.clients
+  client_of_label engine world s label =
+      ap (list_any (λ (entry : ℕ × Client C). is_label label entry.1.label)) s.clients
+      ∙ client_of_label_in_world (is_label label) world.clients
+
+  -- a book stays where a client has its label
+  pub book_kept : (engine : Engine P C) (world : World P C) → Stands engine world → (label : Label)
+      → list_any (λ entry. is_label label entry.1.label) engine.clients ≡ true → Stands engine (without_unused_book label world)
+  book_kept engine world s label has = record {
+    tag = s.tag;
+    next = s.next;
+    clients = s.clients;
+    hubs = s.hubs;
+    books =
+        s.books
+        ∙ ap (λ b. map_values book_of (cond b world.books (without world.books label.number))) (sym (sym (client_of_label engine world s label) ∙ has));
+  }
+
+  -- where none has, the books without it are those of the world without it
+  pub book_removed : (engine : Engine P C) (world : World P C) → Stands engine world → (label : Label)
+      → list_any (λ entry. is_label label entry.1.label) engine.clients ≡ false
+      → without engine.books label.number ≡ map_values book_of (without_unused_book label world).books
+  book_removed engine world s label has =
+      ap (λ books. without books label.number) s.books ∙ without_map_values book_of world.books label.number
+      ∙ ap (λ b. map_values book_of (cond b world.books (without world.books label.number))) (sym (sym (client_of_label engine world s label) ∙ has))
 
   -- the report of a book that the engine has
   pub report_in_world : (engine : Engine P C) (world : World P C) → Stands engine world → (label : Label) (book : Book)

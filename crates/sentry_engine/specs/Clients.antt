@@ -1,14 +1,17 @@
 -- What the calls on clients answer, hand out and leave.
-use Rattle.std.specs.Prelude.{ℕ, nat_lt, ◌-◌, Bool, ◌&&◌, Option, is_some, List, [], ◌∷◌, ◌+◌, ◌^◌, ◌==◌, if◌then◌else◌}
+use Rattle.std.specs.Prelude.{ℕ, nat_lt, ◌-◌, Bool, not, ◌&&◌, Option, is_some, List, [], ◌∷◌, ◌+◌, ◌^◌, ◌==◌, if◌then◌else◌}
+use Rattle.std.specs.List.{list_any}
 use Rattle.std.specs.Option.{option_map}
-use Rattle.sentry_plain.specs.Tables.{put}
+use Rattle.sentry_plain.specs.Tables.{put, without}
 use Rattle.sentry_base.specs.DsnParts.{DsnParts}
 use Rattle.sentry_base.specs.declared.protocol.keys.ClientKey.{ClientKey}
 use Rattle.sentry_base.specs.declared.protocol.keys.Label.{Label}
-use Rattle.sentry_base.specs.declared.protocol.refusal.Refusal.TheVariants.{Stale, ForeignLosses, Full}
+use Rattle.sentry_base.specs.declared.protocol.refusal.Refusal.TheVariants.{Stale, StillNamed, ForeignLosses, Full}
 use Rattle.sentry_state.specs.declared.clientoptions.ClientOptions.{ClientOptions}
 use Rattle.sentry_state.specs.Callbacks.{Partial, Meanings, set_up_all}
+use Rattle.sentry_state.specs.Stacks.{names_client}
 use Rattle.sentry_engine.specs.declared.engine.Client.{Client}
+use Rattle.sentry_engine.specs.declared.engine.Hub.{Hub}
 use Rattle.sentry_base.specs.declared.protocol.event.Event.{Event}
 use Rattle.sentry_base.specs.declared.protocol.envelope.Envelope.{Envelope}
 use Rattle.sentry_base.specs.declared.protocol.fresh.Fresh.{Fresh}
@@ -17,7 +20,7 @@ use Rattle.sentry_parts.specs.LossBooks.{report_point}
 use Rattle.sentry_parts.specs.OsAttributes.{os_attributes}
 use Rattle.sentry_parts.specs.Pipeline.{loss_reason}
 use Rattle.sentry_parts.specs.Pipeline as pipeline
-use Rattle.sentry_engine.specs.Books.{with_book, with_report, pending_report, with_entry, with_entry_if_any}
+use Rattle.sentry_engine.specs.Books.{with_book, without_unused_book, with_report, pending_report, with_entry, with_entry_if_any}
 use Rattle.sentry_engine.specs.Captures.{lost_event, event_to_send, capture, captured_id, captured_envelopes, attachments_of}
 use Rattle.sentry_engine.specs.Worlds.{World}
 use Rattle.sentry_engine.specs.Outcomes.{Outcome, require_some, require, reply_with, plain_client_at}
@@ -25,6 +28,10 @@ use Rattle.sentry_engine.specs.Outcomes.{Outcome, require_some, require, reply_w
 -- a client is enabled where its options have a DSN and its slot is occupied
 abbrev pub is_enabled_client : {C : Type 0} → Client C → Bool
 is_enabled_client client = is_some client.options.plain.dsn && client.occupied
+
+-- a layer of a hub names the client
+abbrev pub is_client_named : {P : Type 0} → ClientKey → List (ℕ × Hub P) → Bool
+is_client_named key hubs = list_any (λ entry. names_client key entry.1.stack) hubs
 
 module _ {P C : Type 0} where
   -- the options after the `setup` of their integrations
@@ -97,3 +104,11 @@ module _ {P C : Type 0} where
       then reply_with tt ((key, with_report (pending_report world client.label) envelope) ∷ [])
       (with_entry world client.label report_point)
       else reply_with tt [] world)
+
+  -- a client that no layer names is no longer held; the losses of its label are forgotten with the last client of it
+  unfoldable pub drop_client : ClientKey → World P C → Outcome P C (Unit {0})
+  drop_client key world =
+      require_some Stale world (plain_client_at world key) (λ client.
+      require StillNamed world (not (is_client_named key world.hubs))
+      (reply_with tt [] (without_unused_book client.label
+      (record world { clients = without world.clients key.number }))))

@@ -13,6 +13,7 @@ use Rattle.sentry_base.specs.declared.protocol.level.Level.{Level}
 use Rattle.sentry_base.specs.declared.protocol.fresh.Fresh.{Fresh}
 use Rattle.sentry_base.specs.declared.protocol.refusal.Refusal.TheVariants.{Stale, Full}
 use Rattle.sentry_state.specs.declared.scope.Scope.{Scope}
+use Rattle.sentry_state.specs.declared.scope.stack.Stack.{Stack}
 use Rattle.sentry_state.specs.declared.scope.edit.ScopeEdit.{ScopeEdit}
 use Rattle.sentry_state.specs.Scopes.{edit_all, breadcrumb_trail}
 use Rattle.sentry_state.specs.Stacks.{one_layer}
@@ -32,15 +33,27 @@ with_breadcrumbs hub n added =
     })
 
 module _ {P C : Type 0} where
-  -- a hub with one layer, under the next number
+  -- the key of the next hub
+  abbrev pub next_hub_key : World P C → HubKey
+  next_hub_key world = record { tag = world.tag; number = world.next.hub }
+
+  -- the world with a hub of these layers under the next number
+  abbrev pub with_new_hub : Stack P → World P C → World P C
+  with_new_hub stack world = record world {
+    next = record world.next { hub = world.next.hub + 1 };
+    hubs = put world.hubs world.next.hub (record { stack = stack; last_event_id = None });
+  }
+
+  -- a hub of these layers, if a number is left
+  abbrev pub add_hub : Stack P → World P C → Outcome P C HubKey
+  add_hub stack world =
+      require Full world (nat_lt world.next.hub (2 ^ 64 - 1))
+      (reply_with (next_hub_key world) [] (with_new_hub stack world))
+
+  -- a hub with one layer
   unfoldable pub new_hub : Option ClientKey → Scope P → World P C → Outcome P C HubKey
   new_hub client scope world =
-      require Stale world (is_held_or_none world client)
-      (require Full world (nat_lt world.next.hub (2 ^ 64 - 1))
-      (reply_with (record { tag = world.tag; number = world.next.hub }) [] (record world {
-        next = record world.next { hub = world.next.hub + 1 };
-        hubs = put world.hubs world.next.hub (record { stack = one_layer client scope; last_event_id = None });
-      })))
+      require Stale world (is_held_or_none world client) (add_hub (one_layer client scope) world)
 
   -- the edits are done to the top scope
   unfoldable pub configure : HubKey → List (ScopeEdit P) → World P C → Outcome P C (Unit {0})

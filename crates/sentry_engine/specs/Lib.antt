@@ -6,4 +6,5 @@ pub mod Outcomes
 pub mod Replies
 pub mod Clients
 pub mod Hubs
+pub mod Layers
 pub mod Runs

@@ -8,6 +8,7 @@ use Rattle.sentry_base.specs.declared.protocol.envelope.Envelope.{Envelope}
 use Rattle.sentry_base.specs.declared.protocol.refusal.Refusal.{Refusal}
 use Rattle.sentry_base.specs.declared.protocol.refusal.Refusal.TheVariants.{OutOfMemory}
 use Rattle.sentry_state.specs.declared.scope.Scope.{Scope}
+use Rattle.sentry_state.specs.declared.scope.stack.Stack.{Stack}
 use Rattle.sentry_engine.specs.declared.engine.Client.{Client}
 use Rattle.sentry_engine.specs.declared.engine.Hub.{Hub}
 use Rattle.sentry_engine.specs.declared.engine.Out.{Out}
@@ -73,6 +74,14 @@ value_under tag entries key_tag number = if key_tag == tag then value_at entries
 -- the hub with another scope on top
 abbrev pub with_scope : {P : Type 0} → Hub P → Scope P → Hub P
 with_scope hub scope = record hub { stack = record hub.stack { top = record hub.stack.top { scope = scope } } }
+
+-- the hub with other layers
+abbrev pub with_stack : {P : Type 0} → Hub P → Stack P → Hub P
+with_stack hub stack = record hub { stack = stack }
+
+-- the hub with another client on top, or none
+abbrev pub with_client : {P : Type 0} → Hub P → Option ClientKey → Hub P
+with_client hub client = record hub { stack = record hub.stack { top = record hub.stack.top { client = client } } }
 
 module _ {P C : Type 0} where
   abbrev pub client_at : World P C → ClientKey → Option (ClientState C)

@@ -56,6 +56,7 @@ pub enum Call<P, C> {
         client: ClientKey,
         envelope: Envelope,
     },
+    DropClient(ClientKey),
     TakeReport(Label),
     /// Stands for `absorb`, of plain numbers.
     Absorb {
@@ -97,6 +98,25 @@ pub enum Call<P, C> {
     Client(HubKey),
     IsActive(HubKey),
     Scope(HubKey),
+    PushScope(HubKey),
+    /// Stands for `pop_scope`, of plain numbers.
+    PopScope {
+        hub: HubKey,
+        /// The depth of the hub after the push.
+        depth: usize,
+        /// The moment in nanoseconds since the epoch.
+        now: u64,
+    },
+    NewHubFromTop(HubKey),
+    ReleaseHub {
+        hub: HubKey,
+        /// The moment in nanoseconds since the epoch.
+        now: u64,
+    },
+    BindClient {
+        hub: HubKey,
+        client: Option<ClientKey>,
+    },
 }
 
 /// What a call replies.
@@ -117,6 +137,8 @@ pub enum Reply<P, C> {
     /// The client of a hub's top layer.
     HubClient(Option<ClientKey>),
     Scope(Boxed<Scope<P>>),
+    /// The depth of a hub after a push.
+    Depth(usize),
 }
 
 /// What a call answers: its reply and envelopes, or why it was refused.
@@ -177,6 +199,7 @@ impl<P: EventCallback + Drop, C: Callbacks> Engine<P, C> {
             Call::SendEnvelope { client, envelope } => {
                 answer_of(self.send_envelope(client, envelope))
             }
+            Call::DropClient(client) => answer_of(self.drop_client(client)),
             Call::TakeReport(label) => answer_of(self.take_report(label)),
             Call::Absorb { label, losses } => answer_of(self.absorb_losses(label, losses.get())),
             Call::NewHub { client, scope } => answer_of(self.new_hub(client, scope.into_inner())),
@@ -204,6 +227,11 @@ impl<P: EventCallback + Drop, C: Callbacks> Engine<P, C> {
             Call::Client(hub) => answer_of(self.client(hub)),
             Call::IsActive(hub) => answer_of(self.is_active(hub)),
             Call::Scope(hub) => answer_of(self.scope(hub)),
+            Call::PushScope(hub) => answer_of(self.push_scope(hub)),
+            Call::PopScope { hub, depth, now } => answer_of(self.pop_scope_at(hub, depth, now)),
+            Call::NewHubFromTop(hub) => answer_of(self.new_hub_from_top(hub)),
+            Call::ReleaseHub { hub, now } => answer_of(self.release_hub(hub, now)),
+            Call::BindClient { hub, client } => answer_of(self.bind_client(hub, client)),
         }
     }
 

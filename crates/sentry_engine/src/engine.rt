@@ -8,6 +8,9 @@ mod books;
 mod captures;
 mod clients;
 mod hubs;
+mod layers;
+
+pub use layers::ScopeGuard;
 
 use sentry_base::protocol::{ClientKey, Envelope, HubKey, Label, Uuid};
 use sentry_parts::client_reports::LossBook;

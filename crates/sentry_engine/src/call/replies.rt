@@ -1,5 +1,6 @@
 //! The replies of calls, put into the one type of replies.
 use crate::call::Reply;
+use crate::engine::ScopeGuard;
 use sentry_base::dsn::Dsn;
 use sentry_base::protocol::{ClientKey, ClientReport, Event, HubKey, Uuid};
 use sentry_plain::{Boxed, Shared};
@@ -135,5 +136,17 @@ impl<P, C> From<Boxed<Scope<P>>> for Reply<P, C> {
 
     fn from(scope: Boxed<Scope<P>>) -> Reply<P, C> {
         Reply::Scope(scope)
+    }
+}
+
+impl<P, C> From<ScopeGuard> for Reply<P, C> {
+    ghost use Rattle.std.specs.Prelude.{◌≡◌};
+    ghost use Rattle.sentry_engine.specs.declared.call.Reply.TheVariants.{Depth};
+
+    ghost from_gives = { λ guard reply. reply ≡ Depth guard.1 };
+
+    fn from(guard: ScopeGuard) -> Reply<P, C> {
+        let (_hub, depth) = guard.into_parts();
+        Reply::Depth(depth)
     }
 }

@@ -1,15 +1,16 @@
 //! The calls on clients.
+ghost use Rattle.std.specs.List.{list_any};
 ghost use Rattle.std.specs.Prelude.{◌≡◌, IfOk, OnOk, OnErr, Ok, [], nat_lt};
-ghost use Rattle.sentry_plain.specs.Tables.{put};
+ghost use Rattle.sentry_plain.specs.Tables.{put, without};
 ghost use Rattle.sentry_engine.specs.Worlds.{World, ClientState, Stands, plain_client};
-ghost use Rattle.sentry_engine.specs.Books.{with_book};
+ghost use Rattle.sentry_engine.specs.Books.{with_book, is_label, without_unused_book};
 ghost use Rattle.sentry_engine.specs.Outcomes.{Does, DoesWithoutMemory};
 ghost use Rattle.std.specs.Option.{option_copied};
-ghost use Rattle.sentry_engine.specs.Clients.{set_up};
+ghost use Rattle.sentry_engine.specs.Clients.{is_client_named, set_up};
 ghost use Rattle.sentry_engine.specs.Clients as call;
 
 use crate::engine::captures::{add_report, capture, captured_id};
-use crate::engine::{Client, Engine, Out};
+use crate::engine::{Client, Engine, Hub, Out};
 use sentry_base::dsn::Dsn;
 use sentry_base::protocol::{
     ClientKey, Draw, Envelope, Event, Fresh, Label, Refusal, SampleRate, Uuid,
@@ -17,7 +18,7 @@ use sentry_base::protocol::{
 use sentry_parts::client_reports::LossBook;
 use sentry_parts::os_attributes::os_attributes;
 use sentry_parts::pipeline::prepare_event;
-use sentry_plain::{Boxed, Items, Shared};
+use sentry_plain::{Boxed, Items, Shared, Table};
 use sentry_state::callbacks::EventCallback;
 use sentry_state::clientoptions::{Callbacks, ClientOptions};
 use sentry_state::scope::Scope;
@@ -42,6 +43,30 @@ fn set_up<C: Callbacks>(
 {
     options.callbacks.set_up(&mut options.plain)?;
     Shared::new(alloc, options)
+}
+
+// Whether a layer of a hub names the client.
+fn is_client_named<P>(hubs: &Table<Hub<P>>, client: ClientKey) -> bool
+    ensures { result ≡ is_client_named client hubs.now }
+{
+    for (_, hub) in hubs.iter() {
+        if hub.stack.names_client(client) {
+            return true;
+        }
+    }
+    false
+}
+
+// Whether a client has the label.
+fn has_client_of<C>(clients: &Table<Client<C>>, label: Label) -> bool
+    ensures { result ≡ list_any (λ entry. is_label label entry.1.label) clients.now }
+{
+    for (_, client) in clients.iter() {
+        if client.label == label {
+            return true;
+        }
+    }
+    false
 }
 
 impl<P: EventCallback + Drop, C: Callbacks> Engine<P, C> {
@@ -120,6 +145,46 @@ impl<P: EventCallback + Drop, C: Callbacks> Engine<P, C> {
             tag: self.tag,
             number,
         }))
+    }
+
+    // Removes a client.
+    #[tactic(auto, using(crate::proofs::Keeping::without_map_values))]
+    fn remove_client(&mut self, number: u64)
+        ensures { (world : World P C) → Stands self.old world →
+            Stands self.new (record world { clients = without world.clients number }) }
+    {
+        self.clients.remove(number);
+    }
+
+    // Removes the book of a label, unless a client has the label.
+    fn remove_unused_book(&mut self, label: Label)
+        ensures { (world : World P C) → Stands self.old world →
+            Stands self.new (without_unused_book label world) }
+    {
+        if has_client_of(&self.clients, label) {
+            return;
+        }
+        self.books.remove(label.number);
+    }
+
+    /// Gives a client back, which no layer of a hub names. Its key is stale from then on. With the last client of a
+    /// label go the losses that are pending under it.
+    ///
+    /// `Stale`: the client isn't held. `StillNamed`: a layer of a hub names it.
+    #[tactic(auto, unfolding(crate::specs::Clients::drop_client))]
+    pub fn drop_client(&mut self, client: ClientKey) -> Result<Out<()>, Refusal>
+        ensures { DoesWithoutMemory self.old self.new result (call.drop_client client) }
+    {
+        let Some(held) = self.client_at(client) else {
+            return Err(Refusal::Stale);
+        };
+        let label = held.label;
+        if is_client_named(&self.hubs, client) {
+            return Err(Refusal::StillNamed);
+        }
+        self.remove_client(client.number);
+        self.remove_unused_book(label);
+        Ok(self.out(()))
     }
 
     /// The options of a client, as a share: after the `setup` of its integrations, which are among them.

@@ -1,5 +1,5 @@
 //! The calls on hubs.
-ghost use Rattle.std.specs.Prelude.{◌≡◌, IfOk, IfErr, OnOk, OnErr, Some, [], ◌∷◌, is_some, if◌then◌else◌};
+ghost use Rattle.std.specs.Prelude.{◌≡◌, ◌<◌, ◌-◌, ◌^◌, IfOk, IfErr, OnOk, OnErr, Some, [], ◌∷◌, is_some, if◌then◌else◌};
 ghost use Rattle.sentry_plain.specs.Tables.{value_at, replace_at};
 ghost use Rattle.sentry_state.specs.Scopes.{edit};
 ghost use Rattle.sentry_engine.specs.declared.engine.Hub.{Hub};
@@ -7,7 +7,7 @@ ghost use Rattle.sentry_engine.specs.Worlds.{World, Stands};
 ghost use Rattle.sentry_engine.specs.Outcomes.{Does, DoesWithoutMemory, hub_at, with_scope};
 ghost use Rattle.sentry_base.specs.declared.protocol.event.Event.{Event};
 ghost use Rattle.sentry_engine.specs.Captures.{message_event};
-ghost use Rattle.sentry_engine.specs.Hubs.{with_breadcrumbs};
+ghost use Rattle.sentry_engine.specs.Hubs.{next_hub_key, with_breadcrumbs, with_new_hub};
 ghost use Rattle.sentry_engine.specs.Hubs as call;
 
 use crate::engine::captures::{capture, captured_id};
@@ -115,6 +115,26 @@ impl<P: EventCallback + Drop, C: Callbacks> Engine<P, C> {
         hub.last_event_id = Some(id);
     }
 
+    // Holds a hub of these layers under the next number, which is left.
+    pub(super) fn insert_hub(&mut self, stack: Stack<P>) -> Result<HubKey, AllocError>
+        requires { self.old.next.hub < 2 ^ 64 - 1 }
+        ensures in_world { IfOk result (λ key. (world : World P C) → Stands self.old world →
+            (key ≡ next_hub_key world) × Stands self.new (with_new_hub stack world)) }
+        ensures err { OnErr result (self.new ≡ self.old) }
+    {
+        let number = self.next.hub;
+        let hub = Hub {
+            stack,
+            last_event_id: None,
+        };
+        self.hubs.insert(number, hub)?;
+        self.next.hub = number + 1;
+        Ok(HubKey {
+            tag: self.tag,
+            number,
+        })
+    }
+
     /// Adds a hub with one layer, of a client or none and a scope, and answers its key.
     ///
     /// `Stale`: the client isn't held. `Full`: the numbers are used up. `OutOfMemory`.
@@ -132,17 +152,9 @@ impl<P: EventCallback + Drop, C: Callbacks> Engine<P, C> {
         if self.next.hub == u64::MAX {
             return Err(Refusal::Full);
         }
-        let number = self.next.hub;
-        let hub = Hub {
-            stack: Stack::from_client_and_scope(self.alloc, client, scope),
-            last_event_id: None,
-        };
-        self.hubs.insert(number, hub)?;
-        self.next.hub = number + 1;
-        Ok(self.out(HubKey {
-            tag: self.tag,
-            number,
-        }))
+        let stack = Stack::from_client_and_scope(self.alloc, client, scope);
+        let key = self.insert_hub(stack)?;
+        Ok(self.out(key))
     }
 
     // One edit, which costs what it changes.

@@ -1,5 +1,5 @@
 //! The book from which client reports are made.
-ghost use Rattle.std.specs.Prelude.{◌≡◌, ◌<◌, [], ◌∷◌, ◌++◌, List, OnOk, OnErr, IfOk, IfErr};
+ghost use Rattle.std.specs.Prelude.{◌≡◌, true, ◌<◌, [], ◌∷◌, ◌++◌, List, OnOk, OnErr, IfOk, IfErr};
 ghost use Rattle.sentry_base.specs.declared.protocol.refusal.Refusal.TheVariants.{OutOfMemory};
 ghost use Rattle.sentry_parts.specs.LossBooks.{Book, LossEntry, book_of, engine_losses, drained_losses, report_point, report_items_at, report_items, report_of};
 
@@ -56,6 +56,17 @@ fn list_all(
     Ok(items)
 }
 
+// Whether all quantities are 0. It looks at each of them without a branch, which is the fastest way.
+fn are_all_zero(quantities: &[u64; LOSS_QUANTITIES]) -> bool
+    ensures { result ≡ true → report_items quantities.now ≡ [] }
+{
+    let mut zero = true;
+    for i in 0..LOSS_QUANTITIES {
+        zero &= quantities[i] == 0;
+    }
+    zero
+}
+
 // A report of the items, or `None` if there are none.
 fn report_of(items: Items<ClientReportItem>) -> Option<ClientReport>
     ensures { result ≡ report_of items }
@@ -96,8 +107,8 @@ impl LossBook {
     pub fn report(&self, alloc: Global) -> Result<Option<ClientReport>, AllocError>
         ensures { IfOk result (λ report. report ≡ report_of (report_items self.now.pending)) }
     {
-        // A look at all quantities at once, since there is seldom anything to report.
-        if self.pending == Losses::none() {
+        // There is seldom anything to report.
+        if are_all_zero(&self.pending.quantities) {
             return Ok(None);
         }
         Ok(report_of(list_all(alloc, &self.pending.quantities)?))

@@ -1,0 +1,111 @@
+//! Lines on the layers of hubs: `push`, `pop`, `top`, `release` and `bind`.
+use crate::answer::Answer;
+use crate::fault::Failure;
+use crate::scenario::{Scenario, client_key, hub_key};
+use crate::words::Words;
+use sentry_base::protocol::Refusal;
+use sentry_engine::call::Call;
+use sentry_engine::engine::Out;
+
+/// What a line asks of the layers of a hub.
+#[derive(Clone, Copy)]
+pub enum LayerCommand {
+    /// `push H`
+    Push(u64),
+    /// `pop H`, or `pop H DEPTH`
+    Pop { hub: u64, depth: Option<u64> },
+    /// `top H`
+    Top(u64),
+    /// `release H`
+    Release(u64),
+    /// `bind H C` or `bind H -`
+    Bind { hub: u64, client: Option<u64> },
+}
+
+impl LayerCommand {
+    /// The command of this name, read from the words that follow it.
+    pub fn read(name: &str, words: Words<'_>) -> Option<LayerCommand> {
+        let mut words = words;
+        let command = match name {
+            "push" => LayerCommand::Push(words.number()?),
+            "pop" => LayerCommand::Pop {
+                hub: words.number()?,
+                depth: words.number_if_any()?,
+            },
+            "top" => LayerCommand::Top(words.number()?),
+            "release" => LayerCommand::Release(words.number()?),
+            "bind" => LayerCommand::Bind {
+                hub: words.number()?,
+                client: words.number_or_none()?,
+            },
+            _ => return None,
+        };
+        words.end()?;
+        Some(command)
+    }
+}
+
+impl Scenario {
+    /// Does a command on the layers of a hub.
+    pub fn perform_on_layers<'a>(&mut self, command: LayerCommand) -> Result<Answer<'a>, Failure> {
+        match command {
+            LayerCommand::Push(hub) => Ok(self.push_scope(hub)?),
+            LayerCommand::Pop { hub, depth } => Ok(self.pop_scope(hub, depth)?),
+            LayerCommand::Top(hub) => Ok(self.add_hub_from_top(hub)?),
+            LayerCommand::Release(hub) => Ok(self.release_hub(hub)?),
+            LayerCommand::Bind { hub, client } => Ok(self.bind_client(hub, client)?),
+        }
+    }
+
+    // Notes the depth of a hub that has an entry.
+    fn set_depth(&mut self, hub: u64, depth: usize) {
+        let Some(place) = self.depths.get_mut(hub) else {
+            return;
+        };
+        *place = depth;
+    }
+
+    // The hub gets its entry before the call, so that what is out of memory has changed nothing.
+    fn push_scope<'a>(&mut self, hub: u64) -> Result<Answer<'a>, Refusal> {
+        if self.depths.get(hub).is_none() {
+            self.depths.insert(hub, 0)?;
+        }
+        let Out { reply, sent } = self.engine.push_scope(hub_key(hub))?;
+        let (_hub, depth) = reply.into_parts();
+        self.set_depth(hub, depth);
+        Ok(Answer::of_sent(Out { reply: (), sent }))
+    }
+
+    // The depth of the layer that is to be popped: the one that is given, or that of the top one.
+    fn depth_to_pop(&self, hub: u64, depth: Option<u64>) -> usize {
+        match depth {
+            Some(depth) => usize::try_from(depth).unwrap_or(usize::MAX),
+            None => self.depths.get(hub).copied().unwrap_or(0),
+        }
+    }
+
+    fn pop_scope<'a>(&mut self, hub: u64, depth: Option<u64>) -> Result<Answer<'a>, Refusal> {
+        let depth = self.depth_to_pop(hub, depth);
+        let out = self.engine.apply(Call::PopScope {
+            hub: hub_key(hub),
+            depth,
+            now: self.moment(),
+        })?;
+        self.set_depth(hub, depth.saturating_sub(1));
+        Ok(Answer::of_sent(out))
+    }
+
+    fn add_hub_from_top<'a>(&mut self, hub: u64) -> Result<Answer<'a>, Refusal> {
+        Ok(Answer::of_sent(self.engine.new_hub_from_top(hub_key(hub))?))
+    }
+
+    fn release_hub<'a>(&mut self, hub: u64) -> Result<Answer<'a>, Refusal> {
+        let now = self.moment();
+        Ok(Answer::of_sent(self.engine.release_hub(hub_key(hub), now)?))
+    }
+
+    fn bind_client<'a>(&mut self, hub: u64, client: Option<u64>) -> Result<Answer<'a>, Refusal> {
+        let client = client.map(client_key);
+        Ok(Answer::of_sent(self.engine.bind_client(hub_key(hub), client)?))
+    }
+}
