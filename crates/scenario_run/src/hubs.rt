@@ -59,7 +59,7 @@ impl Scenario {
 
     // A hub with a copy of the top scope of another.
     fn copy_hub<'a>(&mut self, hub: u64, client: Option<u64>) -> Result<Answer<'a>, Refusal> {
-        let scope = self.engine.scope(hub_key(hub))?.reply;
+        let scope = self.engine.scope(hub_key(hub))?.reply.into_inner();
         self.add_hub_with(client, scope)
     }
 
