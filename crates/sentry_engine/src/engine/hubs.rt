@@ -1,5 +1,6 @@
 //! The calls on hubs.
-ghost use Rattle.std.specs.Prelude.{◌≡◌, ◌<◌, ◌-◌, ◌^◌, IfOk, IfErr, OnOk, OnErr, Some, [], ◌∷◌, is_some, if◌then◌else◌};
+ghost use Rattle.std.specs.Prelude.{◌≡◌, ◌<◌, ◌-◌, ◌^◌, nat_lt, IfOk, IfErr, OnOk, OnErr, Some, [], ◌∷◌, is_some, if◌then◌else◌};
+ghost use Rattle.std.specs.Bool.{OnTrue};
 ghost use Rattle.sentry_plain.specs.Tables.{value_at, replace_at};
 ghost use Rattle.sentry_state.specs.Scopes.{edit};
 ghost use Rattle.sentry_engine.specs.declared.engine.Hub.{Hub};
@@ -115,6 +116,15 @@ impl<P: EventCallback + Drop, C: Callbacks> Engine<P, C> {
         hub.last_event_id = Some(id);
     }
 
+    // Whether a number is left for a hub.
+    pub(super) fn has_hub_number(&self) -> bool
+        ensures in_world { (world : World P C) → Stands self.now world →
+            result ≡ nat_lt world.next.hub (2 ^ 64 - 1) }
+        ensures below { OnTrue result (self.now.next.hub < 2 ^ 64 - 1) }
+    {
+        self.next.hub != u64::MAX
+    }
+
     // Holds a hub of these layers under the next number, which is left.
     pub(super) fn insert_hub(&mut self, stack: Stack<P>) -> Result<HubKey, AllocError>
         requires { self.old.next.hub < 2 ^ 64 - 1 }
@@ -149,7 +159,7 @@ impl<P: EventCallback + Drop, C: Callbacks> Engine<P, C> {
         if !self.holds(client) {
             return Err(Refusal::Stale);
         }
-        if self.next.hub == u64::MAX {
+        if !self.has_hub_number() {
             return Err(Refusal::Full);
         }
         let stack = Stack::from_client_and_scope(self.alloc, client, scope);

@@ -153,7 +153,7 @@ impl<P: EventCallback + Drop, C: Callbacks> Engine<P, C> {
         let Some(held) = self.hub_at(hub) else {
             return Err(Refusal::Stale);
         };
-        if self.next.hub == u64::MAX {
+        if !self.has_hub_number() {
             return Err(Refusal::Full);
         }
         let stack = Stack::from_top(&held.stack)?;
