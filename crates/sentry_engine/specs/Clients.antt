@@ -26,12 +26,11 @@ use Rattle.sentry_engine.specs.Outcomes.{Outcome, require_some, require, reply_w
 abbrev pub is_enabled_client : {C : Type 0} → Client C → Bool
 is_enabled_client client = is_some client.options.plain.dsn && client.occupied
 
-module _ {P C : Type 0} where
-  -- the options after the `setup` of their integrations
-  abbrev pub set_up : (C → Meanings) → ClientOptions C → ClientOptions C
-  set_up meanings options =
-      record options { plain = set_up_all (meanings options.callbacks).integrations options.plain }
+-- the options after the `setup` of their integrations
+abbrev pub set_up : {C : Type 0} → (C → Meanings) → ClientOptions C → ClientOptions C
+set_up meanings options = record options { plain = set_up_all (meanings options.callbacks).integrations options.plain }
 
+module _ {P C : Type 0} where
   -- a client, under the next number, after the `setup` of its integrations, with what they then say of the operating
   -- system, and a book for its label; its slot is occupied where it had a DSN before that, and has a transport
   unfoldable pub add_client : (C → Meanings) → ClientOptions C → Bool → Label → ℕ → World P C
