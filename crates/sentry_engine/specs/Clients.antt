@@ -33,12 +33,11 @@ is_enabled_client client = is_some client.options.plain.dsn && client.occupied
 abbrev pub is_client_named : {P : Type 0} → ClientKey → List (ℕ × Hub P) → Bool
 is_client_named key hubs = list_any (λ entry. names_client key entry.1.stack) hubs
 
-module _ {P C : Type 0} where
-  -- the options after the `setup` of their integrations
-  abbrev pub set_up : (C → Meanings) → ClientOptions C → ClientOptions C
-  set_up meanings options =
-      record options { plain = set_up_all (meanings options.callbacks).integrations options.plain }
+-- the options after the `setup` of their integrations
+abbrev pub set_up : {C : Type 0} → (C → Meanings) → ClientOptions C → ClientOptions C
+set_up meanings options = record options { plain = set_up_all (meanings options.callbacks).integrations options.plain }
 
+module _ {P C : Type 0} where
   -- a client, under the next number, after the `setup` of its integrations, with what they then say of the operating
   -- system, and a book for its label; its slot is occupied where it had a DSN before that, and has a transport
   unfoldable pub add_client : (C → Meanings) → ClientOptions C → Bool → Label → ℕ → World P C
