@@ -1,5 +1,5 @@
 -- What is printed of envelopes and of answers.
-use Rattle.std.specs.Prelude.{ℕ, ◌++◌, Ok, Err, List, [], ◌∷◌, codes, unwrap_or, flat_map, length}
+use Rattle.std.specs.Prelude.{ℕ, ◌++◌, Bool, true, false, Ok, Err, List, [], ◌∷◌, codes, unwrap_or, flat_map, length}
 use Rattle.std.specs.List.{join_by}
 use Rattle.std.specs.Fmt.{decimal}
 use Rattle.uuid.specs.Text.{simple_text, lower}
@@ -14,6 +14,10 @@ use Rattle.sentry_base.specs.declared.protocol.envelope.Envelope.{Envelope}
 use Rattle.sentry_base.specs.declared.protocol.envelope.EnvelopeItem.{EnvelopeItem}
 use Rattle.sentry_base.specs.declared.protocol.envelope.EnvelopeItem.TheVariants as item
 use Rattle.sentry_base.specs.declared.protocol.keys.ClientKey.{ClientKey}
+use Rattle.sentry_base.specs.declared.protocol.session.SessionAggregates.{SessionAggregates}
+use Rattle.sentry_base.specs.declared.protocol.session.SessionStatus.{SessionStatus}
+use Rattle.sentry_base.specs.declared.protocol.session.SessionStatus.TheVariants as session_status
+use Rattle.sentry_base.specs.declared.protocol.session.SessionUpdate.{SessionUpdate}
 use Rattle.replay_run.specs.Commands.{level_word}
 use Rattle.replay_run.specs.Engines.{ReplayAnswer}
 
@@ -30,6 +34,26 @@ abbrev pub event_text : Event → Bytes
 event_text event =
     codes "event " ++ simple_text lower event.event_id ++ codes " " ++ level_word event.level
     ++ codes " " ++ tags_text event.tags ++ codes " " ++ unwrap_or event.message []
+
+abbrev pub status_word : SessionStatus → Bytes
+status_word session_status.Ok = codes "ok"
+status_word session_status.Exited = codes "exited"
+status_word session_status.Crashed = codes "crashed"
+status_word session_status.Abnormal = codes "abnormal"
+
+abbrev pub bool_word : Bool → Bytes
+bool_word true = codes "true"
+bool_word false = codes "false"
+
+-- the status, the number of errors, and whether it is the first update
+abbrev pub session_text : SessionUpdate → Bytes
+session_text update =
+    codes "session " ++ status_word update.status ++ codes " errors=" ++ decimal update.errors
+    ++ codes " init=" ++ bool_word update.init
+
+-- how many counts there are; no command makes any
+abbrev pub aggregates_text : SessionAggregates → Bytes
+aggregates_text aggregates = codes "aggregates " ++ decimal (length aggregates.aggregates)
 
 -- the name of an attachment; no command sends one yet
 abbrev pub attachment_text : Attachment → Bytes
@@ -50,6 +74,8 @@ report_text report = codes "report " ++ join_by loss_text (codes ",") report.ite
 
 abbrev pub item_text : EnvelopeItem → Bytes
 item_text (item.Event event) = event_text event
+item_text (item.SessionUpdate update) = session_text update
+item_text (item.SessionAggregates aggregates) = aggregates_text aggregates
 item_text (item.Attachment attachment) = attachment_text attachment
 item_text (item.Logs logs) = batch_text (codes "logs") (length logs)
 item_text (item.Metrics metrics) = batch_text (codes "metrics") (length metrics)

@@ -3,11 +3,13 @@ ghost use Rattle.std.specs.Prelude.{◌≡◌, ◌++◌, OnOk, string_bytes};
 ghost use Rattle.std.specs.List.{join_by};
 ghost use Rattle.sentry_plain.specs.Texts.{Bytes};
 ghost use Rattle.replay_run.specs.Commands.{level_word};
+ghost use Rattle.replay_run.specs.Printing.{status_word, bool_word, session_text, aggregates_text};
 ghost use Rattle.replay_run.specs.Printing.{tag_text, tags_text, event_text, attachment_text, batch_text, loss_text, report_text, item_text, envelope_line, answer_text};
 
 use crate::engine::ReplayAnswer;
 use sentry_base::protocol::{
     Attachment, ClientKey, ClientReport, ClientReportItem, Envelope, EnvelopeItem, Event, Level,
+    SessionAggregates, SessionStatus, SessionUpdate,
 };
 use sentry_plain::{Text, TextMap};
 use std::alloc::AllocError;
@@ -88,6 +90,43 @@ impl Print for Event {
     }
 }
 
+fn status_word(status: SessionStatus) -> &'static str
+    ensures { result.now ≡ status_word status }
+{
+    match status {
+        SessionStatus::Ok => "ok",
+        SessionStatus::Exited => "exited",
+        SessionStatus::Crashed => "crashed",
+        SessionStatus::Abnormal => "abnormal",
+    }
+}
+
+fn bool_word(value: bool) -> &'static str
+    ensures { result.now ≡ bool_word value }
+{
+    if value { "true" } else { "false" }
+}
+
+impl Print for SessionUpdate {
+    ghost shown = { session_text };
+
+    fn print(&self, text: &mut String) -> Result<(), AllocError> {
+        let status = status_word(self.status);
+        let errors = self.errors;
+        let init = bool_word(self.init);
+        write!(text, "session {status} errors={errors} init={init}")
+    }
+}
+
+impl Print for SessionAggregates {
+    ghost shown = { aggregates_text };
+
+    fn print(&self, text: &mut String) -> Result<(), AllocError> {
+        let count = self.aggregates.len();
+        write!(text, "aggregates {count}")
+    }
+}
+
 impl Print for Attachment {
     ghost shown = { attachment_text };
 
@@ -130,6 +169,8 @@ impl Print for EnvelopeItem {
     fn print(&self, text: &mut String) -> Result<(), AllocError> {
         match self {
             EnvelopeItem::Event(event) => event.print(text),
+            EnvelopeItem::SessionUpdate(update) => update.print(text),
+            EnvelopeItem::SessionAggregates(aggregates) => aggregates.print(text),
             EnvelopeItem::Attachment(attachment) => attachment.print(text),
             EnvelopeItem::Logs(logs) => print_batch("logs", logs.len(), text),
             EnvelopeItem::Metrics(metrics) => print_batch("metrics", metrics.len(), text),

@@ -4,6 +4,7 @@ mod envelopes;
 mod events;
 mod lists;
 mod replies;
+mod sessions;
 mod telemetry;
 mod values;
 

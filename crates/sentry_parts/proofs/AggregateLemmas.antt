@@ -5,7 +5,7 @@ use Rattle.std.proofs.lemmas.List.Sums.{sum_by-cons}
 use Rattle.std.proofs.lemmas.Map.Lookups.{exact_pairs, exact_unsigned, exact_bytes}
 use Rattle.std.specs.BTreeMap.{insert_entry, is_at}
 use Rattle.std.specs.Cmp.{IsTotalOrder}
-use Rattle.std.specs.FinMap.{FinMap, entries, insert, get, find, put, from_entries, entries-insert, get-entries, get-from_entries, get-insert, same_map, IsAntisymmetric}
+use Rattle.std.specs.FinMap.{entries, insert, get, find, put, entries-insert, get-entries, get-from_entries, get-insert, same_map, IsAntisymmetric}
 use Rattle.std.specs.List.{list_any}
 use Rattle.std.specs.Map.{lookup}
 use Rattle.std.specs.Option.{option_cmp}
@@ -13,7 +13,7 @@ use Rattle.std.specs.Ordering.{eq_by_cmp, match_ordering, nat_cmp}
 use Rattle.std.specs.Prelude.{count_by, unwrap_or}
 use Rattle.sentry_base.specs.declared.protocol.session.SessionUpdate.{SessionUpdate}
 use Rattle.sentry_plain.specs.Texts.{Bytes, text_cmp}
-use Rattle.sentry_parts.specs.AggregateOrder.{minute_cmp, minute_cmp_total}
+use Rattle.sentry_parts.specs.AggregateOrder.{minute_cmp_total}
 use Rattle.sentry_parts.specs.SessionQueues.{aggregate_cmp, key_of, has_exited, has_errored, was_abnormal, has_crashed, count_at, counts_at, counts_of}
 use Rattle.sentry_parts.specs.QueueSteps.{add_if, no_counts, count_update, counts_under, count}
 use Rattle.sentry_parts.specs.declared.session.aggregates.AggregateCounts.{AggregateCounts}

@@ -1,20 +1,17 @@
 -- Sessions that wait: what one call does to what is kept is what one more entry does to what the history says.
-use Rattle.std.proofs.Common.{◌≡◌, ◌<◌, ◌≤◌, ◌+◌, ◌-◌, ℕ, Bool, true, false, not, cond, length, Option, Some, None, List, [], ◌∷◌, ◌++◌, map, reverse, refl, sym, ap, ◌∙◌, arith}
+use Rattle.std.proofs.Common.{◌≡◌, ◌<◌, ◌-◌, ℕ, Bool, true, false, cond, length, Option, Some, None, List, [], ◌∷◌, map, reverse, refl, sym, ap, ◌∙◌, arith}
 use Rattle.std.proofs.lemmas.Bool.Decides.{nat_tests}
 use Rattle.std.proofs.lemmas.Grind.{reverse_onto}
 use Rattle.std.proofs.lemmas.List.{nil_from_length, map-append, length-map, length-reverse}
-use Rattle.std.specs.FinMap.{FinMap, entries, empty, len-empty, len-entries}
+use Rattle.std.specs.FinMap.{entries, empty, len-empty, len-entries}
 use Rattle.std.specs.Option.{option_or}
-use Rattle.std.specs.Prelude.{filter, nat_le, option_map, if◌then◌else◌}
-use Rattle.sentry_base.specs.declared.protocol.envelope.Envelope.{Envelope}
-use Rattle.sentry_base.specs.declared.protocol.envelope.EnvelopeItem.{EnvelopeItem}
+use Rattle.std.specs.Prelude.{nat_le, option_map}
 use Rattle.sentry_base.specs.declared.protocol.envelope.EnvelopeItem.TheVariants as item
-use Rattle.sentry_base.specs.declared.protocol.session.SessionAttributes.{SessionAttributes}
 use Rattle.sentry_base.specs.declared.protocol.session.SessionUpdate.{SessionUpdate}
 use Rattle.sentry_state.specs.declared.clientoptions.choices.SessionMode.{SessionMode}
 use Rattle.sentry_parts.specs.SessionLaws.{QueueIsShort}
 use Rattle.sentry_parts.specs.SessionQueues.{QueueEntry, enqueued, flushed, aggregate_cmp, counts_of, is_aggregated, aggregated, individual, is_full, since_flush, oldest, Waiting, waiting, queue_of, envelopes_of, envelopes_on}
-use Rattle.sentry_parts.specs.QueueSteps.{count, aggregate, append, nothing, clear, is_last, append_or_clear, envelopes_on_append, enqueue, envelopes_on_enqueue}
+use Rattle.sentry_parts.specs.QueueSteps.{aggregate, append, nothing, clear, is_last, append_or_clear, envelopes_on_append, enqueue, envelopes_on_enqueue}
 use Rattle.sentry_parts.specs.declared.session.aggregates.AggregateCounts.{AggregateCounts}
 use Rattle.sentry_parts.specs.declared.session.aggregates.TheConstants.{MAX_INDIVIDUAL}
 use Rattle.sentry_parts.proofs.AggregateLemmas.{count_is}

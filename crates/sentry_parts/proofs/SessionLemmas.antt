@@ -66,7 +66,7 @@ after_event start None counted told event = λ i. record {
   start = start;
   status = crash_status (is_crash event) i;
   errors = sym (ap (λ (n : ℕ). min n (2 ^ 64 - 1)) (sum_by-cons (λ (entry : SessionEntry). cond (is_error_entry entry) 1 0) (event_reached event) counted)
-  ∙ add_one (is_error event) (count_by is_error_entry counted) (2 ^ 64 - 1)) i;
+      ∙ add_one (is_error event) (count_by is_error_entry counted) (2 ^ 64 - 1)) i;
   duration = no_duration start.started (is_crash event) i;
   init = not told;
   dirty = or_swap (is_error event) (not told) (list_any is_change (since_hand_out counted)) i;

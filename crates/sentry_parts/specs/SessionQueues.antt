@@ -1,6 +1,6 @@
 -- The ended sessions of a client that wait to be sent, as a function of all sessions that ended and of all flushes. The
 -- newest entry stands first.
-use Rattle.std.specs.Prelude.{ℕ, ◌*◌, ◌/◌, ◌-◌, ◌^◌, ◌&&◌, ◌++◌, min, Bool, true, false, not, nat_eq, nat_lt, nat_le, map, reverse, filter, count_by, length, option_map, option_to_list, Option, Some, None, List, [], ◌∷◌, if◌then◌else◌}
+use Rattle.std.specs.Prelude.{ℕ, ◌*◌, ◌/◌, ◌-◌, ◌^◌, ◌&&◌, ◌++◌, min, Bool, true, false, not, nat_eq, nat_le, map, reverse, filter, count_by, length, option_map, Option, Some, None, List, [], ◌∷◌, if◌then◌else◌}
 use Rattle.std.specs.Option.{option_or}
 use Rattle.std.specs.FinMap.{FinMap, from_entries, entries}
 use Rattle.std.specs.Ordering.{eq_by_cmp}

@@ -56,6 +56,8 @@ impl Shown for EnvelopeItem {
     fn push_to(&self, text: &mut String) -> Result<(), AllocError> {
         match self {
             EnvelopeItem::Event(event) => event.push_to(text),
+            EnvelopeItem::SessionUpdate(update) => update.push_to(text),
+            EnvelopeItem::SessionAggregates(aggregates) => aggregates.push_to(text),
             EnvelopeItem::Attachment(attachment) => attachment.push_to(text),
             EnvelopeItem::Logs(logs) => push_batch(text, "logs", logs),
             EnvelopeItem::Metrics(metrics) => push_batch(text, "metrics", metrics),

@@ -31,7 +31,11 @@ fn is_crashed(status: SessionStatus) -> bool
 fn add_if(counted: bool, count: u32) -> u32
     ensures { result ≡ add_if counted count }
 {
-    if counted { count.saturating_add(1) } else { count }
+    if counted {
+        count.saturating_add(1)
+    } else {
+        count
+    }
 }
 
 // The counts with one more session.

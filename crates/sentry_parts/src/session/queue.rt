@@ -50,10 +50,10 @@ impl Model for SessionQueue {
     ghost coded = { Prim.hlevel (codes, data_code) };
 
     ghost view = { λ a. record {
-        mode = a.mode;
-        counts = a.counts.entries;
-        attributes = a.attributes;
-        individual = a.individual;
+      mode = a.mode;
+      counts = a.counts.entries;
+      attributes = a.attributes;
+      individual = a.individual;
     } };
 }
 
