@@ -354,11 +354,11 @@ fn push_later_calls(alloc: Global, calls: &mut Items<Call>) -> Result<(), Refusa
     calls.push(Call::Client(HUB))?;
     calls.push(Call::IsActive(HUB))?;
     calls.push(Call::Scope(HUB))?;
-    push_layer_calls(calls)
+    push_layer_calls(alloc, calls)
 }
 
 /// The calls on layers and hubs, after which the client is dropped.
-fn push_layer_calls(calls: &mut Items<Call>) -> Result<(), Refusal> {
+fn push_layer_calls(alloc: Global, calls: &mut Items<Call>) -> Result<(), Refusal> {
     calls.push(Call::PushScope(HUB))?;
     calls.push(Call::PopScope {
         hub: HUB,
@@ -372,6 +372,10 @@ fn push_layer_calls(calls: &mut Items<Call>) -> Result<(), Refusal> {
         client: None,
     })?;
     calls.push(Call::DropClient(CLIENT))?;
+    calls.push(Call::AddBreadcrumbs {
+        hub: NEXT_HUB,
+        breadcrumbs: Items::new(alloc),
+    })?;
     Ok(())
 }
 
@@ -397,7 +401,7 @@ fn is_expected(reply: &Reply, index: usize) -> bool {
         (19, Reply::Scope(scope)) => scope.tags.len() == 1,
         (20, Reply::Depth(depth)) => *depth == 1,
         (22, Reply::Hub(key)) => *key == NEXT_HUB,
-        (21 | 23..=25, Reply::Done) => true,
+        (21 | 23..=26, Reply::Done) => true,
         _ => false,
     }
 }
@@ -406,7 +410,7 @@ fn is_expected(reply: &Reply, index: usize) -> bool {
 fn a_list_of_calls_answers_one_by_one(rt: HostRuntime) -> Result<(), Fail> {
     let alloc = rt.alloc();
     let (engine, answers) = Engine::run(alloc, 0, calls(alloc)?)?;
-    assert_eq!(rt; answers.len(), 26);
+    assert_eq!(rt; answers.len(), 27);
     for (index, answer) in answers.iter().enumerate() {
         match answer {
             Ok(out) => {
