@@ -1,5 +1,5 @@
 -- What the calls on the layers of hubs answer, hand out and leave.
-use Rattle.std.specs.Prelude.{ℕ, nat_lt, ◌==◌, Option, List, []}
+use Rattle.std.specs.Prelude.{ℕ, nat_lt, ◌==◌, Option, []}
 use Rattle.sentry_plain.specs.Tables.{without}
 use Rattle.sentry_base.specs.declared.protocol.keys.ClientKey.{ClientKey}
 use Rattle.sentry_base.specs.declared.protocol.keys.HubKey.{HubKey}

@@ -11,7 +11,6 @@ mod hubs;
 mod layers;
 
 pub use layers::ScopeGuard;
-
 use sentry_base::protocol::{ClientKey, Envelope, HubKey, Label, Uuid};
 use sentry_parts::client_reports::LossBook;
 use sentry_parts::os_attributes::OsAttributes;
