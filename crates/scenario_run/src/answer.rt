@@ -1,6 +1,7 @@
 //! What commands come to.
+use crate::headers::Header;
 use sentry_base::dsn::{Dsn, ParseDsnError};
-use sentry_base::headers::{HeaderParseError, TraceHeader, TracePropagationContext};
+use sentry_base::headers::{HeaderParseError, TracePropagationContext};
 use sentry_base::protocol::{ClientKey, ClientReport, Envelope, Refusal, Uuid};
 use sentry_engine::engine::Out;
 use sentry_plain::Items;
@@ -45,7 +46,7 @@ pub enum Reply<'a> {
     Headers(Result<TracePropagationContext, HeaderParseError>),
     HubHeaders {
         hub: u64,
-        headers: Items<TraceHeader>,
+        headers: Items<Header>,
     },
     Dsn(Result<Option<Dsn>, ParseDsnError>),
     DebugType(&'a str),

@@ -8,11 +8,11 @@ use sentry_base::protocol::Refusal;
 use sentry_plain::{Items, Text};
 use std::alloc::AllocError;
 
-/// A header that is kept for a later line.
+/// A header that is kept for a later line, or printed.
 #[derive(Drop)]
 pub struct Header {
-    name: Text,
-    value: Text,
+    pub name: Text,
+    pub value: Text,
 }
 
 /// What a line does with headers.
@@ -81,8 +81,10 @@ impl Scenario {
     fn headers_of_hub<'a>(&self, hub: u64) -> Result<Reply<'a>, Refusal> {
         let scope = self.engine.scope(hub_key(hub))?.reply;
         let mut headers = Items::new(self.alloc);
-        for header in scope.iter_trace_propagation_headers()? {
-            headers.push(header)?;
+        for (name, value) in scope.iter_trace_propagation_headers()? {
+            let name = Text::new(self.alloc, name)?;
+            let value = Text::from_string(value);
+            headers.push(Header { name, value })?;
         }
         Ok(Reply::HubHeaders { hub, headers })
     }

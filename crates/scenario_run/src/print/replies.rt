@@ -1,9 +1,10 @@
 //! What commands answer by themselves.
 use crate::answer::Reply;
+use crate::headers::Header;
 use crate::print::Shown;
 use crate::print::lists::{push_joined, push_labeled};
 use sentry_base::dsn::{Dsn, ParseDsnError};
-use sentry_base::headers::{HeaderParseError, TraceHeader, TracePropagationContext};
+use sentry_base::headers::{HeaderParseError, TracePropagationContext};
 use sentry_base::protocol::{ClientReport, OrganizationId, Uuid};
 use std::alloc::AllocError;
 
@@ -95,14 +96,12 @@ fn push_headers(
 }
 
 // A header's value is the id of the trace, and after a `-` that of the span and the decision on sampling.
-fn push_hub_headers(
-    text: &mut String,
-    hub: u64,
-    headers: &[TraceHeader],
-) -> Result<(), AllocError> {
+fn push_hub_headers(text: &mut String, hub: u64, headers: &[Header]) -> Result<(), AllocError> {
     write!(text, "headers {hub}")?;
-    for (name, value) in headers {
-        match value.as_str().split_once('-') {
+    for header in headers {
+        let name = header.name.as_str();
+        let value = header.value.as_str();
+        match value.split_once('-') {
             Some((trace, rest)) => write!(text, " {name} T{trace}-S{rest}")?,
             None => write!(text, " {name} {value}")?,
         }
