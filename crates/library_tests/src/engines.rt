@@ -142,11 +142,11 @@ fn added(alloc: Global, until: u64, count: u64) -> Result<(Option<Refusal>, usiz
     let mut engine = Engine::new(alloc, 0);
     let client = engine.add_client(options, true, LABEL, 0)?.reply;
     let hub = engine.new_hub(Some(client), scope(alloc))?.reply;
-    let mut breadcrumbs = Vec::new(alloc);
+    let mut breadcrumbs = Items::new(alloc);
     for moment in 0..count {
         breadcrumbs.push(Breadcrumb::new(alloc, moment)?)?;
     }
-    let refusal = engine.add_breadcrumbs(hub, breadcrumbs).err();
+    let refusal = engine.add_breadcrumbs(hub, breadcrumbs.into_vec()).err();
     Ok((refusal, engine.scope(hub)?.reply.breadcrumbs.len()))
 }
 
