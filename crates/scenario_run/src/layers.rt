@@ -86,11 +86,12 @@ impl Scenario {
 
     fn pop_scope<'a>(&mut self, hub: u64, depth: Option<u64>) -> Result<Answer<'a>, Refusal> {
         let depth = self.depth_to_pop(hub, depth);
-        let out = self.engine.apply(Call::PopScope {
+        let call = Call::PopScope {
             hub: hub_key(hub),
             depth,
             now: self.moment(),
-        })?;
+        };
+        let out = self.engine.apply(call)?;
         self.set_depth(hub, depth.saturating_sub(1));
         Ok(Answer::of_sent(out))
     }
