@@ -109,13 +109,15 @@ impl Scenario {
         }
     }
 
-    // The loss goes through words of the client's label: it is recorded, drained and absorbed.
+    // The loss goes through words of the client's label: it is recorded, drained and absorbed. A client that isn't held
+    // has no transport that could lose anything.
     fn lose<'a>(
         &mut self,
         client: u64,
         kind: Kind,
         reason: TransportLossReason,
     ) -> Result<Answer<'a>, Refusal> {
+        self.engine.is_enabled(client_key(client))?;
         let (mut recorder, mut drainer) = LossWords::new(self.alloc, client_label(client))?;
         recorder.record_lost_data(&kind, reason);
         match self.engine.absorb(drainer.drain()) {
