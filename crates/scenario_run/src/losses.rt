@@ -110,7 +110,7 @@ impl Scenario {
     }
 
     // The loss goes through words of the client's label: it is recorded, drained and absorbed. A client that isn't held
-    // has no transport which could lose anything.
+    // has no transport that could lose anything.
     fn lose<'a>(
         &mut self,
         client: u64,
