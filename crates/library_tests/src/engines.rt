@@ -1,7 +1,5 @@
 //! Engines over boxed callbacks, whole runs of calls, and keys and numbers that no command can name.
-use crate::callbacks::{
-    boxed_adds, boxed_drops, boxed_hides, boxed_keeps_until, boxed_multiplies,
-};
+use crate::callbacks::{boxed_adds, boxed_drops, boxed_hides, boxed_keeps_until, boxed_multiplies};
 use sentry_core::client_report::{Drained, LossWords, TransportLossReason};
 use sentry_core::engine::{Call, Engine, Out, Reply};
 use sentry_core::protocol::{
@@ -325,10 +323,7 @@ fn push_later_calls(alloc: Global, calls: &mut Items<Call>) -> Result<(), Refusa
     calls.push(Call::TakeReport(LABEL))?;
     calls.push(Call::Absorb {
         label: LABEL,
-        losses: Boxed::new(
-            alloc,
-            Losses::of(Category::Error, Reason::NetworkError, 2),
-        )?,
+        losses: Boxed::new(alloc, Losses::of(Category::Error, Reason::NetworkError, 2))?,
     })?;
     calls.push(Call::PrepareEvent {
         client: CLIENT,

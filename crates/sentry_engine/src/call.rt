@@ -189,13 +189,23 @@ impl<P: EventCallback + Drop, C: Callbacks> Engine<P, C> {
                 event,
                 scope,
                 fresh,
-            } => answer_of(self.prepare_event(client, event.into_inner(), lent_scope(&scope), fresh)),
+            } => answer_of(self.prepare_event(
+                client,
+                event.into_inner(),
+                lent_scope(&scope),
+                fresh,
+            )),
             Call::ClientCaptureEvent {
                 client,
                 event,
                 scope,
                 fresh,
-            } => answer_of(self.client_capture_event(client, event.into_inner(), lent_scope(&scope), fresh)),
+            } => answer_of(self.client_capture_event(
+                client,
+                event.into_inner(),
+                lent_scope(&scope),
+                fresh,
+            )),
             Call::SendEnvelope { client, envelope } => {
                 answer_of(self.send_envelope(client, envelope))
             }
