@@ -1,6 +1,6 @@
 -- What an engine finds and stores is what the world has, without the histories.
 use Rattle.std.proofs.Common.{◌≡◌, refl, ap, ◌∙◌, sym, ℕ, List, [], ◌∷◌, Bool, true, false, cond}
-use Rattle.std.specs.Prelude.{Option, Some, None, unwrap_or, ◌||◌}
+use Rattle.std.specs.Prelude.{Option, Some, None, unwrap_or, ◌||◌, ◌==◌}
 use Rattle.std.specs.Option.{option_map, is_some, option_and_then}
 use Rattle.std.specs.declared.cmp.Ordering.{Ordering}
 use Rattle.std.specs.declared.cmp.Ordering.TheVariants.{Less, Equal, Greater}
@@ -10,12 +10,17 @@ use Rattle.std.specs.List.{list_any}
 use Rattle.std.specs.Cmp.{nat_cmp_is}
 use Rattle.std.specs.Ordering.{is_eq}
 use Rattle.sentry_plain.specs.Tables.{value_at, put, replace_at, without}
+use Rattle.sentry_base.specs.declared.protocol.keys.ClientKey.{ClientKey}
 use Rattle.sentry_base.specs.declared.protocol.keys.Label.{Label}
 use Rattle.sentry_parts.specs.LossBooks.{Book, LossEntry, book_of, pending_losses, report_items, report_of}
 use Rattle.sentry_engine.specs.Books.{with_book, is_label, has_client_of, without_unused_book, pending_report}
+use Rattle.sentry_parts.specs.declared.session.record.Session.{Session}
+use Rattle.sentry_parts.specs.SessionQueues.{QueueEntry, Waiting, queue_of}
+use Rattle.sentry_engine.specs.Outcomes.{client_at, plain_client_at}
+use Rattle.sentry_engine.specs.SessionEnds.{with_client_entry}
 use Rattle.sentry_engine.specs.declared.engine.Client.{Client}
 use Rattle.sentry_engine.specs.declared.engine.Engine.{Engine}
-use Rattle.sentry_engine.specs.Worlds.{World, ClientState, plain_client, map_values, Stands}
+use Rattle.sentry_engine.specs.Worlds.{World, ClientState, SessionState, plain_client, plain_session, map_values, Stands}
 
 module _ {X Y : Type 0} (f : X → Y) where
   option_map-cond : (b : Bool) (x y : Option X) → cond b (option_map f x) (option_map f y) ≡ option_map f (cond b x y)
@@ -109,6 +114,7 @@ module _ {P C : Type 0} where
     next = t.next;
     clients = t.clients;
     hubs = t.hubs;
+    sessions = t.sessions;
     books =
         t.books ∙ ap (map_values book_of) (sym same)
         ∙ ap (λ b. map_values book_of (cond b world.books (put world.books n []))) (sym has ∙ has_book_in_world old world s n);
@@ -136,6 +142,7 @@ module _ {P C : Type 0} where
     next = s.next;
     clients = s.clients;
     hubs = s.hubs;
+    sessions = s.sessions;
     books =
         s.books
         ∙ ap (λ b. map_values book_of (cond b world.books (without world.books label.number))) (sym (sym (client_of_label engine world s label) ∙ has));
@@ -223,3 +230,74 @@ module _ {P C : Type 0} where
       ap (λ b. replace_at engine.books n b) (takes history is)
       ∙ ap (λ books. replace_at books n (book_of (entry ∷ history))) s.books
       ∙ sym (replace_at-map_values book_of world.books n (entry ∷ history))
+
+-- ---- sessions
+
+module _ {P C : Type 0} where
+  -- the session that the engine finds
+  pub session_in_world : (engine : Engine P C) (world : World P C) → Stands engine world → (n : ℕ)
+      → value_at engine.sessions n ≡ option_map plain_session (value_at world.sessions n)
+  session_in_world engine world s n =
+      ap (λ sessions. value_at sessions n) s.sessions ∙ value_at-map_values plain_session world.sessions n
+
+  -- a session stands under a number in the engine where it does in the world
+  pub has_session_in_world : (engine : Engine P C) (world : World P C) → Stands engine world → (n : ℕ)
+      → is_some (value_at engine.sessions n) ≡ is_some (value_at world.sessions n)
+  has_session_in_world engine world s n =
+      ap is_some (session_in_world engine world s n) ∙ is_some-option_map plain_session (value_at world.sessions n)
+
+-- ---- clients whose queues change
+
+module _ {C : Type 0} where
+  in_table-at : (b : Bool) (found : Option (ClientState C)) (kept : Client C) → Some kept ≡ option_map plain_client (cond b found None)
+      → (client : ClientState C) × (found ≡ Some client) × (cond b found None ≡ Some client) × (kept ≡ plain_client client)
+  in_table-at true (Some client) kept e = let is : kept ≡ plain_client client = cc in (client, refl, refl, is)
+  in_table-at true None kept e = absurd cc
+  in_table-at false found kept e = absurd cc
+
+module _ {P C : Type 0} where
+  -- an engine whose client is replaced stands for the world whose client is replaced
+  pub client_replaced : (engine : Engine P C) (world : World P C) → Stands engine world → (n : ℕ) (client : ClientState C) (kept : Client C)
+      → kept ≡ plain_client client → replace_at engine.clients n kept ≡ map_values plain_client (replace_at world.clients n client)
+  client_replaced engine world s n client kept is =
+      ap (replace_at engine.clients n) is
+      ∙ (ap (λ clients. replace_at clients n (plain_client client)) s.clients ∙ sym (replace_at-map_values plain_client world.clients n client))
+
+  -- the client of the world of which the engine found what it keeps
+  pub client_state : (engine : Engine P C) (world : World P C) → Stands engine world → (key : ClientKey) (kept : Client C)
+      → Some kept ≡ plain_client_at world key
+      → (client : ClientState C) × (value_at engine.clients key.number ≡ Some (plain_client client))
+      × (client_at world key ≡ Some client) × (kept ≡ plain_client client)
+  client_state engine world s key kept e =
+      let found = in_table-at (key.tag == world.tag) (value_at world.clients key.number) kept e in
+      let there : value_at engine.clients key.number ≡ Some (plain_client found.0) =
+      ap (λ clients. value_at clients key.number) s.clients
+      ∙ (value_at-map_values plain_client world.clients key.number ∙ ap (option_map plain_client) found.1) in
+      (found.0, there, found.2, found.3)
+
+module _ {C : Type 0} where
+  -- what is kept of a client to whose queue of ended sessions something came
+  pub queue_changed : (client : ClientState C) (kept : Client C) (entry : QueueEntry) (queue : Waiting) → kept ≡ plain_client client
+      → queue ≡ queue_of client.options.plain.session_mode (entry ∷ client.queues.sessions)
+      → record kept { queues = record kept.queues { sessions = queue } } ≡ plain_client (with_client_entry entry client)
+  queue_changed client kept entry queue is q = λ i. record (is i) { queues = record (is i).queues { sessions = q i } }
+
+no_session : (o : Option SessionState) → None ≡ option_map plain_session o → o ≡ None
+no_session None e = refl
+no_session (Some session) e = absurd cc
+
+module _ {P C : Type 0} where
+  -- an engine whose session is replaced stands for the world whose session is replaced
+  pub session_replaced : (engine : Engine P C) (world : World P C) → Stands engine world → (n : ℕ) (session : SessionState) (kept : Session)
+      → kept ≡ plain_session session → replace_at engine.sessions n kept ≡ map_values plain_session (replace_at world.sessions n session)
+  session_replaced engine world s n session kept is =
+      ap (replace_at engine.sessions n) is
+      ∙ (ap (λ sessions. replace_at sessions n (plain_session session)) s.sessions
+      ∙ sym (replace_at-map_values plain_session world.sessions n session))
+
+  -- nothing is replaced where the engine has no session
+  pub session_absent : (engine : Engine P C) (world : World P C) → Stands engine world → (n : ℕ) (session : SessionState)
+      → None ≡ value_at engine.sessions n → engine.sessions ≡ map_values plain_session (replace_at world.sessions n session)
+  session_absent engine world s n session h =
+      let none : value_at world.sessions n ≡ None = no_session (value_at world.sessions n) (h ∙ session_in_world engine world s n) in
+      s.sessions ∙ ap (map_values plain_session) (sym (replace_absent world.sessions n session none))

@@ -1,5 +1,5 @@
 -- What the calls on clients answer, hand out and leave.
-use Rattle.std.specs.Prelude.{ℕ, nat_lt, ◌-◌, Bool, not, ◌&&◌, Option, is_some, List, [], ◌∷◌, ◌+◌, ◌^◌, ◌==◌, if◌then◌else◌}
+use Rattle.std.specs.Prelude.{ℕ, nat_lt, ◌-◌, Bool, false, not, ◌&&◌, Option, Some, None, is_some, List, [], ◌∷◌, ◌+◌, ◌^◌, ◌==◌, if◌then◌else◌}
 use Rattle.std.specs.List.{list_any}
 use Rattle.std.specs.Option.{option_map}
 use Rattle.sentry_plain.specs.Tables.{put, without}
@@ -9,7 +9,8 @@ use Rattle.sentry_base.specs.declared.protocol.keys.Label.{Label}
 use Rattle.sentry_base.specs.declared.protocol.refusal.Refusal.TheVariants.{Stale, StillNamed, ForeignLosses, Full}
 use Rattle.sentry_state.specs.declared.clientoptions.ClientOptions.{ClientOptions}
 use Rattle.sentry_state.specs.Callbacks.{Partial, Meanings, set_up_all}
-use Rattle.sentry_state.specs.Stacks.{names_client}
+use Rattle.sentry_state.specs.Stacks.{is_client, names_client}
+use Rattle.sentry_state.specs.declared.clientoptions.choices.SessionMode.{SessionMode}
 use Rattle.sentry_engine.specs.declared.engine.Client.{Client}
 use Rattle.sentry_engine.specs.declared.engine.Hub.{Hub}
 use Rattle.sentry_base.specs.declared.protocol.event.Event.{Event}
@@ -20,10 +21,13 @@ use Rattle.sentry_parts.specs.LossBooks.{report_point}
 use Rattle.sentry_parts.specs.OsAttributes.{os_attributes}
 use Rattle.sentry_parts.specs.Pipeline.{loss_reason}
 use Rattle.sentry_parts.specs.Pipeline as pipeline
+use Rattle.sentry_parts.specs.SessionQueues.{flushed, queue_of, envelopes_of}
 use Rattle.sentry_engine.specs.Books.{with_book, without_unused_book, with_report, pending_report, with_entry, with_entry_if_any}
 use Rattle.sentry_engine.specs.Captures.{lost_event, event_to_send, capture, captured_id, captured_envelopes, attachments_of}
-use Rattle.sentry_engine.specs.Worlds.{World}
-use Rattle.sentry_engine.specs.Outcomes.{Outcome, require_some, require, reply_with, plain_client_at}
+use Rattle.sentry_engine.specs.Sending.{Sending, send, send_nothing, reply_sending}
+use Rattle.sentry_engine.specs.SessionEnds.{with_client_entry, with_client_state}
+use Rattle.sentry_engine.specs.Worlds.{World, ClientState, QueueHistories, SessionState}
+use Rattle.sentry_engine.specs.Outcomes.{Outcome, require_some, require, reply_with, client_at, plain_client_at}
 
 -- a client is enabled where its options have a DSN and its slot is occupied
 abbrev pub is_enabled_client : {C : Type 0} → Client C → Bool
@@ -33,13 +37,54 @@ is_enabled_client client = is_some client.options.plain.dsn && client.occupied
 abbrev pub is_client_named : {P : Type 0} → ClientKey → List (ℕ × Hub P) → Bool
 is_client_named key hubs = list_any (λ entry. names_client key entry.1.stack) hubs
 
+-- a session that goes on was started under the client
+abbrev pub has_session_of : ClientKey → List (ℕ × SessionState) → Bool
+has_session_of key sessions = list_any (λ entry. is_client key (Some entry.1.start.client)) sessions
+
 -- the options after the `setup` of their integrations
 abbrev pub set_up : {C : Type 0} → (C → Meanings) → ClientOptions C → ClientOptions C
 set_up meanings options = record options { plain = set_up_all (meanings options.callbacks).integrations options.plain }
 
+-- the queues of a client that is made at this moment
+abbrev pub queues_from : ℕ → QueueHistories
+queues_from now = record {
+  sessions = [];
+  session_tick = now;
+  logs = [];
+  log_tick = now;
+  metrics = [];
+  metric_tick = now;
+}
+
+-- the envelopes of all that waits
+abbrev pub waiting_envelopes : SessionMode → QueueHistories → List Envelope
+waiting_envelopes mode queues = envelopes_of (queue_of mode queues.sessions)
+
+-- the client after a flush
+abbrev pub flush_all : {C : Type 0} → ClientState C → ClientState C
+flush_all client = with_client_entry flushed client
+
+-- a client after the `setup` of its integrations, with what they then say of the operating system; its slot is occupied
+-- where it had a DSN before that, and has a transport
+unfoldable pub new_client : {C : Type 0} → (C → Meanings) → ClientOptions C → Bool → Label → ℕ → ClientState C
+new_client meanings options transport label now = record {
+  options = set_up meanings options;
+  label = label;
+  occupied = is_some options.plain.dsn && transport;
+  os = os_attributes meanings (set_up meanings options) now;
+  closed = false;
+  queues = queues_from now;
+}
+
 module _ {P C : Type 0} where
-  -- a client, under the next number, after the `setup` of its integrations, with what they then say of the operating
-  -- system, and a book for its label; its slot is occupied where it had a DSN before that, and has a transport
+  -- what waits in the queues of a client is sent
+  unfoldable pub flush_queues : ClientKey → ClientState C → World P C → Sending P C
+  flush_queues key client world =
+      if client.closed then send_nothing world else
+      send key client (waiting_envelopes client.options.plain.session_mode client.queues)
+      (with_client_state world key (flush_all client))
+
+  -- a client, under the next number, and a book for its label
   unfoldable pub add_client : (C → Meanings) → ClientOptions C → Bool → Label → ℕ → World P C
       → Outcome P C ClientKey
   add_client meanings options transport label now world =
@@ -47,12 +92,7 @@ module _ {P C : Type 0} where
       (require Full world (nat_lt world.next.client (2 ^ 64 - 1))
       (reply_with (record { tag = world.tag; number = world.next.client }) [] (record world {
         next = record world.next { client = world.next.client + 1 };
-        clients = put world.clients world.next.client (record {
-          options = set_up meanings options;
-          label = label;
-          occupied = is_some options.plain.dsn && transport;
-          os = os_attributes meanings (set_up meanings options) now;
-        });
+        clients = put world.clients world.next.client (new_client meanings options transport label now);
         books = with_book world.books label.number;
       })))
 
@@ -83,7 +123,7 @@ module _ {P C : Type 0} where
       require_some Stale world (plain_client_at world key) (λ client.
       let made = capture gives meanings client scope fresh event in
       reply_with (captured_id made.event)
-      (captured_envelopes key (attachments_of scope) (pending_report world client.label) made.event)
+      (captured_envelopes key None (attachments_of scope) (pending_report world client.label) made.event)
       (with_entry_if_any world client.label made.entry))
 
   -- the event as the client would send it, if it would; where it would not, the event is lost
@@ -104,10 +144,18 @@ module _ {P C : Type 0} where
       (with_entry world client.label report_point)
       else reply_with tt [] world)
 
-  -- a client that no layer names is no longer held; the losses of its label are forgotten with the last client of it
+  -- what waits in the queues of a client
+  unfoldable pub flush : ClientKey → World P C → Outcome P C (Unit {0})
+  flush key world =
+      require_some Stale world (client_at world key) (λ client. reply_sending tt (flush_queues key client world))
+
+  -- a client that no layer and no session names sends what waits in its queues, and is no longer held; the losses of
+  -- its label are forgotten with the last client of it
   unfoldable pub drop_client : ClientKey → World P C → Outcome P C (Unit {0})
   drop_client key world =
-      require_some Stale world (plain_client_at world key) (λ client.
+      require_some Stale world (client_at world key) (λ client.
       require StillNamed world (not (is_client_named key world.hubs))
-      (reply_with tt [] (without_unused_book client.label
-      (record world { clients = without world.clients key.number }))))
+      (require StillNamed world (not (has_session_of key world.sessions))
+      (let flushed = flush_queues key client world in
+      reply_with tt flushed.sent (without_unused_book client.label
+      (record flushed.after { clients = without flushed.after.clients key.number })))))

@@ -1,5 +1,6 @@
 -- What the calls on hubs answer, hand out and leave.
-use Rattle.std.specs.Prelude.{nat_lt, ◌==◌, ◌-◌, ℕ, Bool, false, Option, Some, None, List, [], length, ◌+◌, ◌^◌, if◌then◌else◌}
+use Rattle.std.specs.Prelude.{nat_lt, ◌==◌, ◌-◌, ℕ, Bool, true, false, Option, Some, None, List, [], length, ◌+◌, ◌^◌, if◌then◌else◌}
+use Rattle.std.specs.List.{list_any}
 use Rattle.sentry_plain.specs.Texts.{Bytes}
 use Rattle.sentry_plain.specs.Tables.{put}
 use Rattle.sentry_base.specs.Events.{nil_id}
@@ -15,11 +16,15 @@ use Rattle.sentry_base.specs.declared.protocol.refusal.Refusal.TheVariants.{Stal
 use Rattle.sentry_state.specs.declared.scope.Scope.{Scope}
 use Rattle.sentry_state.specs.declared.scope.stack.Stack.{Stack}
 use Rattle.sentry_state.specs.declared.scope.edit.ScopeEdit.{ScopeEdit}
+use Rattle.sentry_state.specs.declared.scope.edit.ScopeEdit.TheVariants.{Clear}
 use Rattle.sentry_state.specs.Scopes.{edit_all, breadcrumb_trail}
 use Rattle.sentry_state.specs.Stacks.{one_layer}
 use Rattle.sentry_state.specs.Callbacks.{Partial, Meanings, call_on_each}
 use Rattle.sentry_engine.specs.Books.{pending_report, with_entry_if_any}
 use Rattle.sentry_engine.specs.Captures.{capture, captured_id, captured_envelopes, message_event}
+use Rattle.sentry_engine.specs.Captures.{capture_named_session, update_along, with_captured_session}
+use Rattle.sentry_engine.specs.Sending.{reply_sending}
+use Rattle.sentry_engine.specs.SessionEnds.{release_session}
 use Rattle.sentry_engine.specs.Clients.{is_enabled_client}
 use Rattle.sentry_engine.specs.Worlds.{World}
 use Rattle.sentry_engine.specs.Outcomes.{Outcome, require_some, let_some, require, reply_with, hub_at, plain_client_at, is_held_or_none, with_hub, with_scope}
@@ -31,6 +36,11 @@ with_breadcrumbs hub n added =
     with_scope hub (record hub.stack.top.scope {
       breadcrumbs = breadcrumb_trail n hub.stack.top.scope.breadcrumbs added;
     })
+
+-- the edit gives the top layer a default scope, and no session
+abbrev pub is_clear : {P : Type 0} → ScopeEdit P → Bool
+is_clear (Clear trace_id span_id) = true
+is_clear edit = false
 
 module _ {P C : Type 0} where
   -- the key of the next hub
@@ -55,11 +65,13 @@ module _ {P C : Type 0} where
   new_hub client scope world =
       require Stale world (is_held_or_none world client) (add_hub (one_layer client scope) world)
 
-  -- the edits are done to the top scope
-  unfoldable pub configure : HubKey → List (ScopeEdit P) → World P C → Outcome P C (Unit {0})
-  configure key edits world =
+  -- the edits are done to the top scope; a layer whose scope is cleared gives up its session
+  unfoldable pub configure : HubKey → List (ScopeEdit P) → ℕ → World P C → Outcome P C (Unit {0})
+  configure key edits now world =
       require_some Stale world (hub_at world key) (λ hub.
-      reply_with tt [] (with_hub world key (with_scope hub (edit_all edits hub.stack.top.scope))))
+      let edited = with_scope hub (edit_all edits hub.stack.top.scope) in
+      if list_any is_clear edits then reply_sending tt (release_session key.number edited now world)
+      else reply_with tt [] (with_hub world key edited))
 
   -- breadcrumbs for the top scope, under the client of its layer: those that its callback keeps are added, and the
   -- last ones stay, as many as its options say; with no client, or no breadcrumb, nothing changes
@@ -86,9 +98,12 @@ module _ {P C : Type 0} where
       let_some (plain_client_at world client_key) (reply_with nil_id [] world) (λ client.
       let made = capture gives meanings client (Some hub.stack.top.scope) fresh event in
       let id = captured_id made.event in
+      let session = capture_named_session world hub.stack.top.session client made in
       reply_with id
-      (captured_envelopes client_key hub.stack.top.scope.attachments (pending_report world client.label) made.event)
-      (with_hub (with_entry_if_any world client.label made.entry) key (record hub { last_event_id = Some id })))))
+      (captured_envelopes client_key (update_along session) hub.stack.top.scope.attachments
+      (pending_report world client.label) made.event)
+      (with_hub (with_captured_session (with_entry_if_any world client.label made.entry) hub.stack.top.session session)
+      key (record hub { last_event_id = Some id })))))
 
   -- a message on a hub
   unfoldable pub capture_message : (P → Partial) → (C → Meanings) → HubKey → Bytes → Level → Fresh → World P C

@@ -3,8 +3,11 @@ pub mod Books
 pub mod Captures
 pub mod Losses
 pub mod Outcomes
+pub mod Sending
+pub mod SessionEnds
 pub mod Replies
 pub mod Clients
 pub mod Hubs
 pub mod Layers
+pub mod Sessions
 pub mod Runs

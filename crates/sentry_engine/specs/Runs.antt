@@ -4,7 +4,7 @@ use Rattle.sentry_base.specs.declared.protocol.refusal.Refusal.{Refusal}
 use Rattle.sentry_state.specs.Callbacks.{Partial, Meanings}
 use Rattle.sentry_engine.specs.declared.engine.Out.{Out}
 use Rattle.sentry_engine.specs.declared.call.Call.{Call}
-use Rattle.sentry_engine.specs.declared.call.Call.TheVariants.{AddClient, Options, Dsn, IsEnabled, SampleShouldSend, PrepareEvent, ClientCaptureEvent, SendEnvelope, DropClient, TakeReport, Absorb, NewHub, Configure, AddBreadcrumbs, CaptureEvent, CaptureMessage, CaptureError, LastEventId, Client, IsActive, Scope, PushScope, PopScope, NewHubFromTop, ReleaseHub, BindClient}
+use Rattle.sentry_engine.specs.declared.call.Call.TheVariants.{AddClient, Options, Dsn, IsEnabled, SampleShouldSend, PrepareEvent, ClientCaptureEvent, SendEnvelope, DropClient, TakeReport, Absorb, NewHub, Configure, AddBreadcrumbs, CaptureEvent, CaptureMessage, CaptureError, LastEventId, Client, IsActive, Scope, PushScope, PopScope, NewHubFromTop, ReleaseHub, BindClient, StartSession, EndSessionWithStatus, Flush}
 use Rattle.sentry_engine.specs.declared.call.Reply.{Reply}
 use Rattle.sentry_engine.specs.declared.call.Reply.TheVariants as reply
 use Rattle.sentry_engine.specs.Worlds.{World}
@@ -13,6 +13,7 @@ use Rattle.sentry_engine.specs.Clients as clients
 use Rattle.sentry_engine.specs.Hubs as hubs
 use Rattle.sentry_engine.specs.Layers as layers
 use Rattle.sentry_engine.specs.Losses as losses
+use Rattle.sentry_engine.specs.Sessions as sessions
 
 module _ {P C T : Type 0} where
   -- an answer whose reply is put into the one type of replies
@@ -28,13 +29,10 @@ module _ {P C : Type 0} where
   abbrev pub takes_no_memory : Call P C → Bool
   takes_no_memory (IsEnabled client) = true
   takes_no_memory (SampleShouldSend rate draw) = true
-  takes_no_memory (DropClient client) = true
   takes_no_memory (Absorb label losses) = true
   takes_no_memory (LastEventId hub) = true
   takes_no_memory (Client hub) = true
   takes_no_memory (IsActive hub) = true
-  takes_no_memory (PopScope hub depth now) = true
-  takes_no_memory (ReleaseHub hub now) = true
   takes_no_memory (BindClient hub client) = true
   takes_no_memory call = false
 
@@ -52,11 +50,12 @@ module _ {P C : Type 0} (gives : P → Partial) (meanings : C → Meanings) wher
   step (ClientCaptureEvent client event scope fresh) world =
       map_reply reply.Event (clients.client_capture_event gives meanings client event scope fresh world)
   step (SendEnvelope client envelope) world = map_reply (λ _. reply.Done) (clients.send_envelope client envelope world)
+  step (Flush client) world = map_reply (λ _. reply.Done) (clients.flush client world)
   step (DropClient client) world = map_reply (λ _. reply.Done) (clients.drop_client client world)
   step (TakeReport label) world = map_reply reply.Report (losses.take_report label world)
   step (Absorb label lost) world = map_reply (λ _. reply.Done) (losses.absorb label lost.quantities world)
   step (NewHub client scope) world = map_reply reply.Hub (hubs.new_hub client scope world)
-  step (Configure hub edits now) world = map_reply (λ _. reply.Done) (hubs.configure hub edits world)
+  step (Configure hub edits now) world = map_reply (λ _. reply.Done) (hubs.configure hub edits now world)
   step (AddBreadcrumbs hub breadcrumbs) world =
       map_reply (λ _. reply.Done) (hubs.add_breadcrumbs meanings hub breadcrumbs world)
   step (CaptureEvent hub event fresh) world =
@@ -70,10 +69,13 @@ module _ {P C : Type 0} (gives : P → Partial) (meanings : C → Meanings) wher
   step (IsActive hub) world = map_reply reply.Decision (hubs.is_active hub world)
   step (Scope hub) world = map_reply reply.Scope (hubs.scope hub world)
   step (PushScope hub) world = map_reply (λ pushed. reply.Depth pushed.1) (layers.push_scope hub world)
-  step (PopScope hub depth now) world = map_reply (λ _. reply.Done) (layers.pop_scope hub depth world)
+  step (PopScope hub depth now) world = map_reply (λ _. reply.Done) (layers.pop_scope hub depth now world)
   step (NewHubFromTop hub) world = map_reply reply.Hub (layers.new_hub_from_top hub world)
-  step (ReleaseHub hub now) world = map_reply (λ _. reply.Done) (layers.release_hub hub world)
+  step (ReleaseHub hub now) world = map_reply (λ _. reply.Done) (layers.release_hub hub now world)
   step (BindClient hub client) world = map_reply (λ _. reply.Done) (layers.bind_client hub client world)
+  step (StartSession hub fresh) world = map_reply (λ _. reply.Done) (sessions.start_session hub fresh world)
+  step (EndSessionWithStatus hub status now) world =
+      map_reply (λ _. reply.Done) (sessions.end_session_with_status hub status now world)
 
   -- the call may be answered so, and lead on to the next world, which a refusal leaves as it was
   abbrev pub May : World P C → Call P C → Result (Out (Reply P C)) Refusal → World P C → Type 0

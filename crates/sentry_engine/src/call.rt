@@ -13,7 +13,7 @@ use crate::engine::{Engine, Out};
 use sentry_base::dsn::Dsn;
 use sentry_base::protocol::{
     Breadcrumb, ClientKey, ClientReport, Draw, Envelope, ErrorLink, Event, Fresh, HubKey, Label,
-    Level, Losses, Refusal, SampleRate, Uuid,
+    Level, Losses, Refusal, SampleRate, SessionStatus, Uuid,
 };
 use sentry_plain::{Boxed, Items, Shared, Text};
 use sentry_state::callbacks::EventCallback;
@@ -56,6 +56,7 @@ pub enum Call<P, C> {
         client: ClientKey,
         envelope: Envelope,
     },
+    Flush(ClientKey),
     DropClient(ClientKey),
     TakeReport(Label),
     /// Stands for `absorb`, of plain numbers.
@@ -116,6 +117,16 @@ pub enum Call<P, C> {
     BindClient {
         hub: HubKey,
         client: Option<ClientKey>,
+    },
+    StartSession {
+        hub: HubKey,
+        fresh: Fresh,
+    },
+    EndSessionWithStatus {
+        hub: HubKey,
+        status: SessionStatus,
+        /// The moment in nanoseconds since the epoch.
+        now: u64,
     },
 }
 
@@ -209,6 +220,7 @@ impl<P: EventCallback + Drop, C: Callbacks> Engine<P, C> {
             Call::SendEnvelope { client, envelope } => {
                 answer_of(self.send_envelope(client, envelope))
             }
+            Call::Flush(client) => answer_of(self.flush(client)),
             Call::DropClient(client) => answer_of(self.drop_client(client)),
             Call::TakeReport(label) => answer_of(self.take_report(label)),
             Call::Absorb { label, losses } => answer_of(self.absorb_losses(label, losses.get())),
@@ -242,6 +254,10 @@ impl<P: EventCallback + Drop, C: Callbacks> Engine<P, C> {
             Call::NewHubFromTop(hub) => answer_of(self.new_hub_from_top(hub)),
             Call::ReleaseHub { hub, now } => answer_of(self.release_hub(hub, now)),
             Call::BindClient { hub, client } => answer_of(self.bind_client(hub, client)),
+            Call::StartSession { hub, fresh } => answer_of(self.start_session(hub, fresh)),
+            Call::EndSessionWithStatus { hub, status, now } => {
+                answer_of(self.end_session_with_status(hub, status, now))
+            }
         }
     }
 

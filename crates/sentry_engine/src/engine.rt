@@ -1,7 +1,9 @@
 //! What an engine holds, and how its calls find and change it.
 ghost use Rattle.std.specs.Prelude.{◌≡◌, [], Some, option_copied};
 ghost use Rattle.sentry_plain.specs.Tables.{value_at};
-ghost use Rattle.sentry_engine.specs.Worlds.{World, Stands, first_world, starting_world};
+ghost use Rattle.std.specs.Option.{option_map};
+ghost use Rattle.sentry_engine.specs.Worlds.{World, Stands, first_world, starting_world, plain_session};
+ghost use Rattle.sentry_engine.specs.SessionEnds.{named_session};
 ghost use Rattle.sentry_engine.specs.Outcomes.{hub_at, plain_client_at, is_held_or_none};
 
 mod books;
@@ -9,11 +11,17 @@ mod captures;
 mod clients;
 mod hubs;
 mod layers;
+mod sending;
+mod session_ends;
+mod sessions;
 
 pub use layers::ScopeGuard;
-use sentry_base::protocol::{ClientKey, Envelope, HubKey, Label, Uuid};
+use sentry_base::protocol::{ClientKey, Envelope, HubKey, Label, Log, Metric, SessionKey, Uuid};
+use sentry_parts::batcher::Batch;
 use sentry_parts::client_reports::LossBook;
 use sentry_parts::os_attributes::OsAttributes;
+use sentry_parts::session::{Session, SessionQueue};
+use sentry_parts::tick::LastTick;
 use sentry_plain::{Items, Shared, Table};
 use sentry_state::callbacks::EventCallback;
 use sentry_state::clientoptions::{Callbacks, ClientOptions};
@@ -27,6 +35,16 @@ pub struct Out<T> {
     pub sent: Items<(ClientKey, Envelope)>,
 }
 
+// What waits in a client to be sent.
+#[derive(Drop)]
+struct Queues {
+    sessions: SessionQueue,
+    // That of the ended sessions; the batches have their own.
+    session_tick: LastTick,
+    logs: Batch<Log>,
+    metrics: Batch<Metric>,
+}
+
 // What an engine keeps of a client.
 struct Client<C> {
     options: Shared<ClientOptions<C>>,
@@ -36,6 +54,9 @@ struct Client<C> {
     occupied: bool,
     // What its logs say of the operating system by default.
     os: OsAttributes,
+    // Whether nothing comes to the queues any more.
+    closed: bool,
+    queues: Queues,
 }
 
 impl<C: Drop> Drop for Client<C> {
@@ -45,6 +66,8 @@ impl<C: Drop> Drop for Client<C> {
             label: _,
             occupied: _,
             os: _,
+            closed: _,
+            queues: _,
         } = self;
     }
 }
@@ -69,15 +92,18 @@ impl<P: Drop> Drop for Hub<P> {
 struct NextNumbers {
     client: u64,
     hub: u64,
+    session: u64,
 }
 
-/// Holds clients and hubs by key, and decides what every call on them replies and hands out. `P` is the type of a
+/// Holds clients, hubs and sessions by key, and decides what every call on them replies and hands out. `P` is the type of a
 /// scope's processors, `C` that of a client's callbacks. A refused call changes nothing.
 pub struct Engine<P, C> {
     tag: u64,
     next: NextNumbers,
     clients: Table<Client<C>>,
     hubs: Table<Hub<P>>,
+    // Those that go on.
+    sessions: Table<Session>,
     // The losses of each label that a client names, by the label's number.
     books: Table<LossBook>,
     alloc: Global,
@@ -90,6 +116,7 @@ impl<P: Drop, C: Drop> Drop for Engine<P, C> {
             next: _,
             clients: _,
             hubs: _,
+            sessions: _,
             books: _,
             alloc: _,
         } = self;
@@ -114,9 +141,11 @@ impl<P: EventCallback + Drop, C: Callbacks> Engine<P, C> {
             next: NextNumbers {
                 client: first,
                 hub: first,
+                session: first,
             },
             clients: Table::new(alloc),
             hubs: Table::new(alloc),
+            sessions: Table::new(alloc),
             books: Table::new(alloc),
             alloc,
         }
@@ -141,6 +170,19 @@ impl<P: EventCallback + Drop, C: Callbacks> Engine<P, C> {
             return None;
         }
         self.clients.get(key.number)
+    }
+
+    // The session that a layer names, if it still goes on.
+    #[tactic(auto, using(crate::proofs::Keeping::session_in_world))]
+    fn named_session(&self, name: Option<SessionKey>) -> Option<&Session>
+        ensures { (world : World P C) → Stands self.now world →
+            option_copied result ≡ option_map plain_session (named_session world name) }
+    {
+        let key = name?;
+        if key.tag != self.tag {
+            return None;
+        }
+        self.sessions.get(key.number)
     }
 
     // No client is named, or one that is held.

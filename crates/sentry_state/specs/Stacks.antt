@@ -2,6 +2,7 @@
 use Rattle.std.specs.Prelude.{ℕ, ◌==◌, Bool, false, ◌&&◌, Option, None, Some, List, [], ◌∷◌, ◌++◌, length}
 use Rattle.std.specs.List.{list_any}
 use Rattle.sentry_base.specs.declared.protocol.keys.ClientKey.{ClientKey}
+use Rattle.sentry_base.specs.declared.protocol.keys.SessionKey.{SessionKey}
 use Rattle.sentry_state.specs.declared.scope.Scope.{Scope}
 use Rattle.sentry_state.specs.declared.scope.stack.Stack.{Stack}
 use Rattle.sentry_state.specs.declared.scope.stack.StackLayer.{StackLayer}
@@ -10,6 +11,11 @@ use Rattle.sentry_state.specs.declared.scope.stack.StackLayer.{StackLayer}
 abbrev pub is_client : ClientKey → Option ClientKey → Bool
 is_client key None = false
 is_client key (Some named) = (named.tag == key.tag) && (named.number == key.number)
+
+-- the session is named, and is this one
+abbrev pub is_session : SessionKey → Option SessionKey → Bool
+is_session key None = false
+is_session key (Some named) = (named.tag == key.tag) && (named.number == key.number)
 
 module _ {P : Type 0} where
   -- a stack of one layer, without a session
@@ -50,3 +56,7 @@ module _ {P : Type 0} where
   -- a layer of the stack names the client
   abbrev pub names_client : ClientKey → Stack P → Bool
   names_client key stack = list_any (λ layer. is_client key layer.client) (stack.top ∷ stack.below)
+
+  -- a layer of the stack names the session
+  abbrev pub names_session : SessionKey → Stack P → Bool
+  names_session key stack = list_any (λ layer. is_session key layer.session) (stack.top ∷ stack.below)

@@ -45,6 +45,7 @@ impl<P: EventCallback + Drop, C: Callbacks> Engine<P, C> {
         ensures in_world { (world : World P C) → Stands self.old world →
             Stands self.new (with_entry world label report_point) }
         ensures hubs { self.new.hubs ≡ self.old.hubs }
+        ensures next { self.new.next ≡ self.old.next }
     {
         let Some(book) = self.books.get_mut(label.number) else {
             return;
@@ -58,6 +59,7 @@ impl<P: EventCallback + Drop, C: Callbacks> Engine<P, C> {
         ensures in_world { (world : World P C) → Stands self.old world →
             Stands self.new (with_entry world label (lost_event reason)) }
         ensures hubs { self.new.hubs ≡ self.old.hubs }
+        ensures next { self.new.next ≡ self.old.next }
     {
         let Some(book) = self.books.get_mut(label.number) else {
             return;

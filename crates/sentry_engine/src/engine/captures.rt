@@ -1,28 +1,34 @@
 //! What becomes of a captured event: whether it is sent, with which report, and what is lost.
-ghost use Rattle.std.specs.Prelude.{◌≡◌, IfOk, OnOk, Some};
+ghost use Rattle.std.specs.Prelude.{◌≡◌, ◌&&◌, IfOk, OnOk, Option, Some, is_some};
 ghost use Rattle.std.specs.Option.{option_copied, option_map};
 ghost use Rattle.sentry_base.specs.declared.protocol.event.Event.{Event};
 ghost use Rattle.sentry_parts.specs.Pipeline.{loss_reason};
-ghost use Rattle.sentry_engine.specs.Worlds.{World, Stands};
+ghost use Rattle.sentry_plain.specs.Tables.{replace_at};
+ghost use Rattle.sentry_engine.specs.SessionEnds.{named_session};
+ghost use Rattle.sentry_engine.specs.Worlds.{World, SessionState, Stands, plain_session};
 ghost use Rattle.sentry_engine.specs.Books.{pending_report, with_report, with_entry_if_any};
-ghost use Rattle.sentry_engine.specs.Captures.{capture, capture_entry, captured_id, captured_envelopes};
-ghost use Rattle.sentry_engine.specs.Captures.{attachments_of, with_attachments};
+ghost use Rattle.sentry_engine.specs.Captures.{capture, capture_entry, captured_id, captured_envelopes, sent_event};
+ghost use Rattle.sentry_engine.specs.Captures.{attachments_of, with_attachments, with_update};
+ghost use Rattle.sentry_engine.specs.Captures.{SessionCapture, capture_session, is_application, with_reached};
+ghost use Rattle.sentry_engine.specs.Captures.{session_after, update_along, with_captured_session};
 ghost use Rattle.sentry_base.specs.Envelopes.{empty_envelope, with_item};
 ghost use Rattle.sentry_base.specs.declared.protocol.envelope.EnvelopeItem.TheVariants as item;
 
 use crate::engine::{Client, Engine};
 use sentry_base::protocol::{
-    Attachment, ClientKey, ClientReport, Envelope, EnvelopeItem, Event, Fresh, Label, Uuid,
+    Attachment, ClientKey, ClientReport, Envelope, EnvelopeItem, Event, Fresh, Label, SessionKey,
+    SessionUpdate, Uuid,
 };
 use sentry_parts::pipeline::{Preparation, prepare_event};
+use sentry_parts::session::Session;
 use sentry_plain::Items;
 use sentry_state::callbacks::EventCallback;
-use sentry_state::clientoptions::Callbacks;
+use sentry_state::clientoptions::{Callbacks, SessionMode};
 use sentry_state::scope::Scope;
 use std::alloc::{AllocError, Global};
 
-// Makes of a captured event the one that the client sends, in place: `None` if it sends none. Returns what became of
-// the event, or `None` on an empty slot.
+// Runs a captured event through the pipeline, in place: the event that came through all callbacks is left, or `None`.
+// Returns what became of it, or `None` on an empty slot.
 #[tactic(auto, unfolding(crate::specs::Captures::capture))]
 pub(super) fn capture<P: EventCallback + Drop, C: Callbacks>(
     alloc: Global,
@@ -34,20 +40,68 @@ pub(super) fn capture<P: EventCallback + Drop, C: Callbacks>(
     ensures entry { (given : Event) → event.old ≡ Some given → IfOk result (λ preparation.
         option_map (λ p. capture_entry (loss_reason p)) preparation
         ≡ (capture P.gives C.meanings client.now (option_copied scope.entry) fresh given).entry) }
-    ensures event { (given : Event) → event.old ≡ Some given → OnOk result (event.new ≡
-        (capture P.gives C.meanings client.now (option_copied scope.entry) fresh given).event) }
+    ensures reached { (given : Event) → event.old ≡ Some given → OnOk result (event.new ≡
+        (capture P.gives C.meanings client.now (option_copied scope.entry) fresh given).reached) }
+    ensures event { (given : Event) → event.old ≡ Some given → IfOk result (λ preparation.
+        sent_event preparation event.new
+        ≡ (capture P.gives C.meanings client.now (option_copied scope.entry) fresh given).event) }
 {
     if !client.occupied {
         *event = None;
         return Ok(None);
     }
-    match prepare_event(alloc, client.options.get(), scope, fresh, event)? {
-        Preparation::Kept => Ok(Some(Preparation::Kept)),
-        lost => {
-            *event = None;
-            Ok(Some(lost))
-        }
+    let preparation = prepare_event(alloc, client.options.get(), scope, fresh, event)?;
+    Ok(Some(preparation))
+}
+
+// Drops an event that is not to be sent.
+pub(super) fn drop_unsent(preparation: &Option<Preparation>, event: &mut Option<Event>)
+    ensures { event.new ≡ sent_event preparation.now event.old }
+{
+    match preparation {
+        Some(Preparation::Kept) => {}
+        Some(Preparation::SampledOut) | Some(Preparation::Dropped(_)) | None => *event = None,
     }
+}
+
+// Whether an event that became this is sent along with its session's update.
+pub(super) fn takes_update<C>(client: &Client<C>, preparation: &Option<Preparation>, event: &Option<Event>) -> bool
+    ensures { result ≡ (is_some (sent_event preparation.now event.now)
+        && is_application client.now.options.plain.session_mode) }
+{
+    matches!(client.options.get().plain.session_mode, SessionMode::Application)
+        && matches!(preparation, Some(Preparation::Kept))
+        && event.is_some()
+}
+
+// Counts an event that came through all callbacks, if it did.
+fn count_reached(session: &mut Session, event: &Option<Event>)
+    ensures { (state : SessionState) → session.old ≡ plain_session state →
+        session.new ≡ plain_session (with_reached event.now state) }
+{
+    if let Some(event) = event {
+        session.update_from_event(event);
+    }
+}
+
+// What a capture does to a session: the update that goes out with the event, and the session after it.
+#[tactic(auto, unfolding(crate::specs::Captures::capture_session))]
+fn capture_session(
+    session: &Session,
+    takes: bool,
+    reached: &Option<Event>,
+) -> Result<(Option<SessionUpdate>, Session), AllocError>
+    ensures { IfOk result (λ captured. (state : SessionState) → session.now ≡ plain_session state →
+        (captured.0 ≡ (capture_session takes reached.now state).update)
+        × (captured.1 ≡ plain_session (capture_session takes reached.now state).after)) }
+{
+    let mut after = session.clone()?;
+    count_reached(&mut after, reached);
+    if !takes {
+        return Ok((None, after));
+    }
+    let update = after.create_envelope_item()?;
+    Ok((update, after))
 }
 
 // The id that a capture replies.
@@ -73,6 +127,16 @@ pub(super) fn add_report(
     }
 }
 
+// Adds a session's update as the last item, if there is one.
+fn add_update(envelope: &mut Envelope, update: Option<SessionUpdate>) -> Result<(), AllocError>
+    ensures { OnOk result (envelope.new ≡ with_update update envelope.old) }
+{
+    match update {
+        None => Ok(()),
+        Some(update) => envelope.add_item(EnvelopeItem::SessionUpdate(update)),
+    }
+}
+
 // Adds copies of attachments as the last items.
 fn add_attachments(envelope: &mut Envelope, attachments: &[Attachment]) -> Result<(), AllocError>
     ensures { OnOk result (envelope.new ≡ with_attachments attachments.now envelope.old) }
@@ -83,44 +147,99 @@ fn add_attachments(envelope: &mut Envelope, attachments: &[Attachment]) -> Resul
     Ok(())
 }
 
+// The attachments of a scope, if there is one.
+fn attachments_of<P>(scope: Option<&Scope<P>>) -> &[Attachment]
+    ensures { result.now ≡ attachments_of (option_copied scope.entry) }
+{
+    match scope {
+        None => &[],
+        Some(scope) => scope.attachments.as_slice(),
+    }
+}
+
 // The envelope of an event, with room for a report.
-fn event_envelope<P: Drop>(
+fn event_envelope(
     alloc: Global,
     event: Event,
-    scope: Option<&Scope<P>>,
+    update: Option<SessionUpdate>,
+    attachments: &[Attachment],
 ) -> Result<Envelope, AllocError>
     ensures { IfOk result (λ envelope. envelope ≡
-        with_attachments (attachments_of (option_copied scope.entry)) (with_item empty_envelope (item.Event event))) }
+        with_attachments attachments.now (with_update update (with_item empty_envelope (item.Event event)))) }
 {
-    let Some(scope) = scope else {
-        let mut envelope = Envelope::with_capacity(alloc, 2)?;
-        envelope.add_item(EnvelopeItem::Event(event))?;
-        return Ok(envelope);
-    };
-    let attachments = scope.attachments.as_slice();
-    let mut envelope = Envelope::with_capacity(alloc, attachments.len().saturating_add(2))?;
+    let mut envelope = Envelope::with_capacity(alloc, attachments.len().saturating_add(3))?;
     envelope.add_item(EnvelopeItem::Event(event))?;
+    add_update(&mut envelope, update)?;
     add_attachments(&mut envelope, attachments)?;
     Ok(envelope)
 }
 
 impl<P: EventCallback + Drop, C: Callbacks> Engine<P, C> {
-    // The envelopes of a capture: the event, the attachments of the scope, and the pending report as the last item.
+    // What a capture does to the session that a layer names, if it still goes on: the update that goes out with the
+    // event, and the session after it.
+    pub(super) fn capture_named_session(
+        &self,
+        name: Option<SessionKey>,
+        takes: bool,
+        reached: &Option<Event>,
+    ) -> Result<(Option<SessionUpdate>, Option<Session>), AllocError>
+        ensures { IfOk result (λ captured. (world : World P C) → Stands self.now world →
+            let expected = option_map (capture_session takes reached.now) (named_session world name) in
+            (captured.0 ≡ update_along expected) × (captured.1 ≡ session_after expected)) }
+    {
+        let Some(session) = self.named_session(name) else {
+            return Ok((None, None));
+        };
+        let (update, after) = capture_session(session, takes, reached)?;
+        Ok((update, Some(after)))
+    }
+
+    // Writes a session, if there is one under the number.
+    fn set_session(&mut self, number: u64, after: Session)
+        ensures in_world { (world : World P C) (state : SessionState) → Stands self.old world →
+            after ≡ plain_session state →
+            Stands self.new (record world { sessions = replace_at world.sessions number state }) }
+        ensures hubs { self.new.hubs ≡ self.old.hubs }
+    {
+        let Some(session) = self.sessions.get_mut(number) else {
+            return;
+        };
+        *session = after;
+    }
+
+    // Writes the session that a layer names as it is after a capture.
+    pub(super) fn set_named_session(&mut self, name: Option<SessionKey>, after: Option<Session>)
+        ensures in_world { (world : World P C) (captured : Option SessionCapture) → Stands self.old world →
+            after ≡ session_after captured → Stands self.new (with_captured_session world name captured) }
+        ensures hubs { self.new.hubs ≡ self.old.hubs }
+    {
+        let Some(key) = name else {
+            return;
+        };
+        let Some(after) = after else {
+            return;
+        };
+        self.set_session(key.number, after);
+    }
+
+    // The envelopes of a capture: the event, the session's update, the attachments of the scope, and the pending report
+    // as the last item.
     pub(super) fn captured_envelopes(
         &self,
         key: ClientKey,
         label: Label,
+        update: Option<SessionUpdate>,
         scope: Option<&Scope<P>>,
         event: Option<Event>,
     ) -> Result<Items<(ClientKey, Envelope)>, AllocError>
         ensures { (world : World P C) → Stands self.now world → IfOk result (λ sent. sent ≡ captured_envelopes key
-            (attachments_of (option_copied scope.entry)) (pending_report world label) event) }
+            update (attachments_of (option_copied scope.entry)) (pending_report world label) event) }
     {
         let Some(event) = event else {
             return Ok(Items::new(self.alloc));
         };
         let report = self.pending_report(label)?;
-        let mut envelope = event_envelope(self.alloc, event, scope)?;
+        let mut envelope = event_envelope(self.alloc, event, update, attachments_of(scope))?;
         add_report(&mut envelope, report)?;
         let mut sent = Vec::with_capacity(self.alloc, 1)?;
         sent.push_reserved((key, envelope));

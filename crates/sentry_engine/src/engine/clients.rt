@@ -1,26 +1,30 @@
 //! The calls on clients.
 ghost use Rattle.std.specs.List.{list_any};
-ghost use Rattle.std.specs.Prelude.{◌≡◌, IfOk, OnOk, OnErr, Ok, [], nat_lt};
-ghost use Rattle.sentry_plain.specs.Tables.{put, without};
-ghost use Rattle.sentry_engine.specs.Worlds.{World, ClientState, Stands, plain_client};
+ghost use Rattle.std.specs.Prelude.{◌≡◌, IfOk, OnOk, OnErr, Ok, Some, [], nat_lt};
+ghost use Rattle.sentry_plain.specs.Tables.{value_at, put, replace_at, without};
+ghost use Rattle.sentry_state.specs.Stacks.{is_client};
+ghost use Rattle.sentry_engine.specs.Worlds.{World, ClientState, Stands, plain_client, plain_queues};
 ghost use Rattle.sentry_engine.specs.Books.{with_book, is_label, without_unused_book};
-ghost use Rattle.sentry_engine.specs.Outcomes.{Does, DoesWithoutMemory};
+ghost use Rattle.sentry_engine.specs.Outcomes.{Does, DoesWithoutMemory, client_at};
 ghost use Rattle.std.specs.Option.{option_copied};
-ghost use Rattle.sentry_engine.specs.Clients.{is_client_named, set_up};
+ghost use Rattle.sentry_engine.specs.Clients.{is_client_named, set_up, new_client, queues_from, flush_all, flush_queues};
 ghost use Rattle.sentry_engine.specs.Clients as call;
 
-use crate::engine::captures::{add_report, capture, captured_id};
-use crate::engine::{Client, Engine, Hub, Out};
+use crate::engine::captures::{add_report, capture, captured_id, drop_unsent};
+use crate::engine::{Client, Engine, Hub, Out, Queues};
 use sentry_base::dsn::Dsn;
 use sentry_base::protocol::{
     ClientKey, Draw, Envelope, Event, Fresh, Label, Refusal, SampleRate, Uuid,
 };
+use sentry_parts::batcher::Batch;
 use sentry_parts::client_reports::LossBook;
 use sentry_parts::os_attributes::os_attributes;
 use sentry_parts::pipeline::prepare_event;
+use sentry_parts::session::{Session, SessionQueue};
+use sentry_parts::tick::LastTick;
 use sentry_plain::{Boxed, Items, Shared, Table};
 use sentry_state::callbacks::EventCallback;
-use sentry_state::clientoptions::{Callbacks, ClientOptions};
+use sentry_state::clientoptions::{Callbacks, ClientOptions, SessionMode};
 use sentry_state::scope::Scope;
 use std::alloc::{AllocError, Global};
 
@@ -43,6 +47,55 @@ fn set_up<C: Callbacks>(
 {
     options.callbacks.set_up(&mut options.plain)?;
     Shared::new(alloc, options)
+}
+
+// The queues of a client of this session mode that is made at a moment.
+fn queues_from(alloc: Global, mode: SessionMode, now: u64) -> Queues
+    ensures { result ≡ plain_queues mode (queues_from now) }
+{
+    Queues {
+        sessions: SessionQueue::new(alloc, mode),
+        session_tick: LastTick(now),
+        logs: Batch::new(alloc, now),
+        metrics: Batch::new(alloc, now),
+    }
+}
+
+// A client with these options, after the `setup` of its integrations.
+#[tactic(auto, unfolding(crate::specs::Clients::new_client))]
+fn new_client<C: Callbacks>(
+    alloc: Global,
+    options: ClientOptions<C>,
+    transport: bool,
+    label: Label,
+    now: u64,
+) -> Result<Client<C>, AllocError>
+    ensures { IfOk result (λ client. client ≡ plain_client (new_client C.meanings options transport label now)) }
+{
+    let occupied = options.plain.dsn.is_some() && transport;
+    let options = set_up(alloc, options)?;
+    let os = os_attributes(alloc, options.get(), now)?;
+    let queues = queues_from(alloc, options.get().plain.session_mode, now);
+    Ok(Client {
+        options,
+        label,
+        occupied,
+        os,
+        closed: false,
+        queues,
+    })
+}
+
+// Whether a session that goes on was started under the client.
+fn has_session_of(sessions: &Table<Session>, client: ClientKey) -> bool
+    ensures { result ≡ list_any (λ entry. is_client client (Some entry.1.start.client)) sessions.now }
+{
+    for (_, session) in sessions.iter() {
+        if session.start.client == client {
+            return true;
+        }
+    }
+    false
 }
 
 // Whether a layer of a hub names the client.
@@ -130,15 +183,7 @@ impl<P: EventCallback + Drop, C: Callbacks> Engine<P, C> {
             return Err(Refusal::Full);
         }
         let number = self.next.client;
-        let occupied = options.plain.dsn.is_some() && transport;
-        let options = set_up(self.alloc, options)?;
-        let os = os_attributes(self.alloc, options.get(), now)?;
-        let client = Client {
-            options,
-            label,
-            occupied,
-            os,
-        };
+        let client = new_client(self.alloc, options, transport, label, now)?;
         self.insert_client_and_book(number, client)?;
         self.next.client = number + 1;
         Ok(self.out(ClientKey {
@@ -167,13 +212,63 @@ impl<P: EventCallback + Drop, C: Callbacks> Engine<P, C> {
         self.books.remove(label.number);
     }
 
-    /// Gives a client back, which no layer of a hub names. Its key is stale from then on. With the last client of a
-    /// label go the losses that are pending under it.
+    // Forgets what waits in the queues of a client that is held, once it was sent.
+    fn mark_flushed(&mut self, number: u64)
+        ensures { (world : World P C) (client : ClientState C) → Stands self.old world →
+            value_at self.old.clients number ≡ Some (plain_client client) →
+            Stands self.new (record world { clients = replace_at world.clients number (flush_all client) }) }
+    {
+        let Some(client) = self.clients.get_mut(number) else {
+            return;
+        };
+        client.queues.sessions.mark_flushed();
+    }
+
+    // Sends what waits in the queues of a client that is held. If out of memory, nothing has changed.
+    #[tactic(auto, unfolding(crate::specs::Clients::flush_queues))]
+    fn flush_queues(&mut self, key: ClientKey) -> Result<Items<(ClientKey, Envelope)>, AllocError>
+        ensures in_world { IfOk result (λ sent. (world : World P C) (client : ClientState C) → Stands self.old world →
+            client_at world key ≡ Some client → (sent ≡ (flush_queues key client world).sent)
+            × Stands self.new (flush_queues key client world).after) }
+        ensures err { OnErr result (self.new ≡ self.old) }
+    {
+        let Some(client) = self.client_at(key) else {
+            return Ok(Items::new(self.alloc));
+        };
+        if client.closed {
+            return Ok(Items::new(self.alloc));
+        }
+        let label = client.label;
+        let envelopes = client.queues.sessions.envelopes()?;
+        let sent = self.envelopes_from(client.occupied, key, label, envelopes)?;
+        self.mark_flushed(key.number);
+        self.mark_sent(label, &sent);
+        Ok(sent)
+    }
+
+    /// Sends what waits in the queues of a client: the ended sessions. Without a transport it is dropped.
     ///
-    /// `Stale`: the client isn't held. `StillNamed`: a layer of a hub names it.
+    /// `Stale`: the client isn't held. `OutOfMemory`.
+    #[tactic(auto, unfolding(crate::specs::Clients::flush))]
+    pub fn flush(&mut self, client: ClientKey) -> Result<Out<()>, Refusal>
+        ensures { Does self.old self.new result (call.flush client) }
+    {
+        if self.client_at(client).is_none() {
+            return Err(Refusal::Stale);
+        }
+        let sent = self.flush_queues(client)?;
+        Ok(Out { reply: (), sent })
+    }
+
+    /// Gives a client back, which no layer of a hub names and under which no session goes on. What waits in its queues
+    /// is sent, as by `flush`. Its key is stale from then on. With the last client of a label go the losses that are
+    /// pending under it.
+    ///
+    /// `Stale`: the client isn't held. `StillNamed`: a layer of a hub names it, or a session that goes on started under
+    /// it. `OutOfMemory`.
     #[tactic(auto, unfolding(crate::specs::Clients::drop_client))]
     pub fn drop_client(&mut self, client: ClientKey) -> Result<Out<()>, Refusal>
-        ensures { DoesWithoutMemory self.old self.new result (call.drop_client client) }
+        ensures { Does self.old self.new result (call.drop_client client) }
     {
         let Some(held) = self.client_at(client) else {
             return Err(Refusal::Stale);
@@ -182,9 +277,13 @@ impl<P: EventCallback + Drop, C: Callbacks> Engine<P, C> {
         if is_client_named(&self.hubs, client) {
             return Err(Refusal::StillNamed);
         }
+        if has_session_of(&self.sessions, client) {
+            return Err(Refusal::StillNamed);
+        }
+        let sent = self.flush_queues(client)?;
         self.remove_client(client.number);
         self.remove_unused_book(label);
-        Ok(self.out(()))
+        Ok(Out { reply: (), sent })
     }
 
     /// The options of a client, as a share: after the `setup` of its integrations, which are among them.
@@ -259,8 +358,9 @@ impl<P: EventCallback + Drop, C: Callbacks> Engine<P, C> {
         let label = held.label;
         let mut event = Some(event);
         let preparation = capture(self.alloc, held, scope, fresh, &mut event)?;
+        drop_unsent(&preparation, &mut event);
         let reply = captured_id(&event);
-        let sent = self.captured_envelopes(client, label, scope, event)?;
+        let sent = self.captured_envelopes(client, label, None, scope, event)?;
         self.note_capture(label, preparation);
         Ok(Out { reply, sent })
     }

@@ -1,5 +1,5 @@
 //! The calls on hubs.
-ghost use Rattle.std.specs.Prelude.{◌≡◌, ◌<◌, ◌-◌, ◌^◌, nat_lt, IfOk, IfErr, OnOk, OnErr, Some, [], ◌∷◌, is_some, if◌then◌else◌};
+ghost use Rattle.std.specs.Prelude.{◌≡◌, ◌<◌, ℕ, true, false, ◌-◌, ◌^◌, nat_lt, IfOk, IfErr, OnOk, OnErr, Some, [], ◌∷◌, is_some, if◌then◌else◌};
 ghost use Rattle.std.specs.Bool.{OnTrue};
 ghost use Rattle.sentry_plain.specs.Tables.{value_at, replace_at};
 ghost use Rattle.sentry_state.specs.Scopes.{edit};
@@ -8,10 +8,11 @@ ghost use Rattle.sentry_engine.specs.Worlds.{World, Stands};
 ghost use Rattle.sentry_engine.specs.Outcomes.{Does, DoesWithoutMemory, hub_at, with_scope};
 ghost use Rattle.sentry_base.specs.declared.protocol.event.Event.{Event};
 ghost use Rattle.sentry_engine.specs.Captures.{message_event};
-ghost use Rattle.sentry_engine.specs.Hubs.{next_hub_key, with_breadcrumbs, with_new_hub};
+ghost use Rattle.std.specs.List.{list_any};
+ghost use Rattle.sentry_engine.specs.Hubs.{is_clear, next_hub_key, with_breadcrumbs, with_new_hub};
 ghost use Rattle.sentry_engine.specs.Hubs as call;
 
-use crate::engine::captures::{capture, captured_id};
+use crate::engine::captures::{capture, captured_id, drop_unsent, takes_update};
 use crate::engine::{Engine, Hub, Out};
 use sentry_base::protocol::{
     Breadcrumb, ClientKey, ErrorLink, Event, Fresh, HubKey, Level, Refusal, Uuid,
@@ -37,6 +38,13 @@ fn message_event(
     event.message = Some(message);
     event.level = level;
     Ok(Some(event))
+}
+
+// Whether an edit clears the scope.
+fn is_clear<P>(edit: &ScopeEdit<P>) -> bool
+    ensures { result ≡ is_clear edit.now }
+{
+    matches!(edit, ScopeEdit::Clear(_, _))
 }
 
 // The only item, or all of them back.
@@ -167,10 +175,11 @@ impl<P: EventCallback + Drop, C: Callbacks> Engine<P, C> {
         Ok(self.out(key))
     }
 
-    // One edit, which costs what it changes.
+    // One edit that doesn't clear the scope. It costs what it changes.
     #[tactic(auto, unfolding(crate::specs::Hubs::configure))]
     fn configure_one(&mut self, hub: HubKey, edit: ScopeEdit<P>) -> Result<Out<()>, Refusal>
-        ensures { Does self.old self.new result (call.configure hub (edit ∷ [])) }
+        requires { is_clear edit ≡ false }
+        ensures { (now : ℕ) → Does self.old self.new result (call.configure hub (edit ∷ []) now) }
     {
         if self.hub_at(hub).is_none() {
             return Err(Refusal::Stale);
@@ -179,10 +188,11 @@ impl<P: EventCallback + Drop, C: Callbacks> Engine<P, C> {
         Ok(self.out(()))
     }
 
-    // Several edits, which are done to a copy of the scope, so that all of them are done or none.
+    // Several edits, none of which clears the scope. They are done to a copy, so that all of them are done or none.
     #[tactic(auto, unfolding(crate::specs::Hubs::configure))]
     fn configure_all(&mut self, hub: HubKey, edits: Vec<ScopeEdit<P>>) -> Result<Out<()>, Refusal>
-        ensures { Does self.old self.new result (call.configure hub edits.items) }
+        requires { list_any is_clear edits.items ≡ false }
+        ensures { (now : ℕ) → Does self.old self.new result (call.configure hub edits.items now) }
     {
         let Some(held) = self.hub_at(hub) else {
             return Err(Refusal::Stale);
@@ -193,18 +203,43 @@ impl<P: EventCallback + Drop, C: Callbacks> Engine<P, C> {
         Ok(self.out(()))
     }
 
-    /// Does the edits, in order, to the top scope of a hub. `_now` is the moment in nanoseconds since the epoch, at
-    /// which what they end ends.
+    // Edits one of which clears the scope, which gives up the session of the layer.
+    #[tactic(auto, unfolding(crate::specs::Hubs::configure))]
+    fn clear_and_configure(
+        &mut self,
+        hub: HubKey,
+        edits: Vec<ScopeEdit<P>>,
+        now: u64,
+    ) -> Result<Out<()>, Refusal>
+        requires { list_any is_clear edits.items ≡ true }
+        ensures { Does self.old self.new result (call.configure hub edits.items now) }
+    {
+        let Some(held) = self.hub_at(hub) else {
+            return Err(Refusal::Stale);
+        };
+        let mut scope = held.stack.top.scope.clone()?;
+        scope.edit_all(edits)?;
+        let sent = self.release_session(hub.number, now)?;
+        self.set_scope(hub.number, scope);
+        Ok(Out { reply: (), sent })
+    }
+
+    /// Does the edits, in order, to the top scope of a hub. If one of them clears the scope, the layer gives up the
+    /// session that it names, which ends if no other layer names it. `now` is the moment in nanoseconds since the
+    /// epoch.
     ///
     /// `Stale`: the hub isn't held. `OutOfMemory`: none of the edits is done.
     pub fn configure(
         &mut self,
         hub: HubKey,
         edits: Vec<ScopeEdit<P>>,
-        _now: u64,
+        now: u64,
     ) -> Result<Out<()>, Refusal>
-        ensures { Does self.old self.new result (call.configure hub edits.items) }
+        ensures { Does self.old self.new result (call.configure hub edits.items now) }
     {
+        if edits.iter().any(is_clear) {
+            return self.clear_and_configure(hub, edits, now);
+        }
         match only(edits) {
             Ok(edit) => self.configure_one(hub, edit),
             Err(edits) => self.configure_all(hub, edits),
@@ -278,16 +313,22 @@ impl<P: EventCallback + Drop, C: Callbacks> Engine<P, C> {
         };
         let label = client.label;
         let scope = Some(&held.stack.top.scope);
+        let name = held.stack.top.session;
         let preparation = capture(self.alloc, client, scope, fresh, &mut event)?;
+        let takes = takes_update(client, &preparation, &event);
+        let (update, session) = self.capture_named_session(name, takes, &event)?;
+        drop_unsent(&preparation, &mut event);
         let reply = captured_id(&event);
-        let sent = self.captured_envelopes(key, label, scope, event)?;
+        let sent = self.captured_envelopes(key, label, update, scope, event)?;
         self.note_capture(label, preparation);
+        self.set_named_session(name, session);
         self.set_last_event_id(hub.number, reply);
         Ok(Out { reply, sent })
     }
 
     /// Captures an event on a hub: it goes through the pipeline of the top layer's client, under that layer's scope,
-    /// and out in an envelope. Its id is the reply; the nil id if it was dropped, or if the layer has no client, or the
+    /// and out in an envelope. If it comes through all callbacks, the layer's session counts it, and in the mode of
+    /// applications the envelope takes along what the server is to be told of the session. Its id is the reply; the nil id if it was dropped, or if the layer has no client, or the
     /// client no transport.
     ///
     /// `Stale`: the hub isn't held. `OutOfMemory`.

@@ -106,9 +106,9 @@ impl<P: EventCallback + Drop, C: Callbacks> Engine<P, C> {
         &mut self,
         hub: HubKey,
         depth: usize,
-        _now: u64,
+        now: u64,
     ) -> Result<Out<()>, Refusal>
-        ensures { DoesWithoutMemory self.old self.new result (call.pop_scope hub depth) }
+        ensures { Does self.old self.new result (call.pop_scope hub depth now) }
     {
         let Some(held) = self.hub_at(hub) else {
             return Err(Refusal::Stale);
@@ -119,20 +119,23 @@ impl<P: EventCallback + Drop, C: Callbacks> Engine<P, C> {
         if depth == 0 {
             return Err(Refusal::OutOfOrder);
         }
+        let sent = self.release_session(hub.number, now)?;
         self.pop_layer(hub.number);
-        Ok(self.out(()))
+        Ok(Out { reply: (), sent })
     }
 
-    /// Removes the layer that a guard stands for, which must be the top one of its hub. `now` is the moment in
-    /// nanoseconds since the epoch, at which what the layer ends ends. Each refusal hands the guard back.
+    /// Removes the layer that a guard stands for, which must be the top one of its hub. The session that it names ends
+    /// if no other layer names it. `now` is the moment in nanoseconds since the epoch. Each refusal hands the guard
+    /// back.
     ///
     /// `Stale`: the hub isn't held. `OutOfOrder`: the guard's layer isn't the top one, or is the only one.
+    /// `OutOfMemory`.
     pub fn pop_scope(
         &mut self,
         guard: ScopeGuard,
         now: u64,
     ) -> Result<Out<()>, (Refusal, ScopeGuard)>
-        ensures does { DoesWithoutMemory self.old self.new (without_value result) (call.pop_scope guard.0 guard.1) }
+        ensures does { Does self.old self.new (without_value result) (call.pop_scope guard.0 guard.1 now) }
         ensures back { IfErr result (λ refused. refused.1 ≡ guard) }
     {
         let (hub, depth) = guard.into_parts();
@@ -161,13 +164,13 @@ impl<P: EventCallback + Drop, C: Callbacks> Engine<P, C> {
         Ok(self.out(key))
     }
 
-    /// Gives a hub back, which has one layer. Its key is stale from then on. `_now` is the moment in nanoseconds since
-    /// the epoch, at which what the hub ends ends.
+    /// Gives a hub back, which has one layer. Its key is stale from then on. The session that the layer names ends if no
+    /// other layer names it. `now` is the moment in nanoseconds since the epoch.
     ///
-    /// `Stale`: the hub isn't held. `ScopesOpen`: it has more than one layer.
+    /// `Stale`: the hub isn't held. `ScopesOpen`: it has more than one layer. `OutOfMemory`.
     #[tactic(auto, unfolding(crate::specs::Layers::release_hub))]
-    pub fn release_hub(&mut self, hub: HubKey, _now: u64) -> Result<Out<()>, Refusal>
-        ensures { DoesWithoutMemory self.old self.new result (call.release_hub hub) }
+    pub fn release_hub(&mut self, hub: HubKey, now: u64) -> Result<Out<()>, Refusal>
+        ensures { Does self.old self.new result (call.release_hub hub now) }
     {
         let Some(held) = self.hub_at(hub) else {
             return Err(Refusal::Stale);
@@ -175,8 +178,9 @@ impl<P: EventCallback + Drop, C: Callbacks> Engine<P, C> {
         if held.stack.depth() != 0 {
             return Err(Refusal::ScopesOpen);
         }
+        let sent = self.release_session(hub.number, now)?;
         self.hubs.remove(hub.number);
-        Ok(self.out(()))
+        Ok(Out { reply: (), sent })
     }
 
     /// Gives the top layer of a hub another client, or none. It takes no memory.

@@ -167,40 +167,68 @@ impl SessionQueue {
 }
 
 impl SessionQueue {
-    // Adds an individual update, and sends all that waits if it is the hundredth.
-    fn append(&mut self, update: SessionUpdate) -> Result<Items<Envelope>, AllocError>
-        ensures sent { IfOk result (λ envelopes. envelopes ≡ steps.envelopes_on_append update self.old) }
-        ensures after { OnOk result (self.new ≡ steps.append_or_clear update self.old) }
-        ensures unchanged { OnErr result (self.new ≡ self.old) }
+    // The envelopes of all that waits and of one more individual update.
+    fn envelopes_with_last(&self, update: &SessionUpdate) -> Result<Items<Envelope>, AllocError>
+        ensures { IfOk result (λ envelopes. envelopes ≡ envelopes_of (steps.append update.now self.now)) }
     {
-        let item = EnvelopeItem::SessionUpdate(update);
-        if !self.is_last() {
-            self.individual.push(item)?;
-            return Ok(Items::new(self.individual.allocator()));
-        }
         let mut individual = self.individual.clone()?;
-        individual.push(item)?;
+        individual.push(EnvelopeItem::SessionUpdate(update.clone()?))?;
         let envelopes = self.envelopes_with(individual)?;
-        self.clear();
         Ok(envelopes)
     }
 
-    // Counts an update, or appends it.
-    fn add(&mut self, update: SessionUpdate) -> Result<Items<Envelope>, AllocError>
-        ensures sent { IfOk result (λ envelopes. envelopes ≡ steps.envelopes_on_enqueue update self.old) }
+    // The envelopes that this update sends.
+    fn envelopes_for(&self, update: &SessionUpdate) -> Result<Items<Envelope>, AllocError>
+        ensures { IfOk result (λ envelopes. envelopes ≡ steps.envelopes_on_enqueue update.now self.now) }
+    {
+        if self.is_aggregated(update) {
+            return Ok(Items::new(self.individual.allocator()));
+        }
+        if !self.is_last() {
+            return Ok(Items::new(self.individual.allocator()));
+        }
+        let envelopes = self.envelopes_with_last(update)?;
+        Ok(envelopes)
+    }
+
+    // Counts an update, or keeps it, or forgets all that waits where this one sends it.
+    fn keep(&mut self, update: SessionUpdate) -> Result<(), AllocError>
         ensures after { OnOk result (self.new ≡ steps.enqueue update self.old) }
         ensures unchanged { OnErr result (self.new ≡ self.old) }
     {
         if self.is_aggregated(&update) {
-            self.aggregate(&update)?;
-            return Ok(Items::new(self.individual.allocator()));
+            return self.aggregate(&update);
         }
-        let envelopes = self.append(update)?;
+        if self.is_last() {
+            self.clear();
+            return Ok(());
+        }
+        self.individual.push(EnvelopeItem::SessionUpdate(update))
+    }
+
+    /// Returns the envelopes that are to be sent when a session ends with this update, at most two: none, unless it is
+    /// the hundredth individual update since the last flush. The queue stays as it is.
+    pub fn envelopes_on(&self, update: &SessionUpdate) -> Result<Items<Envelope>, AllocError>
+        ensures { IfOk result (λ envelopes. (mode : SessionMode) (history : List QueueEntry)
+            → self.now ≡ queue_of mode history → envelopes ≡ envelopes_on mode update.now history) }
+    {
+        let envelopes = self.envelopes_for(update)?;
         Ok(envelopes)
     }
 
-    /// Adds the last update of a session that ended. Returns the envelopes that are to be sent, at most two: none,
-    /// unless it is the hundredth individual update since the last flush. If out of memory, the queue stays as it was.
+    /// Adds the last update of a session that ended, whose envelopes, by `envelopes_on`, are handed out. If out of
+    /// memory, the queue stays as it was.
+    pub fn mark_enqueued(&mut self, update: SessionUpdate) -> Result<(), AllocError>
+        ensures after { OnOk result ((mode : SessionMode) (history : List QueueEntry)
+            → self.old ≡ queue_of mode history → self.new ≡ queue_of mode (enqueued update ∷ history)) }
+        ensures unchanged { OnErr result (self.new ≡ self.old) }
+    {
+        self.keep(update)?;
+        Ok(())
+    }
+
+    /// Adds the last update of a session that ended. Returns the envelopes that are to be sent, as `envelopes_on` does.
+    /// If out of memory, the queue stays as it was.
     pub fn enqueue(&mut self, update: SessionUpdate) -> Result<Items<Envelope>, AllocError>
         ensures sent { IfOk result (λ envelopes. (mode : SessionMode) (history : List QueueEntry)
             → self.old ≡ queue_of mode history → envelopes ≡ envelopes_on mode update history) }
@@ -208,7 +236,8 @@ impl SessionQueue {
             → self.old ≡ queue_of mode history → self.new ≡ queue_of mode (enqueued update ∷ history)) }
         ensures unchanged { OnErr result (self.new ≡ self.old) }
     {
-        let envelopes = self.add(update)?;
+        let envelopes = self.envelopes_on(&update)?;
+        self.mark_enqueued(update)?;
         Ok(envelopes)
     }
 

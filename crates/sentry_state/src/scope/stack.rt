@@ -1,7 +1,8 @@
 //! The layers of a hub.
 ghost use Rattle.std.specs.Prelude.{◌≡◌, ◌<◌, ◌↔◌, IfOk, IfErr, OnOk, OnErr, IsOk};
 ghost use Rattle.std.specs.List.{list_any};
-ghost use Rattle.sentry_state.specs.Stacks.{is_client, one_layer, depth, push, pop, top_alone, names_client};
+ghost use Rattle.sentry_state.specs.Stacks.{is_client, is_session, one_layer, depth, push, pop, top_alone};
+ghost use Rattle.sentry_state.specs.Stacks.{names_client, names_session};
 
 use crate::scope::Scope;
 use sentry_base::protocol::{ClientKey, Refusal, SessionKey};
@@ -33,6 +34,16 @@ impl<P> StackLayer<P> {
             Some(named) => named == client,
         }
     }
+
+    /// Returns `true` if the layer names the session.
+    pub fn names_session(&self, session: SessionKey) -> bool
+        ensures { result ≡ is_session session self.now.session }
+    {
+        match self.session {
+            None => false,
+            Some(named) => named == session,
+        }
+    }
 }
 
 // Whether one of the layers names the client.
@@ -40,6 +51,13 @@ fn one_names_client<P>(layers: &[StackLayer<P>], client: ClientKey) -> bool
     ensures { result ≡ list_any (λ layer. is_client client layer.client) layers.now }
 {
     layers.iter().any(|layer| layer.names_client(client))
+}
+
+// Whether one of the layers names the session.
+fn one_names_session<P>(layers: &[StackLayer<P>], session: SessionKey) -> bool
+    ensures { result ≡ list_any (λ layer. is_session session layer.session) layers.now }
+{
+    layers.iter().any(|layer| layer.names_session(session))
 }
 
 impl<P> Stack<P> {
@@ -80,6 +98,13 @@ impl<P> Stack<P> {
         ensures { result ≡ names_client client self.now }
     {
         self.top.names_client(client) || one_names_client(self.below.as_slice(), client)
+    }
+
+    /// Returns `true` if a layer names the session.
+    pub fn names_session(&self, session: SessionKey) -> bool
+        ensures { result ≡ names_session session self.now }
+    {
+        self.top.names_session(session) || one_names_session(self.below.as_slice(), session)
     }
 }
 

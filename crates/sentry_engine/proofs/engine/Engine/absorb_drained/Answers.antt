@@ -8,5 +8,6 @@ returns g c = λ world s. record {
   next = s.next;
   clients = s.clients;
   hubs = s.hubs;
+  sessions = s.sessions;
   books = entry_present c.args.self.now world s _ c.in-Some.book.now _ _ (sym c.in-Some.ensures.value) c.absorb.ensures;
 }

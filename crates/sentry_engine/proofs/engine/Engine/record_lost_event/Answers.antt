@@ -9,6 +9,7 @@ returns-clause-in_world g c = λ world s. record {
   next = s.next;
   clients = s.clients;
   hubs = s.hubs;
+  sessions = s.sessions;
   books =
       entry_present c.args.self.now world s _ c.in-Some.book.now _ _ (sym c.in-Some.ensures.value)
       (λ history is. c.record.ensures history is ∙ ap (λ quantities. book_of (engine_losses quantities ∷ history)) c.of.ensures);
