@@ -1,10 +1,12 @@
 //! What commands come to.
+use crate::callbacks::Callbacks;
 use crate::headers::Header;
 use sentry_base::dsn::{Dsn, ParseDsnError};
 use sentry_base::headers::{HeaderParseError, TracePropagationContext};
-use sentry_base::protocol::{ClientKey, ClientReport, Envelope, Refusal, Uuid};
+use sentry_base::protocol::{ClientKey, ClientReport, Envelope, Event, Refusal, Uuid};
 use sentry_engine::engine::Out;
-use sentry_plain::Items;
+use sentry_plain::{Boxed, Items, Shared};
+use sentry_state::clientoptions::ClientOptions;
 use std::alloc::Global;
 use url::Url;
 
@@ -27,13 +29,29 @@ pub enum Reply<'a> {
     Nothing,
     Refused(Refusal),
     Sample(bool),
+    Options {
+        client: u64,
+        options: Shared<ClientOptions<Callbacks>>,
+    },
+    ClientDsn {
+        client: u64,
+        dsn: Option<Dsn>,
+    },
     Enabled {
         client: u64,
         is_enabled: bool,
     },
+    Prepared {
+        client: u64,
+        event: Option<Boxed<Event>>,
+    },
     Report {
         client: u64,
         report: Option<ClientReport>,
+    },
+    Bound {
+        hub: u64,
+        client: Option<ClientKey>,
     },
     LastEvent {
         hub: u64,

@@ -1,4 +1,4 @@
-//! Lines on clients and on sampling: `client`, `enabled`, `drop` and `sample`.
+//! Lines on clients and on sampling: `client`, `options`, `clientdsn`, `enabled`, `drop` and `sample`.
 use crate::answer::{Answer, Reply};
 use crate::fault::Failure;
 use crate::options::{ClientPlan, OptionWords};
@@ -14,6 +14,10 @@ pub enum ClientCommand<'a> {
         release: Option<&'a str>,
         options: OptionWords<'a>,
     },
+    /// `options C`
+    Options(u64),
+    /// `clientdsn C`
+    Dsn(u64),
     /// `enabled C`
     IsEnabled(u64),
     /// `drop C`
@@ -34,6 +38,8 @@ impl<'a> ClientCommand<'a> {
                 release: words.word_or_none()?,
                 options: OptionWords::read(words.rest())?,
             },
+            "options" => ClientCommand::Options(words.number()?),
+            "clientdsn" => ClientCommand::Dsn(words.number()?),
             "enabled" => ClientCommand::IsEnabled(words.number()?),
             "drop" => ClientCommand::Drop(words.number()?),
             "sample" => ClientCommand::Sample {
@@ -55,6 +61,8 @@ impl Scenario {
     ) -> Result<Answer<'a>, Failure> {
         match command {
             ClientCommand::Add { release, options } => Ok(self.add_client(*release, *options)?),
+            ClientCommand::Options(client) => Ok(self.options(*client)?),
+            ClientCommand::Dsn(client) => Ok(self.dsn_of_client(*client)?),
             ClientCommand::IsEnabled(client) => Ok(self.is_enabled(*client)?),
             ClientCommand::Drop(client) => Ok(self.drop_client(*client)?),
             ClientCommand::Sample { millionths, draw } => Ok(self.sample(*millionths, *draw)?),
@@ -74,6 +82,16 @@ impl Scenario {
         let out = self.engine.add_client(options, transport, label, now)?;
         self.clients = out.reply.number.saturating_add(1);
         Ok(Answer::of_sent(out))
+    }
+
+    fn options<'a>(&self, client: u64) -> Result<Answer<'a>, Refusal> {
+        let options = self.engine.options(client_key(client))?.reply;
+        Ok(Answer::new(self.alloc, Reply::Options { client, options }))
+    }
+
+    fn dsn_of_client<'a>(&self, client: u64) -> Result<Answer<'a>, Refusal> {
+        let dsn = self.engine.dsn(client_key(client))?.reply;
+        Ok(Answer::new(self.alloc, Reply::ClientDsn { client, dsn }))
     }
 
     fn is_enabled<'a>(&self, client: u64) -> Result<Answer<'a>, Refusal> {

@@ -1,6 +1,7 @@
 //! Commands, and the lines that spell them.
 use crate::breadcrumbs::BreadcrumbCommand;
 use crate::captures::CaptureCommand;
+use crate::client_events::ClientEventCommand;
 use crate::clients::ClientCommand;
 use crate::headers::HeaderCommand;
 use crate::hubs::HubCommand;
@@ -16,7 +17,8 @@ use crate::words::Words;
 pub enum Command<'a> {
     Setting(Setting),
     Client(ClientCommand<'a>),
-    Loss(LossCommand),
+    ClientEvent(ClientEventCommand<'a>),
+    Loss(LossCommand<'a>),
     Hub(HubCommand),
     Layer(LayerCommand),
     Scope(ScopeCommand<'a>),
@@ -37,6 +39,9 @@ impl<'a> Command<'a> {
         }
         if let Some(command) = ClientCommand::read(name, words) {
             return Some(Command::Client(command));
+        }
+        if let Some(command) = ClientEventCommand::read(name, words) {
+            return Some(Command::ClientEvent(command));
         }
         if let Some(command) = LossCommand::read(name, words) {
             return Some(Command::Loss(command));

@@ -1,4 +1,4 @@
-//! Lines on hubs: `hub`, `copy`, `active` and `last`.
+//! Lines on hubs: `hub`, `copy`, `bound`, `active` and `last`.
 use crate::answer::{Answer, Reply};
 use crate::callbacks::Handler;
 use crate::fault::Failure;
@@ -14,6 +14,8 @@ pub enum HubCommand {
     Add(Option<u64>),
     /// `copy H C` or `copy H -`
     Copy { hub: u64, client: Option<u64> },
+    /// `bound H`
+    Bound(u64),
     /// `active H`
     IsActive(u64),
     /// `last H`
@@ -30,6 +32,7 @@ impl HubCommand {
                 hub: words.number()?,
                 client: words.number_or_none()?,
             },
+            "bound" => HubCommand::Bound(words.number()?),
             "active" => HubCommand::IsActive(words.number()?),
             "last" => HubCommand::LastEvent(words.number()?),
             _ => return None,
@@ -45,6 +48,7 @@ impl Scenario {
         match command {
             HubCommand::Add(client) => Ok(self.add_hub(client)?),
             HubCommand::Copy { hub, client } => Ok(self.copy_hub(hub, client)?),
+            HubCommand::Bound(hub) => Ok(self.client_of_hub(hub)?),
             HubCommand::IsActive(hub) => Ok(self.is_active(hub)?),
             HubCommand::LastEvent(hub) => Ok(self.last_event(hub)?),
         }
@@ -70,6 +74,12 @@ impl Scenario {
     ) -> Result<Answer<'a>, Refusal> {
         let client = client.map(client_key);
         Ok(Answer::of_sent(self.engine.new_hub(client, scope)?))
+    }
+
+    // The client of the hub's top layer.
+    fn client_of_hub<'a>(&self, hub: u64) -> Result<Answer<'a>, Refusal> {
+        let client = self.engine.client(hub_key(hub))?.reply;
+        Ok(Answer::new(self.alloc, Reply::Bound { hub, client }))
     }
 
     fn is_active<'a>(&self, hub: u64) -> Result<Answer<'a>, Refusal> {

@@ -1,21 +1,29 @@
-//! Lines on losses and reports: `lose`, `report` and `empty`.
+//! Lines on losses and reports: `lose`, `absorb`, `report` and `empty`.
 ghost use Rattle.scenario_run.specs.Losses.{losses_of_kind};
 
 use crate::answer::{Answer, Reply};
 use crate::fault::Failure;
+use crate::quantities::losses_of_words;
 use crate::scenario::{Scenario, client_key, client_label};
 use crate::words::Words;
 use sentry_base::protocol::{Category, Envelope, LossSource, Losses, Reason, Refusal};
+use sentry_engine::call::Call;
 use sentry_parts::client_reports::{LossWords, TransportLossReason};
+use sentry_plain::Boxed;
 
 /// What a line loses of a client, reports of it or sends.
 #[derive(Clone, Copy)]
-pub enum LossCommand {
+pub enum LossCommand<'a> {
     /// `lose C KIND REASON`
     Lose {
         client: u64,
         kind: Kind,
         reason: TransportLossReason,
+    },
+    /// `absorb C CATEGORY/REASON=N ..`
+    Absorb {
+        client: u64,
+        quantities: Option<&'a str>,
     },
     /// `report C`
     Report(u64),
@@ -35,15 +43,19 @@ pub enum Kind {
     Session,
 }
 
-impl LossCommand {
+impl<'a> LossCommand<'a> {
     /// The command of this name, read from the words that follow it.
-    pub fn read(name: &str, words: Words<'_>) -> Option<LossCommand> {
+    pub fn read(name: &str, words: Words<'a>) -> Option<LossCommand<'a>> {
         let mut words = words;
         let command = match name {
             "lose" => LossCommand::Lose {
                 client: words.number()?,
                 kind: read_kind(words.word()?)?,
                 reason: read_reason(words.word()?)?,
+            },
+            "absorb" => LossCommand::Absorb {
+                client: words.number()?,
+                quantities: words.rest(),
             },
             "report" => LossCommand::Report(words.number()?),
             "empty" => LossCommand::Empty(words.number()?),
@@ -97,13 +109,17 @@ impl LossSource for Kind {
 
 impl Scenario {
     /// Does a command on losses, reports or envelopes.
-    pub fn perform_on_losses<'a>(&mut self, command: LossCommand) -> Result<Answer<'a>, Failure> {
+    pub fn perform_on_losses<'a>(
+        &mut self,
+        command: LossCommand<'_>,
+    ) -> Result<Answer<'a>, Failure> {
         match command {
             LossCommand::Lose {
                 client,
                 kind,
                 reason,
             } => Ok(self.lose(client, kind, reason)?),
+            LossCommand::Absorb { client, quantities } => self.absorb(client, quantities),
             LossCommand::Report(client) => Ok(self.report(client)?),
             LossCommand::Empty(client) => Ok(self.send_empty(client)?),
         }
@@ -127,6 +143,19 @@ impl Scenario {
                 Err(refusal)
             }
         }
+    }
+
+    // Quantities of the line's own go into the book of the client's label.
+    fn absorb<'a>(&mut self, client: u64, quantities: Option<&str>) -> Result<Answer<'a>, Failure> {
+        let losses = match quantities {
+            Some(words) => losses_of_words(words).ok_or(Failure::BadCommand)?,
+            None => Losses::none(),
+        };
+        let call = Call::Absorb {
+            label: client_label(client),
+            losses: Boxed::new(self.alloc, losses)?,
+        };
+        Ok(Answer::of_sent(self.engine.apply(call)?))
     }
 
     fn report<'a>(&mut self, client: u64) -> Result<Answer<'a>, Refusal> {

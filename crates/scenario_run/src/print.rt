@@ -3,6 +3,7 @@ mod contexts;
 mod envelopes;
 mod events;
 mod lists;
+mod options;
 mod replies;
 mod sessions;
 mod telemetry;

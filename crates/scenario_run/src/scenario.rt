@@ -104,6 +104,7 @@ impl Scenario {
         match command {
             Command::Setting(setting) => Ok(self.set(*setting)),
             Command::Client(command) => self.perform_on_client(command),
+            Command::ClientEvent(command) => self.hand_event(command),
             Command::Loss(command) => self.perform_on_losses(*command),
             Command::Hub(command) => self.perform_on_hub(*command),
             Command::Layer(command) => self.perform_on_layers(*command),

@@ -2,10 +2,11 @@
 use crate::answer::Reply;
 use crate::headers::Header;
 use crate::print::Shown;
-use crate::print::lists::{push_joined, push_labeled};
+use crate::print::lists::{NONE, push_joined, push_labeled};
 use sentry_base::dsn::{Dsn, ParseDsnError};
 use sentry_base::headers::{HeaderParseError, TracePropagationContext};
-use sentry_base::protocol::{ClientReport, OrganizationId, Uuid};
+use sentry_base::protocol::{ClientKey, ClientReport, Event, OrganizationId, Uuid};
+use sentry_plain::Boxed;
 use std::alloc::AllocError;
 
 impl Shown for Reply<'_> {
@@ -17,10 +18,22 @@ impl Shown for Reply<'_> {
                 writeln!(text, "refused E{number}")
             }
             Reply::Sample(decision) => writeln!(text, "sample {decision}"),
+            Reply::Options { client, options } => {
+                write!(text, "options {client} ")?;
+                options.get().push_to(text)?;
+                text.push_str("\n")
+            }
+            Reply::ClientDsn { client, dsn } => {
+                write!(text, "clientdsn {client} ")?;
+                push_dsn(text, dsn)?;
+                text.push_str("\n")
+            }
             Reply::Enabled { client, is_enabled } => {
                 writeln!(text, "enabled {client} {is_enabled}")
             }
+            Reply::Prepared { client, event } => push_prepared(text, *client, event),
             Reply::Report { client, report } => push_report(text, *client, report),
+            Reply::Bound { hub, client } => push_bound(text, *hub, *client),
             Reply::LastEvent { hub, id } => push_last_event(text, *hub, *id),
             Reply::Active { hub, is_active } => writeln!(text, "active {hub} {is_active}"),
             Reply::Headers(parsed) => push_headers(text, parsed),
@@ -36,6 +49,21 @@ impl Shown for Reply<'_> {
     }
 }
 
+fn push_prepared(
+    text: &mut String,
+    client: u64,
+    event: &Option<Boxed<Event>>,
+) -> Result<(), AllocError> {
+    match event {
+        None => writeln!(text, "prepare {client} none"),
+        Some(event) => {
+            write!(text, "prepare {client} ")?;
+            event.get().push_to(text)?;
+            text.push_str("\n")
+        }
+    }
+}
+
 fn push_report(
     text: &mut String,
     client: u64,
@@ -47,6 +75,16 @@ fn push_report(
             write!(text, "report {client} ")?;
             push_joined(text, report.items.as_slice(), ",")?;
             text.push_str("\n")
+        }
+    }
+}
+
+fn push_bound(text: &mut String, hub: u64, client: Option<ClientKey>) -> Result<(), AllocError> {
+    match client {
+        None => writeln!(text, "bound {hub} {NONE}"),
+        Some(client) => {
+            let number = client.number;
+            writeln!(text, "bound {hub} {number}")
         }
     }
 }
@@ -121,14 +159,20 @@ impl Shown for Dsn {
     }
 }
 
+fn push_dsn(text: &mut String, dsn: &Option<Dsn>) -> Result<(), AllocError> {
+    match dsn {
+        Some(dsn) => dsn.push_to(text),
+        None => text.push_str("none"),
+    }
+}
+
 fn push_dsn_answer(
     text: &mut String,
     read: &Result<Option<Dsn>, ParseDsnError>,
 ) -> Result<(), AllocError> {
     text.push_str("dsn ")?;
     match read {
-        Ok(Some(dsn)) => dsn.push_to(text)?,
-        Ok(None) => text.push_str("none")?,
+        Ok(dsn) => push_dsn(text, dsn)?,
         Err(cause) => write!(text, "{cause:?}")?,
     }
     text.push_str("\n")

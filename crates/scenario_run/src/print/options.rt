@@ -1,0 +1,52 @@
+//! The options of clients.
+use crate::callbacks::Callbacks;
+use crate::print::Shown;
+use crate::print::lists::{NONE, push_labeled};
+use sentry_state::clientoptions::{
+    ClientOptions, EventSamplingStrategy, SessionMode, TracesSamplingStrategy,
+};
+use std::alloc::AllocError;
+
+/// What a `client` line can set, but for the DSN, the transport and the callbacks.
+impl Shown for ClientOptions<Callbacks> {
+    fn push_to(&self, text: &mut String) -> Result<(), AllocError> {
+        let plain = &self.plain;
+        push_labeled(text, "release=", &plain.release)?;
+        push_labeled(text, " environment=", &plain.environment)?;
+        push_labeled(text, " server=", &plain.server_name)?;
+        push_labeled(text, " rate=", &plain.event_sampling_strategy)?;
+        push_labeled(text, " traces=", &self.traces_sampling_strategy)?;
+        push_labeled(text, " strict=", &plain.strict_trace_continuation)?;
+        push_labeled(text, " pii=", &plain.send_default_pii)?;
+        push_labeled(text, " org=", &plain.org_id)?;
+        push_labeled(text, " mode=", &plain.session_mode)?;
+        let crumbs = plain.max_breadcrumbs;
+        write!(text, " crumbs={crumbs}")
+    }
+}
+
+impl Shown for EventSamplingStrategy {
+    fn push_to(&self, text: &mut String) -> Result<(), AllocError> {
+        match self {
+            EventSamplingStrategy::FixedRate(rate) => rate.push_to(text),
+        }
+    }
+}
+
+impl Shown for TracesSamplingStrategy {
+    fn push_to(&self, text: &mut String) -> Result<(), AllocError> {
+        match self {
+            TracesSamplingStrategy::FixedRate(rate) => rate.push_to(text),
+            TracesSamplingStrategy::Disabled => text.push_str(NONE),
+        }
+    }
+}
+
+impl Shown for SessionMode {
+    fn push_to(&self, text: &mut String) -> Result<(), AllocError> {
+        text.push_str(match self {
+            SessionMode::Application => "application",
+            SessionMode::Request => "request",
+        })
+    }
+}
