@@ -148,8 +148,8 @@ with_attachments (attachment ∷ rest) envelope = with_attachments rest (with_it
 
 -- the envelopes of a capture: the event, the update of the session, the attachments, and the pending report as the last
 -- item
-abbrev pub captured_envelopes :
-    ClientKey → Option SessionUpdate → List Attachment → Option ClientReport → Option Event → List (ClientKey × Envelope)
+abbrev pub captured_envelopes : ClientKey → Option SessionUpdate → List Attachment → Option ClientReport → Option Event
+    → List (ClientKey × Envelope)
 captured_envelopes key update attachments report None = []
 captured_envelopes key update attachments report (Some event) = (
   key,
