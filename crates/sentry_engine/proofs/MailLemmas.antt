@@ -17,3 +17,10 @@ pub address_parts : (key : ClientKey) (report : Option ClientReport) (some other
     → address key report some ++ address key (report_left report (address key report some)) others ≡ address key report (some ++ others)
 address_parts key report [] others = refl
 address_parts key report (first ∷ rest) others = ap (λ l. (key, with_report report first) ∷ l) (address_none key rest others)
+
+-- the same of what was made of the first ones
+pub address_more : (key : ClientKey) (pending report : Option ClientReport) (envelopes others : List Envelope) (sent items : List (ClientKey × Envelope))
+    → items ≡ sent → sent ≡ address key pending envelopes → report ≡ report_left pending sent
+    → items ++ address key report others ≡ address key pending (envelopes ++ others)
+address_more key pending report envelopes others sent items same is left =
+    (λ i. (same ∙ is) i ++ address key ((left ∙ ap (report_left pending) is) i) others) ∙ address_parts key pending envelopes others
