@@ -146,6 +146,7 @@ impl<P: EventCallback + Drop, C: Callbacks> Engine<P, C> {
     }
 
     // Sends what a flush hands out of the queues of a client. If out of memory, nothing has changed.
+    #[tactic(auto, unfolding(crate::specs::Flushes::flush_queues))]
     pub(super) fn flush_queues(
         &mut self,
         key: ClientKey,
