@@ -1,18 +1,17 @@
-use Rattle.std.proofs.Common.{◌≡◌, Some, false, sym, ap, ◌∙◌, rules}
+use Rattle.std.proofs.Common.{◌≡◌, ◌∙◌, Some, false, ap, sym}
+use Rattle.sentry_engine.specs.Clients.{is_client_named, has_session_of}
 use Rattle.sentry_engine.specs.Outcomes.{plain_client_at}
-use Rattle.sentry_engine.specs.Clients.{is_client_named}
-use Rattle.sentry_engine.specs.Clients as call
+use Rattle.sentry_engine.proofs.SendingLemmas.{drop_client_is, replied}
 use Rattle.sentry_engine.proofs.engine.Engine.drop_client.Goals as goal
 
--- the client that was found stands in the world, and no layer names it
+-- the client that was found stands in the world, and nothing names it
 pub returns : goal.returns
-unfolding call.drop_client
-returns g c world stands =
-    let found : plain_client_at world c.args.client ≡ Some c.in-Some.held.now = sym (c.in-Some.ensures world stands) in
-    let here : is_client_named c.args.client c.args.self.now.hubs ≡ false = search rules in
-    let unnamed : is_client_named c.args.client world.hubs ≡ false =
-    ap (is_client_named c.args.client) (sym stands.hubs) ∙ here in
-    rw found (rw unnamed (
-      search rules,
-      c.remove_unused_book.ensures _ (c.remove_client.ensures world stands),
-    ))
+returns g c = λ world s.
+    let key = c.args.client in
+    let found : plain_client_at world key ≡ Some c.in-Some.held.now = sym (c.in-Some.ensures world s) in
+    let unnamed : is_client_named key world.hubs ≡ false =
+    ap (is_client_named key) (sym s.hubs) ∙ (sym c.is_client_named.ensures ∙ c.if-is_client_named.false) in
+    let no_session : has_session_of key world.sessions ≡ false = sym (c.has_session_of.ensures world s) ∙ c.if-has_session_of.false in
+    let flushed = c.in_ok-sent.ensures.in_world world s in
+    let removed = c.remove_unused_book.ensures _ (c.remove_client.ensures _ flushed.1) in
+    replied _ _ _ _ _ _ (drop_client_is key world c.in-Some.held.now found unnamed no_session) flushed.0 removed
