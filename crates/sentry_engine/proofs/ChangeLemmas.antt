@@ -48,13 +48,12 @@ module _ {P C : Type 0} (key : ClientKey) (envelopes : ClientState C → List En
       let expected : send key client (envelopes client) (with_client_state world key (after client)) ≡ change_client world =
       sym (change_client_is world client found.2 still) in
       let leaves : sent ≡ envelopes_from client.occupied key (pending_report world client.label) (envelopes client) =
-      both.0 ∙ (λ i. envelopes_from (is i).occupied key (pending_report world (is i).label) (envelopes client)) in
-      (
+      both.0 ∙ (λ i. envelopes_from (is i).occupied key (pending_report world (is i).label) (envelopes client)) in (
         leaves ∙ ap (λ (sending : Sending P C). sending.sent) expected,
         subst (λ (w : World P C). Stands new w)
-        ((λ i. after_sending (is i).label (leaves i) (with_client_state world key (after client)))
-        ∙ ap (λ (sending : Sending P C). sending.after) expected)
-        both.1,
+            ((λ i. after_sending (is i).label (leaves i) (with_client_state world key (after client)))
+            ∙ ap (λ (sending : Sending P C). sending.after) expected)
+            both.1,
       )
 
   -- the same where nothing was sent
@@ -66,8 +65,7 @@ module _ {P C : Type 0} (key : ClientKey) (envelopes : ClientState C → List En
       → (sent ≡ (change_client world).sent) × Stands new (change_client world).after
   client_changed_unsent old new world s kept e going_on sent none made =
       client_changed old new world s kept e going_on sent (λ client there is.
-      let both = made client there is in
-      (
+      let both = made client there is in (
         none ∙ both.0,
         subst (λ (l : List (ClientKey × Envelope)). Stands new (after_sending kept.label l (with_client_state world key (after client)))) (sym none) both.1,
       ))

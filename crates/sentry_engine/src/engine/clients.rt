@@ -216,11 +216,7 @@ impl<P: EventCallback + Drop, C: Callbacks> Engine<P, C> {
     ///
     /// `Stale`: the client isn't held. `Full`: the numbers are used up. `OutOfMemory`.
     #[tactic(auto, unfolding(crate::specs::Clients::clone_client))]
-    pub fn clone_client(
-        &mut self,
-        client: ClientKey,
-        now: u64,
-    ) -> Result<Out<ClientKey>, Refusal>
+    pub fn clone_client(&mut self, client: ClientKey, now: u64) -> Result<Out<ClientKey>, Refusal>
         ensures { Does self.old self.new result (call.clone_client client now) }
     {
         let Some(held) = self.client_at(client) else {

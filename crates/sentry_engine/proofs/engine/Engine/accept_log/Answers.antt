@@ -22,11 +22,10 @@ returns-then-not-sends_next_log-clause-in_world g c = λ world s.
     client_changed_unsent c.args.key
     (λ (client : ClientState g.row.C.Denot). batch_envelopes (handed_out (accept c.args.log) client.queues.logs) None)
     (with_log_entry (accept c.args.log)) c.args.self.now c.enqueue_log.new.self world s c.in-Some.client.now
-    (c.in-Some.ensures world s) c.if-client.false c.new-then-not-sends_next_log.result c.new-then-not-sends_next_log.ensures (λ client there is.
-    (
+    (c.in-Some.ensures world s) c.if-client.false c.new-then-not-sends_next_log.result c.new-then-not-sends_next_log.ensures (λ client there is. (
       unsent_item c.args.key c.in-Some.client.now.occupied (pending_report world c.in-Some.client.now.label)
-      (λ (logs : Option (List Log)). batch_envelopes logs None) refl (queued client.queues.logs) c.args.log
-      (ap (λ (kept : Client g.row.C.Denot). c.in-Some.client.now.occupied && length kept.queues.logs.items == BATCH_ITEMS - 1) (sym is) ∙ stays),
+          (λ (logs : Option (List Log)). batch_envelopes logs None) refl (queued client.queues.logs) c.args.log
+          (ap (λ (kept : Client g.row.C.Denot). c.in-Some.client.now.occupied && length kept.queues.logs.items == BATCH_ITEMS - 1) (sym is) ∙ stays),
       c.in_ok-enqueue_log.ensures.in_world world client s there,
     ))
 
@@ -42,9 +41,8 @@ returns-clause-in_world g c = λ world s.
     let pending = pending_report world c.in-Some.client.now.label in
     let batch = c.in_ok-logs.ensures.batch client there in
     let mailed = c.in_ok-mail.ensures.sent world s (batch_envelopes c.in_ok-logs.logs None) in
-    let stands = c.in_ok-logs.ensures.in_world world client s there in
-    (
+    let stands = c.in_ok-logs.ensures.in_world world client s there in (
       sent_if_occupied c.args.key c.in-Some.client.now.occupied pending _ _ (and_true _ _ leaves)
-      (c.finish-sent.ensures ∙ (mailed ∙ (λ i. address c.args.key pending (c.new-2.ensures i ++ batch_envelopes (batch i) None)))),
+          (c.finish-sent.ensures ∙ (mailed ∙ (λ i. address c.args.key pending (c.new-2.ensures i ++ batch_envelopes (batch i) None)))),
       c.mark_sent.ensures.in_world _ stands,
     ))

@@ -22,11 +22,10 @@ returns-then-not-sends_next_metric-clause-in_world g c = λ world s.
     client_changed_unsent c.args.key
     (λ (client : ClientState g.row.C.Denot). batch_envelopes None (handed_out (accept c.args.metric) client.queues.metrics))
     (with_metric_entry (accept c.args.metric)) c.args.self.now c.enqueue_metric.new.self world s c.in-Some.client.now
-    (c.in-Some.ensures world s) c.if-client.false c.new-then-not-sends_next_metric.result c.new-then-not-sends_next_metric.ensures (λ client there is.
-    (
+    (c.in-Some.ensures world s) c.if-client.false c.new-then-not-sends_next_metric.result c.new-then-not-sends_next_metric.ensures (λ client there is. (
       unsent_item c.args.key c.in-Some.client.now.occupied (pending_report world c.in-Some.client.now.label)
-      (λ (metrics : Option (List Metric)). batch_envelopes None metrics) refl (queued client.queues.metrics) c.args.metric
-      (ap (λ (kept : Client g.row.C.Denot). c.in-Some.client.now.occupied && length kept.queues.metrics.items == BATCH_ITEMS - 1) (sym is) ∙ stays),
+          (λ (metrics : Option (List Metric)). batch_envelopes None metrics) refl (queued client.queues.metrics) c.args.metric
+          (ap (λ (kept : Client g.row.C.Denot). c.in-Some.client.now.occupied && length kept.queues.metrics.items == BATCH_ITEMS - 1) (sym is) ∙ stays),
       c.in_ok-enqueue_metric.ensures.in_world world client s there,
     ))
 
@@ -42,9 +41,8 @@ returns-clause-in_world g c = λ world s.
     let pending = pending_report world c.in-Some.client.now.label in
     let batch = c.in_ok-metrics.ensures.batch client there in
     let mailed = c.in_ok-mail.ensures.sent world s (batch_envelopes None c.in_ok-metrics.metrics) in
-    let stands = c.in_ok-metrics.ensures.in_world world client s there in
-    (
+    let stands = c.in_ok-metrics.ensures.in_world world client s there in (
       sent_if_occupied c.args.key c.in-Some.client.now.occupied pending _ _ (and_true _ _ leaves)
-      (c.finish-sent.ensures ∙ (mailed ∙ (λ i. address c.args.key pending (c.new-2.ensures i ++ batch_envelopes None (batch i))))),
+          (c.finish-sent.ensures ∙ (mailed ∙ (λ i. address c.args.key pending (c.new-2.ensures i ++ batch_envelopes None (batch i))))),
       c.mark_sent.ensures.in_world _ stands,
     ))
