@@ -1,5 +1,5 @@
 -- Whether a batch is sent when an item joins it.
-use Rattle.std.proofs.Common.{◌≡◌, refl, ap, ◌∙◌, sym, ℕ, List, [], ◌∷◌, ◌++◌, length, Bool, true, false, arith, ◌==◌, ◌-◌, length-append}
+use Rattle.std.proofs.Common.{◌≡◌, refl, ap, ◌∙◌, sym, List, [], ◌∷◌, ◌++◌, length, Bool, true, false, arith, ◌==◌, ◌-◌, length-append}
 use Rattle.std.proofs.lemmas.Bool.Decides.{nat_tests}
 use Rattle.std.specs.Prelude.{Option, Some, None, ◌&&◌, if◌then◌else◌}
 use Rattle.sentry_base.specs.declared.protocol.client_report.ClientReport.{ClientReport}

@@ -1,6 +1,6 @@
 -- A client that is not closed changes, and sends envelopes.
-use Rattle.std.proofs.Common.{◌≡◌, refl, ap, ◌∙◌, sym, subst, List, [], ◌∷◌, Bool, true, false, cond}
-use Rattle.std.specs.Prelude.{Option, Some, None}
+use Rattle.std.proofs.Common.{◌≡◌, ap, ◌∙◌, sym, subst, List, [], ◌∷◌, Bool, true, false, cond}
+use Rattle.std.specs.Prelude.{Option, Some}
 use Rattle.sentry_base.specs.declared.protocol.client_report.ClientReport.{ClientReport}
 use Rattle.sentry_base.specs.declared.protocol.envelope.Envelope.{Envelope}
 use Rattle.sentry_base.specs.declared.protocol.keys.ClientKey.{ClientKey}

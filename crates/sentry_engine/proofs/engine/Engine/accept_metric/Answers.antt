@@ -1,6 +1,5 @@
 use Rattle.std.proofs.Common.{◌≡◌, ◌∙◌, ◌++◌, ◌-◌, ◌==◌, ap, sym, true, false, rules, refl, List, length}
 use Rattle.std.specs.Prelude.{Option, None, ◌&&◌}
-use Rattle.sentry_base.specs.declared.protocol.envelope.Envelope.{Envelope}
 use Rattle.sentry_base.specs.declared.protocol.metric.Metric.{Metric}
 use Rattle.sentry_parts.specs.Batches.{accept, handed_out, queued}
 use Rattle.sentry_parts.specs.declared.batcher.TheConstants.{BATCH_ITEMS}

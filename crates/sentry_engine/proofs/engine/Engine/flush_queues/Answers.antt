@@ -1,4 +1,4 @@
-use Rattle.std.proofs.Common.{◌≡◌, ◌∙◌, ◌++◌, ap, sym, cond, [], true, false, rules}
+use Rattle.std.proofs.Common.{◌≡◌, ◌∙◌, ◌++◌, ap, true, false, rules}
 use Rattle.sentry_engine.specs.Books.{pending_report}
 use Rattle.sentry_engine.specs.Flushes.{flush_queues, flushed_envelopes, after_flush, session_envelopes, batch_envelopes, is_flushed}
 use Rattle.sentry_engine.specs.Sending.{address}
