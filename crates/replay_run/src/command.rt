@@ -1,6 +1,7 @@
 //! Commands, and the lines that spell them.
 ghost use Rattle.std.specs.Prelude.{◌≡◌, IfOk, IfSome, IfNone};
-ghost use Rattle.replay_run.specs.Reading.{client_of, hub_of, tag_of, message_of, empty_of, release_of, session_of, end_of, flush_of, form_of, command_of};
+ghost use Rattle.replay_run.specs.Reading.{client_of, hub_of, tag_of, message_of, empty_of, release_of};
+ghost use Rattle.replay_run.specs.Reading.{session_of, end_of, flush_of, form_of, command_of};
 ghost use Rattle.replay_run.specs.Commands.{Spells};
 ghost use Rattle.replay_run.specs.declared.command.Command.{Command};
 ghost use Rattle.sentry_plain.specs.Texts.{Bytes};
