@@ -1,6 +1,6 @@
 -- What an engine finds and stores is what the world has, without the histories.
 use Rattle.std.proofs.Common.{◌≡◌, refl, ap, ◌∙◌, sym, ℕ, List, [], ◌∷◌, Bool, true, false, cond}
-use Rattle.std.specs.Prelude.{Option, Some, None, unwrap_or, ◌||◌, ◌==◌}
+use Rattle.std.specs.Prelude.{Option, Some, None, unwrap_or, ◌||◌, ◌==◌, nat_lt, length}
 use Rattle.std.specs.Option.{option_map, is_some, option_and_then}
 use Rattle.std.specs.declared.cmp.Ordering.{Ordering}
 use Rattle.std.specs.declared.cmp.Ordering.TheVariants.{Less, Equal, Greater}
@@ -14,10 +14,18 @@ use Rattle.sentry_base.specs.declared.protocol.keys.ClientKey.{ClientKey}
 use Rattle.sentry_base.specs.declared.protocol.keys.Label.{Label}
 use Rattle.sentry_parts.specs.LossBooks.{Book, LossEntry, book_of, pending_losses, report_items, report_of}
 use Rattle.sentry_engine.specs.Books.{with_book, is_label, has_client_of, without_unused_book, pending_report}
+use Rattle.sentry_parts.specs.Sessions.{session_of}
 use Rattle.sentry_parts.specs.declared.session.record.Session.{Session}
+use Rattle.sentry_parts.specs.declared.session.record.SessionStart.{SessionStart}
+use Rattle.sentry_state.specs.Stacks.{stack_of_any, pop, depth, is_client}
+use Rattle.sentry_state.specs.declared.scope.stack.Stack.{Stack}
+use Rattle.sentry_state.specs.declared.scope.stack.StackLayer.{StackLayer}
+use Rattle.sentry_engine.specs.Clients.{has_session_of}
+use Rattle.sentry_engine.specs.Sessions.{with_new_session}
+use Rattle.sentry_engine.specs.declared.engine.Hub.{Hub}
 use Rattle.sentry_parts.specs.SessionQueues.{QueueEntry, Waiting, queue_of}
 use Rattle.sentry_engine.specs.Outcomes.{client_at, plain_client_at}
-use Rattle.sentry_engine.specs.SessionEnds.{with_client_entry}
+use Rattle.sentry_engine.specs.SessionEnds.{with_client_entry, with_session}
 use Rattle.sentry_engine.specs.declared.engine.Client.{Client}
 use Rattle.sentry_engine.specs.declared.engine.Engine.{Engine}
 use Rattle.sentry_engine.specs.Worlds.{World, ClientState, SessionState, plain_client, plain_session, map_values, Stands}
@@ -301,3 +309,57 @@ module _ {P C : Type 0} where
   session_absent engine world s n session h =
       let none : value_at world.sessions n ≡ None = no_session (value_at world.sessions n) (h ∙ session_in_world engine world s n) in
       s.sessions ∙ ap (map_values plain_session) (sym (replace_absent world.sessions n session none))
+
+module _ {P C : Type 0} where
+  -- what the engine found of a client of the world
+  pub same_client : (engine : Engine P C) (world : World P C) → Stands engine world → (key : ClientKey) (kept : Client C)
+      → (client : ClientState C) → Some kept ≡ plain_client_at world key → client_at world key ≡ Some client
+      → (value_at engine.clients key.number ≡ Some (plain_client client)) × (kept ≡ plain_client client)
+  same_client engine world s key kept client e at =
+      let found = client_state engine world s key kept e in
+      let same : Some found.0 ≡ Some client = sym found.2 ∙ at in
+      let is : found.0 ≡ client = cc in
+      (found.1 ∙ ap (λ state. Some (plain_client state)) is, found.3 ∙ ap plain_client is)
+
+-- the session of the world of which the engine found what it keeps
+pub session_state : (o : Option SessionState) (kept : Session) → Some kept ≡ option_map plain_session o
+    → (session : SessionState) × (o ≡ Some session) × (kept ≡ plain_session session)
+session_state None kept e = absurd cc
+session_state (Some session) kept e = let is : kept ≡ plain_session session = cc in (session, refl, is)
+
+module _ {P C : Type 0} where
+  -- an engine with one more session stands for the world with it
+  pub session_stored : (engine : Engine P C) (world : World P C) → Stands engine world → (start : SessionStart) (kept : Session)
+      → kept ≡ session_of start [] → put engine.sessions engine.next.session kept ≡ map_values plain_session (with_new_session start world).sessions
+  session_stored engine world s start kept is =
+      (λ i. put (s.sessions i) (s.next i).session (is i))
+      ∙ sym (put-map_values plain_session world.sessions world.next.session (record { start = start; history = [] }))
+
+popped_same-by : {P : Type 0} (below : List (StackLayer P)) (a b : Stack P) → nat_lt 0 (length below) ≡ true → stack_of_any below a ≡ stack_of_any below b
+popped_same-by [] a b h = absurd cc
+popped_same-by (lowest ∷ above) a b h = refl
+
+-- what is below the top layer doesn't depend on what the top layer names
+pub popped_same : {P : Type 0} (hub : Hub P) → nat_lt 0 (depth hub.stack) ≡ true → pop (with_session hub None).stack ≡ pop hub.stack
+unfolding pop
+popped_same hub h = popped_same-by hub.stack.below _ _ h
+
+-- the start of a session that was made of one
+pub session_start : (o : Option SessionStart) (kept : Session) → Some kept ≡ option_map (λ start. session_of start []) o
+    → (start : SessionStart) × (o ≡ Some start) × (kept ≡ session_of start [])
+session_start None kept e = absurd cc
+session_start (Some start) kept e = let is : kept ≡ session_of start [] = cc in (start, refl, is)
+
+module _ (key : ClientKey) where
+  session_of_client : (sessions : List (ℕ × SessionState))
+      → list_any (λ (entry : ℕ × Session). is_client key (Some entry.1.start.client)) (map_values plain_session sessions)
+      ≡ has_session_of key sessions
+  unfolding session_of
+  session_of_client [] = refl
+  session_of_client (entry ∷ rest) = ap (λ b. is_client key (Some entry.1.start.client) || b) (session_of_client rest)
+
+  -- the engine has a session of the client where the world has one
+  pub has_session_of_client : {P C : Type 0} (engine : Engine P C) (world : World P C) → Stands engine world
+      → list_any (λ (entry : ℕ × Session). is_client key (Some entry.1.start.client)) engine.sessions ≡ has_session_of key world.sessions
+  has_session_of_client engine world s =
+      ap (list_any (λ (entry : ℕ × Session). is_client key (Some entry.1.start.client))) s.sessions ∙ session_of_client world.sessions

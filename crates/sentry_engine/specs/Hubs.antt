@@ -23,8 +23,7 @@ use Rattle.sentry_state.specs.Callbacks.{Partial, Meanings, call_on_each}
 use Rattle.sentry_engine.specs.Books.{pending_report, with_entry_if_any}
 use Rattle.sentry_engine.specs.Captures.{capture, captured_id, captured_envelopes, message_event}
 use Rattle.sentry_engine.specs.Captures.{capture_named_session, update_along, with_captured_session}
-use Rattle.sentry_engine.specs.Sending.{reply_sending}
-use Rattle.sentry_engine.specs.SessionEnds.{release_session}
+use Rattle.sentry_engine.specs.SessionEnds.{release_session, with_session}
 use Rattle.sentry_engine.specs.Clients.{is_enabled_client}
 use Rattle.sentry_engine.specs.Worlds.{World}
 use Rattle.sentry_engine.specs.Outcomes.{Outcome, require_some, let_some, require, reply_with, hub_at, plain_client_at, is_held_or_none, with_hub, with_scope}
@@ -69,9 +68,11 @@ module _ {P C : Type 0} where
   unfoldable pub configure : HubKey → List (ScopeEdit P) → ℕ → World P C → Outcome P C (Unit {0})
   configure key edits now world =
       require_some Stale world (hub_at world key) (λ hub.
-      let edited = with_scope hub (edit_all edits hub.stack.top.scope) in
-      if list_any is_clear edits then reply_sending tt (release_session key.number edited now world)
-      else reply_with tt [] (with_hub world key edited))
+      let scope = edit_all edits hub.stack.top.scope in
+      let released = release_session key.number hub now world in
+      if list_any is_clear edits
+      then reply_with tt released.sent (with_hub released.after key (with_scope (with_session hub None) scope))
+      else reply_with tt [] (with_hub world key (with_scope hub scope)))
 
   -- breadcrumbs for the top scope, under the client of its layer: those that its callback keeps are added, and the
   -- last ones stay, as many as its options say; with no client, or no breadcrumb, nothing changes

@@ -7,7 +7,8 @@ ghost use Rattle.sentry_engine.specs.Worlds.{World, ClientState, Stands, plain_c
 ghost use Rattle.sentry_engine.specs.Books.{with_book, is_label, without_unused_book};
 ghost use Rattle.sentry_engine.specs.Outcomes.{Does, DoesWithoutMemory, client_at};
 ghost use Rattle.std.specs.Option.{option_copied};
-ghost use Rattle.sentry_engine.specs.Clients.{is_client_named, set_up, new_client, queues_from, flush_all, flush_queues};
+ghost use Rattle.sentry_engine.specs.Clients.{is_client_named, set_up, new_client, queues_from};
+ghost use Rattle.sentry_engine.specs.Clients.{has_session_of, flush_all, flush_queues};
 ghost use Rattle.sentry_engine.specs.Clients as call;
 
 use crate::engine::captures::{add_report, capture, captured_id, drop_unsent};
@@ -70,7 +71,9 @@ fn new_client<C: Callbacks>(
     label: Label,
     now: u64,
 ) -> Result<Client<C>, AllocError>
-    ensures { IfOk result (λ client. client ≡ plain_client (new_client C.meanings options transport label now)) }
+    ensures client { IfOk result (λ client.
+        client ≡ plain_client (new_client C.meanings options transport label now)) }
+    ensures label { IfOk result (λ client. client.label ≡ label) }
 {
     let occupied = options.plain.dsn.is_some() && transport;
     let options = set_up(alloc, options)?;
@@ -212,6 +215,13 @@ impl<P: EventCallback + Drop, C: Callbacks> Engine<P, C> {
         self.books.remove(label.number);
     }
 
+    // Whether a session that goes on was started under the client.
+    fn has_session_of(&self, client: ClientKey) -> bool
+        ensures { (world : World P C) → Stands self.now world → result ≡ has_session_of client world.sessions }
+    {
+        has_session_of(&self.sessions, client)
+    }
+
     // Forgets what waits in the queues of a client that is held, once it was sent.
     fn mark_flushed(&mut self, number: u64)
         ensures { (world : World P C) (client : ClientState C) → Stands self.old world →
@@ -277,7 +287,7 @@ impl<P: EventCallback + Drop, C: Callbacks> Engine<P, C> {
         if is_client_named(&self.hubs, client) {
             return Err(Refusal::StillNamed);
         }
-        if has_session_of(&self.sessions, client) {
+        if self.has_session_of(client) {
             return Err(Refusal::StillNamed);
         }
         let sent = self.flush_queues(client)?;

@@ -47,6 +47,13 @@ fn is_clear<P>(edit: &ScopeEdit<P>) -> bool
     matches!(edit, ScopeEdit::Clear(_, _))
 }
 
+// Whether one of the edits clears the scope.
+fn one_clears<P>(edits: &[ScopeEdit<P>]) -> bool
+    ensures { result ≡ list_any is_clear edits.now }
+{
+    edits.iter().any(|edit| is_clear(edit))
+}
+
 // The only item, or all of them back.
 fn only<T: Drop>(items: Vec<T>) -> Result<T, Vec<T>>
     ensures one { IfOk result (λ item. items.items ≡ item ∷ []) }
@@ -237,7 +244,7 @@ impl<P: EventCallback + Drop, C: Callbacks> Engine<P, C> {
     ) -> Result<Out<()>, Refusal>
         ensures { Does self.old self.new result (call.configure hub edits.items now) }
     {
-        if edits.iter().any(is_clear) {
+        if one_clears(&edits) {
             return self.clear_and_configure(hub, edits, now);
         }
         match only(edits) {

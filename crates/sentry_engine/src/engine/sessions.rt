@@ -55,6 +55,7 @@ impl<P: EventCallback + Drop, C: Callbacks> Engine<P, C> {
 
     // Holds a session under the next number, which is free: the top layer of a hub that is held names it, and gives up
     // the one that it named. If out of memory, nothing has changed.
+    #[tactic(auto, using(crate::proofs::Keeping::without_put))]
     fn replace_session(
         &mut self,
         hub: u64,

@@ -9,8 +9,8 @@ unfolding call.configure
 returns g c now world stands =
     let found : hub_at world c.args.hub ≡ Some c.in-Some.held.now =
     sym (c.in-Some.ensures.in_world world stands) in
-    rw found (rw (sym c.in_ok-scope.ensures.cases) (rw (sym c.in_ok-edit_all.ensures) (
+    rw found (rw c.requires (rw (sym c.in_ok-scope.ensures.cases) (rw (sym c.in_ok-edit_all.ensures) (
       search rules,
       c.set_scope.ensures.in_world world c.in-Some.held.now stands
           (c.in-Some.ensures.in_table c.in-Some.held.now refl),
-    )))
+    ))))

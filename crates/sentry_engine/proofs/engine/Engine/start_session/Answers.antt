@@ -1,0 +1,32 @@
+use Rattle.std.proofs.Common.{◌≡◌, ◌∙◌, ap, refl, sym, Some, [], true, rules}
+use Rattle.std.specs.Prelude.{option_map}
+use Rattle.sentry_plain.specs.Tables.{value_at}
+use Rattle.sentry_parts.specs.Sessions.{session_of, start_of}
+use Rattle.sentry_engine.specs.Outcomes.{hub_at, plain_client_at}
+use Rattle.sentry_engine.specs.Sessions.{is_session_number_left}
+use Rattle.sentry_engine.proofs.Keeping.{session_start}
+use Rattle.sentry_engine.proofs.SendingLemmas.{start_session_is, replied}
+use Rattle.sentry_engine.proofs.engine.Engine.start_session.Goals as goal
+
+-- the hub and the client that were found stand in the world, and the session starts
+pub returns : goal.returns
+returns g c = λ world s.
+    let key = c.args.hub in
+    let hub = c.in-Some.held.now in
+    let client = c.in-Some-client_at.client.now in
+    let found : hub_at world key ≡ Some hub = sym (c.in-Some.ensures.in_world world s) in
+    let there : value_at c.args.self.now.hubs key.number ≡ Some hub = c.in-Some.ensures.in_table hub refl in
+    let client_found : plain_client_at world c.in-Some-client.key ≡ Some client = sym (c.in-Some-client_at.ensures world s) in
+    let given : c.has_session_number.result ≡ true = search rules in
+    let left : is_session_number_left world ≡ true = sym (c.has_session_number.ensures.in_world world s) ∙ given in
+    let user = c.as_ref-user.ensures.value in
+    let built = c.in_ok-session.ensures in
+    let made : Some c.in-Some-2.session
+    ≡ option_map (λ start. session_of start []) (start_of c.in-Some-client.key client.options.plain hub.stack.top.scope.user c.args.fresh.uuid c.args.fresh.now) =
+    search rules in
+    let start = session_start (start_of c.in-Some-client.key client.options.plain hub.stack.top.scope.user c.args.fresh.uuid c.args.fresh.now)
+    c.in-Some-2.session made in
+    let started = c.in_ok-sent.ensures.in_world world hub start.0 s there start.2 in
+    replied _ _ _ _ _ _
+    (start_session_is key c.args.fresh world hub c.in-Some-client.key client start.0 found c.in-Some-client.is client_found start.1 left)
+    started.0 started.1
