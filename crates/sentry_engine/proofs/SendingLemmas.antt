@@ -124,11 +124,10 @@ module _ {P C : Type 0} where
   pub replied : {T : Type 0} (outcome : Outcome P C T) (reply : T) (sent handed : List (ClientKey × Envelope)) (after : World P C) (new : Engine P C)
       → outcome ≡ reply_with reply sent after → handed ≡ sent → Stands new after
       → (outcome.answer ≡ Ok (record { reply = reply; sent = handed })) × Stands new outcome.after
-  replied outcome reply sent handed after new is same stands =
-      (
-        ap (λ o. o.answer) is ∙ ap (λ envelopes. Ok (record { reply = reply; sent = envelopes })) (sym same),
-        subst (λ w. Stands new w) (sym (ap (λ o. o.after) is)) stands,
-      )
+  replied outcome reply sent handed after new is same stands = (
+    ap (λ o. o.answer) is ∙ ap (λ envelopes. Ok (record { reply = reply; sent = envelopes })) (sym same),
+    subst (λ w. Stands new w) (sym (ap (λ o. o.after) is)) stands,
+  )
 
   -- a call that replies may answer out of memory
   pub may_lack_memory : {T : Type 0} (outcome : Outcome P C T) (reply : T) (sent : List (ClientKey × Envelope)) (after : World P C)

@@ -31,7 +31,7 @@ module _ {P C : Type 0} where
   with_next_session_named number hub world = record world {
     next = record world.next { session = world.next.session + 1 };
     hubs = replace_at world.hubs number
-    (with_session hub (Some (record { tag = world.tag; number = world.next.session })));
+        (with_session hub (Some (record { tag = world.tag; number = world.next.session })));
   }
 
   -- a session starts under the next number; the top layer of a hub gives up the session that it named, and names this

@@ -95,8 +95,8 @@ struct NextNumbers {
     session: u64,
 }
 
-/// Holds clients, hubs and sessions by key, and decides what every call on them replies and hands out. `P` is the type of a
-/// scope's processors, `C` that of a client's callbacks. A refused call changes nothing.
+/// Holds clients, hubs and sessions by key, and decides what every call on them replies and hands out. `P` is the type
+/// of a scope's processors, `C` that of a client's callbacks. A refused call changes nothing.
 pub struct Engine<P, C> {
     tag: u64,
     next: NextNumbers,

@@ -335,8 +335,8 @@ impl<P: EventCallback + Drop, C: Callbacks> Engine<P, C> {
 
     /// Captures an event on a hub: it goes through the pipeline of the top layer's client, under that layer's scope,
     /// and out in an envelope. If it comes through all callbacks, the layer's session counts it, and in the mode of
-    /// applications the envelope takes along what the server is to be told of the session. Its id is the reply; the nil id if it was dropped, or if the layer has no client, or the
-    /// client no transport.
+    /// applications the envelope takes along what the server is to be told of the session. Its id is the reply; the nil
+    /// id if it was dropped, or if the layer has no client, or the client no transport.
     ///
     /// `Stale`: the hub isn't held. `OutOfMemory`.
     pub fn capture_event(

@@ -164,8 +164,8 @@ impl<P: EventCallback + Drop, C: Callbacks> Engine<P, C> {
         Ok(self.out(key))
     }
 
-    /// Gives a hub back, which has one layer. Its key is stale from then on. The session that the layer names ends if no
-    /// other layer names it. `now` is the moment in nanoseconds since the epoch.
+    /// Gives a hub back, which has one layer. Its key is stale from then on. The session that the layer names ends if
+    /// no other layer names it. `now` is the moment in nanoseconds since the epoch.
     ///
     /// `Stale`: the hub isn't held. `ScopesOpen`: it has more than one layer. `OutOfMemory`.
     #[tactic(auto, unfolding(crate::specs::Layers::release_hub))]

@@ -42,7 +42,7 @@ impl<P: EventCallback + Drop, C: Callbacks> Engine<P, C> {
             Stands self.new (record world {
               next = record world.next { session = world.next.session + 1 };
               hubs = replace_at world.hubs number
-              (with_session hub (Some (record { tag = world.tag; number = world.next.session })));
+                  (with_session hub (Some (record { tag = world.tag; number = world.next.session })));
             }) }
     {
         let key = SessionKey {
@@ -120,8 +120,8 @@ impl<P: EventCallback + Drop, C: Callbacks> Engine<P, C> {
     }
 
     /// Ends the session of a hub's top layer with a status, for every layer that names it. What the server is still to
-    /// be told of it is queued at the client under which it started. `now` is the moment in nanoseconds since the epoch.
-    /// Without a session nothing changes.
+    /// be told of it is queued at the client under which it started. `now` is the moment in nanoseconds since the
+    /// epoch. Without a session nothing changes.
     ///
     /// `Stale`: the hub isn't held. `OutOfMemory`.
     #[tactic(auto, unfolding(crate::specs::Sessions::end_session_with_status))]
