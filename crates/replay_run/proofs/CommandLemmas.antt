@@ -8,9 +8,9 @@ use Rattle.std.proofs.lemmas.Slice.Eq.{bytes_eq-Decides}
 use Rattle.sentry_plain.specs.Texts.{Bytes}
 use Rattle.sentry_base.specs.declared.protocol.level.Level.{Level}
 use Rattle.replay_run.specs.declared.command.Command.{Command}
-use Rattle.replay_run.specs.declared.command.Command.TheVariants.{Client, Hub, Tag, Message, Empty, Release}
+use Rattle.replay_run.specs.declared.command.Command.TheVariants.{Client, Hub, Tag, Message, Empty, Release, Session, End, Flush}
 use Rattle.replay_run.specs.Commands.{IsWord, IsNumber, IsRelease, HasForm, level_word}
-use Rattle.replay_run.specs.Reading.{◌>>=◌, cut, is_word, number_of, level_of, client_of, hub_of, tag_of, message_of, empty_of, release_of, form_of, command_of}
+use Rattle.replay_run.specs.Reading.{◌>>=◌, cut, is_word, number_of, level_of, client_of, hub_of, tag_of, message_of, empty_of, release_of, session_of, end_of, flush_of, form_of, command_of}
 use Rattle.replay_run.proofs.ReadingLemmas.{cut-solid, cut_some, number_some, number-is, number_solid, level_some, level-is, level_solid, is_word_some, is_word-is}
 
 -- what was read, and what came of it
@@ -70,6 +70,18 @@ release-is : (text : Bytes) (hub : ℕ) → IsNumber text hub → release_of tex
 unfolding release_of
 release-is text hub h = ap (λ o. o >>= λ n. Some (Release n)) (number-is text hub h)
 
+session-is : (text : Bytes) (hub : ℕ) → IsNumber text hub → session_of text ≡ Some (Session hub)
+unfolding session_of
+session-is text hub h = ap (λ o. o >>= λ n. Some (Session n)) (number-is text hub h)
+
+end-is : (text : Bytes) (hub : ℕ) → IsNumber text hub → end_of text ≡ Some (End hub)
+unfolding end_of
+end-is text hub h = ap (λ o. o >>= λ n. Some (End n)) (number-is text hub h)
+
+flush-is : (text : Bytes) (client : ℕ) → IsNumber text client → flush_of text ≡ Some (Flush client)
+unfolding flush_of
+flush-is text client h = ap (λ o. o >>= λ n. Some (Flush n)) (number-is text client h)
+
 pub command-is : (line : Bytes) (command : Command) → HasForm line command → command_of line ≡ Some command
 unfolding command_of form_of
 command-is line (Client release) h = ap command_of h.2 ∙ client-is h.0 release h.1
@@ -80,6 +92,9 @@ command-is line (Message hub level text) h =
     ap command_of (h.2 ∙ ap (λ rest. codes "message " ++ rest) (spaced h.0 (level_word level) text)) ∙ message-is h.0 text hub level h.1
 command-is line (Empty client) h = ap command_of h.2 ∙ empty-is h.0 client h.1
 command-is line (Release hub) h = ap command_of h.2 ∙ release-is h.0 hub h.1
+command-is line (Session hub) h = ap command_of h.2 ∙ session-is h.0 hub h.1
+command-is line (End hub) h = ap command_of h.2 ∙ end-is h.0 hub h.1
+command-is line (Flush client) h = ap command_of h.2 ∙ flush-is h.0 client h.1
 
 -- from the command to a form
 
@@ -157,6 +172,24 @@ release_form text command e =
     bind_cases (HasForm (codes "release " ++ text) command) (number_of text) _ command e (λ hub number e.
     subst (HasForm (codes "release " ++ text)) (same_Some _ _ e) (text, number_some text hub number, refl))
 
+session_form : (text : Bytes) (command : Command) → session_of text ≡ Some command → HasForm (codes "session " ++ text) command
+unfolding session_of
+session_form text command e =
+    bind_cases (HasForm (codes "session " ++ text) command) (number_of text) _ command e (λ hub number e.
+    subst (HasForm (codes "session " ++ text)) (same_Some _ _ e) (text, number_some text hub number, refl))
+
+end_form : (text : Bytes) (command : Command) → end_of text ≡ Some command → HasForm (codes "end " ++ text) command
+unfolding end_of
+end_form text command e =
+    bind_cases (HasForm (codes "end " ++ text) command) (number_of text) _ command e (λ hub number e.
+    subst (HasForm (codes "end " ++ text)) (same_Some _ _ e) (text, number_some text hub number, refl))
+
+flush_form : (text : Bytes) (command : Command) → flush_of text ≡ Some command → HasForm (codes "flush " ++ text) command
+unfolding flush_of
+flush_form text command e =
+    bind_cases (HasForm (codes "flush " ++ text) command) (number_of text) _ command e (λ client number e.
+    subst (HasForm (codes "flush " ++ text)) (same_Some _ _ e) (text, number_some text client number, refl))
+
 -- the first word is known, and so is the form
 formed : (line word rest front : Bytes) (command : Command) → cut line ≡ Some (word, rest) → word ≡ front → HasForm (front ++ (32 ∷ rest)) command → HasForm line command
 formed line word rest front command found same form =
@@ -176,9 +209,18 @@ form_form line word rest command found e =
             | inl h ↦ formed line word rest (codes "message") command found h.0 (message_form rest command h.1)
             | inr e ↦ elim (or_next word (codes "empty") (empty_of rest) _ (Some command) e) [
               | inl h ↦ formed line word rest (codes "empty") command found h.0 (empty_form rest command h.1)
-              | inr e ↦ elim (or_next word (codes "release") (release_of rest) None (Some command) e) [
+              | inr e ↦ elim (or_next word (codes "release") (release_of rest) _ (Some command) e) [
                 | inl h ↦ formed line word rest (codes "release") command found h.0 (release_form rest command h.1)
-                | inr e ↦ absurd (none-some command e)
+                | inr e ↦ elim (or_next word (codes "session") (session_of rest) _ (Some command) e) [
+                  | inl h ↦ formed line word rest (codes "session") command found h.0 (session_form rest command h.1)
+                  | inr e ↦ elim (or_next word (codes "end") (end_of rest) _ (Some command) e) [
+                    | inl h ↦ formed line word rest (codes "end") command found h.0 (end_form rest command h.1)
+                    | inr e ↦ elim (or_next word (codes "flush") (flush_of rest) None (Some command) e) [
+                      | inl h ↦ formed line word rest (codes "flush") command found h.0 (flush_form rest command h.1)
+                      | inr e ↦ absurd (none-some command e)
+                    ]
+                  ]
+                ]
               ]
             ]
           ]

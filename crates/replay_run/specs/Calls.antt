@@ -6,14 +6,17 @@ use Rattle.sentry_base.specs.declared.dsn.Scheme.TheVariants.{Https}
 use Rattle.sentry_base.specs.DsnParts.{DsnParts}
 use Rattle.sentry_base.specs.Envelopes.{empty_envelope}
 use Rattle.sentry_base.specs.declared.protocol.fresh.Fresh.{Fresh}
+use Rattle.sentry_base.specs.declared.protocol.keys.ClientKey.{ClientKey}
+use Rattle.sentry_base.specs.declared.protocol.keys.HubKey.{HubKey}
+use Rattle.sentry_base.specs.declared.protocol.session.SessionStatus.TheVariants.{Exited}
 use Rattle.sentry_state.specs.Options.{default_plain_options, default_options_with}
 use Rattle.sentry_state.specs.declared.clientoptions.ClientOptions.{ClientOptions}
 use Rattle.sentry_state.specs.Scopes.{new_scope}
 use Rattle.sentry_state.specs.declared.scope.edit.ScopeEdit.TheVariants.{SetTag}
-use Rattle.sentry_engine.specs.declared.call.Call.TheVariants.{AddClient, NewHub, Configure, CaptureMessage, SendEnvelope, ReleaseHub}
+use Rattle.sentry_engine.specs.declared.call.Call.TheVariants.{AddClient, NewHub, Configure, CaptureMessage, SendEnvelope, ReleaseHub, StartSession, EndSessionWithStatus, Flush}
 use Rattle.replay_run.specs.declared.engine.NoCallbacks.{NoCallbacks}
 use Rattle.replay_run.specs.declared.command.Command.{Command}
-use Rattle.replay_run.specs.declared.command.Command.TheVariants.{Client, Hub, Tag, Message, Empty, Release}
+use Rattle.replay_run.specs.declared.command.Command.TheVariants as command
 use Rattle.replay_run.specs.Engines.{ReplayCall}
 
 -- the moment of the line of this number, which stops at 2^64-1
@@ -51,16 +54,22 @@ client_options release = record (default_options_with (record {})) {
   plain = record default_plain_options { dsn = Some client_dsn; release = release };
 }
 
+abbrev pub client_key : ℕ → ClientKey
+client_key number = record { tag = 0; number = number }
+
+abbrev pub hub_key : ℕ → HubKey
+hub_key number = record { tag = 0; number = number }
+
 -- the call of the command on the line of this number; a client's label is the number of its line
 abbrev pub call_of : ℕ → Command → ReplayCall
-call_of number (Client release) =
+call_of number (command.Client release) =
     AddClient (client_options release) true (record { tag = 0; number = number }) (moment_of number)
-call_of number (Hub client) =
-    NewHub (Some (record { tag = 0; number = client }))
-    (new_scope (fresh_of number).trace_id (fresh_of number).span_id)
-call_of number (Tag hub key value) =
-    Configure (record { tag = 0; number = hub }) (SetTag key value ∷ []) (moment_of number)
-call_of number (Message hub level text) =
-    CaptureMessage (record { tag = 0; number = hub }) text level (fresh_of number)
-call_of number (Empty client) = SendEnvelope (record { tag = 0; number = client }) empty_envelope
-call_of number (Release hub) = ReleaseHub (record { tag = 0; number = hub }) (moment_of number)
+call_of number (command.Hub client) =
+    NewHub (Some (client_key client)) (new_scope (fresh_of number).trace_id (fresh_of number).span_id)
+call_of number (command.Tag hub key value) = Configure (hub_key hub) (SetTag key value ∷ []) (moment_of number)
+call_of number (command.Message hub level text) = CaptureMessage (hub_key hub) text level (fresh_of number)
+call_of number (command.Empty client) = SendEnvelope (client_key client) empty_envelope
+call_of number (command.Release hub) = ReleaseHub (hub_key hub) (moment_of number)
+call_of number (command.Session hub) = StartSession (hub_key hub) (fresh_of number)
+call_of number (command.End hub) = EndSessionWithStatus (hub_key hub) Exited (moment_of number)
+call_of number (command.Flush client) = Flush (client_key client)

@@ -7,7 +7,7 @@ use Rattle.sentry_plain.specs.Texts.{Bytes}
 use Rattle.sentry_base.specs.declared.protocol.level.Level.{Level}
 use Rattle.sentry_base.specs.declared.protocol.level.Level.TheVariants.{Debug, Info, Warning, Error, Fatal}
 use Rattle.replay_run.specs.declared.command.Command.{Command}
-use Rattle.replay_run.specs.declared.command.Command.TheVariants.{Client, Hub, Tag, Message, Empty, Release}
+use Rattle.replay_run.specs.declared.command.Command.TheVariants.{Client, Hub, Tag, Message, Empty, Release, Session, End, Flush}
 
 -- a word: at least one byte, and no space
 pub record IsWord (text : Bytes) : Type 0 where
@@ -49,6 +49,12 @@ HasForm line (Empty client) =
     (number : Bytes) × IsNumber number client × (line ≡ codes "empty " ++ number)
 HasForm line (Release hub) =
     (number : Bytes) × IsNumber number hub × (line ≡ codes "release " ++ number)
+HasForm line (Session hub) =
+    (number : Bytes) × IsNumber number hub × (line ≡ codes "session " ++ number)
+HasForm line (End hub) =
+    (number : Bytes) × IsNumber number hub × (line ≡ codes "end " ++ number)
+HasForm line (Flush client) =
+    (number : Bytes) × IsNumber number client × (line ≡ codes "flush " ++ number)
 
 -- the line is text in UTF-8, and of the form of this command
 pub record Spells (line : Bytes) (command : Command) : Type 0 where

@@ -8,7 +8,7 @@ use Rattle.sentry_base.specs.declared.protocol.level.Level.{Level}
 use Rattle.sentry_base.specs.declared.protocol.level.Level.TheVariants.{Debug, Info, Warning, Error, Fatal}
 use Rattle.replay_run.specs.Commands.{level_word}
 use Rattle.replay_run.specs.declared.command.Command.{Command}
-use Rattle.replay_run.specs.declared.command.Command.TheVariants.{Client, Hub, Tag, Message, Empty, Release}
+use Rattle.replay_run.specs.declared.command.Command.TheVariants.{Client, Hub, Tag, Message, Empty, Release, Session, End, Flush}
 
 infixl 10 ◌>>=◌
 -- goes on with what was read
@@ -66,6 +66,15 @@ empty_of text = number_of text >>= λ client. Some (Empty client)
 unfoldable pub release_of : Bytes → Option Command
 release_of text = number_of text >>= λ hub. Some (Release hub)
 
+unfoldable pub session_of : Bytes → Option Command
+session_of text = number_of text >>= λ hub. Some (Session hub)
+
+unfoldable pub end_of : Bytes → Option Command
+end_of text = number_of text >>= λ hub. Some (End hub)
+
+unfoldable pub flush_of : Bytes → Option Command
+flush_of text = number_of text >>= λ client. Some (Flush client)
+
 unfoldable pub form_of : Bytes → Bytes → Option Command
 form_of word rest =
     if bytes_eq word (codes "client") then client_of rest
@@ -74,6 +83,9 @@ form_of word rest =
     else if bytes_eq word (codes "message") then message_of rest
     else if bytes_eq word (codes "empty") then empty_of rest
     else if bytes_eq word (codes "release") then release_of rest
+    else if bytes_eq word (codes "session") then session_of rest
+    else if bytes_eq word (codes "end") then end_of rest
+    else if bytes_eq word (codes "flush") then flush_of rest
     else None
 
 unfoldable pub command_of : Bytes → Option Command

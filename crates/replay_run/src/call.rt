@@ -1,13 +1,14 @@
 //! The calls that commands make.
 ghost use Rattle.std.specs.Prelude.{◌≡◌, Ok, IfOk};
 ghost use Rattle.sentry_base.specs.DsnTexts.{dsn_of_text};
-ghost use Rattle.replay_run.specs.Calls.{moment_of, fresh_of, client_dsn_text, client_dsn, client_options, call_of};
+ghost use Rattle.replay_run.specs.Calls.{moment_of, fresh_of, client_key, hub_key, call_of};
+ghost use Rattle.replay_run.specs.Calls.{client_dsn_text, client_dsn, client_options};
 
 use crate::command::Command;
 use crate::engine::{NoCallbacks, ReplayCall};
 use sentry_base::dsn::Dsn;
 use sentry_base::protocol::{
-    ClientKey, Draw, Envelope, Fresh, HubKey, Label, SpanId, TraceId, Uuid,
+    ClientKey, Draw, Envelope, Fresh, HubKey, Label, SessionStatus, SpanId, TraceId, Uuid,
 };
 use sentry_engine::call::Call;
 use sentry_plain::{Boxed, Items, Text};
@@ -48,6 +49,18 @@ fn fresh(number: u64) -> Fresh
     }
 }
 
+fn client_key(number: u64) -> ClientKey
+    ensures { result ≡ client_key number }
+{
+    ClientKey { tag: TAG, number }
+}
+
+fn hub_key(number: u64) -> HubKey
+    ensures { result ≡ hub_key number }
+{
+    HubKey { tag: TAG, number }
+}
+
 // The DSN of every client. It is refused for nothing but memory, by `client_dsn_has_its_parts`.
 fn dsn(alloc: Global) -> Result<Dsn, AllocError>
     ensures { IfOk result (λ dsn. dsn ≡ client_dsn) }
@@ -83,46 +96,41 @@ pub fn build_call(alloc: Global, number: u64, command: Command) -> Result<Replay
             now,
         }),
         Command::Hub(client) => Ok(Call::NewHub {
-            client: Some(ClientKey {
-                tag: TAG,
-                number: client,
-            }),
+            client: Some(client_key(client)),
             scope: Boxed::new(alloc, Scope::new(alloc, fresh.trace_id, fresh.span_id))?,
         }),
         Command::Tag { hub, key, value } => {
             let mut edits = Items::new(alloc);
             edits.push(ScopeEdit::SetTag(key, value))?;
             Ok(Call::Configure {
-                hub: HubKey {
-                    tag: TAG,
-                    number: hub,
-                },
+                hub: hub_key(hub),
                 edits,
                 now,
             })
         }
         Command::Message { hub, level, text } => Ok(Call::CaptureMessage {
-            hub: HubKey {
-                tag: TAG,
-                number: hub,
-            },
+            hub: hub_key(hub),
             message: text,
             level,
             fresh,
         }),
         Command::Empty(client) => Ok(Call::SendEnvelope {
-            client: ClientKey {
-                tag: TAG,
-                number: client,
-            },
+            client: client_key(client),
             envelope: Envelope::new(alloc),
         }),
         Command::Release(hub) => Ok(Call::ReleaseHub {
-            hub: HubKey {
-                tag: TAG,
-                number: hub,
-            },
+            hub: hub_key(hub),
             now,
         }),
+        Command::Session(hub) => Ok(Call::StartSession {
+            hub: hub_key(hub),
+            fresh,
+        }),
+        Command::End(hub) => Ok(Call::EndSessionWithStatus {
+            hub: hub_key(hub),
+            status: SessionStatus::Exited,
+            now,
+        }),
+        Command::Flush(client) => Ok(Call::Flush(client_key(client))),
     }
 }

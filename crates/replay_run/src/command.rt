@@ -1,6 +1,7 @@
 //! Commands, and the lines that spell them.
 ghost use Rattle.std.specs.Prelude.{◌≡◌, IfOk, IfSome, IfNone};
-ghost use Rattle.replay_run.specs.Reading.{client_of, hub_of, tag_of, message_of, empty_of, release_of, form_of, command_of};
+ghost use Rattle.replay_run.specs.Reading.{client_of, hub_of, tag_of, message_of, empty_of, release_of};
+ghost use Rattle.replay_run.specs.Reading.{session_of, end_of, flush_of, form_of, command_of};
 ghost use Rattle.replay_run.specs.Commands.{Spells};
 ghost use Rattle.replay_run.specs.declared.command.Command.{Command};
 ghost use Rattle.sentry_plain.specs.Texts.{Bytes};
@@ -25,6 +26,12 @@ pub enum Command {
     Empty(u64),
     /// Gives the hub of this number back.
     Release(u64),
+    /// Starts a session on the hub of this number.
+    Session(u64),
+    /// Ends the session of the hub of this number, as exited.
+    End(u64),
+    /// Sends what waits in the queues of the client of this number.
+    Flush(u64),
 }
 
 #[tactic(auto, unfolding(crate::specs::Reading::client_of))]
@@ -102,6 +109,27 @@ fn parse_release(text: &str) -> Option<Command>
     Some(Command::Release(parse_number(text)?))
 }
 
+#[tactic(auto, unfolding(crate::specs::Reading::session_of))]
+fn parse_session(text: &str) -> Option<Command>
+    ensures { result ≡ session_of text.now }
+{
+    Some(Command::Session(parse_number(text)?))
+}
+
+#[tactic(auto, unfolding(crate::specs::Reading::end_of))]
+fn parse_end(text: &str) -> Option<Command>
+    ensures { result ≡ end_of text.now }
+{
+    Some(Command::End(parse_number(text)?))
+}
+
+#[tactic(auto, unfolding(crate::specs::Reading::flush_of))]
+fn parse_flush(text: &str) -> Option<Command>
+    ensures { result ≡ flush_of text.now }
+{
+    Some(Command::Flush(parse_number(text)?))
+}
+
 #[tactic(auto, unfolding(crate::specs::Reading::form_of, crate::specs::Reading::command_of))]
 fn parse_text(alloc: Global, line: &str) -> Result<Option<Command>, AllocError>
     ensures { IfOk result (λ found. found ≡ command_of line.now) }
@@ -116,6 +144,9 @@ fn parse_text(alloc: Global, line: &str) -> Result<Option<Command>, AllocError>
         "message" => parse_message(alloc, rest),
         "empty" => Ok(parse_empty(rest)),
         "release" => Ok(parse_release(rest)),
+        "session" => Ok(parse_session(rest)),
+        "end" => Ok(parse_end(rest)),
+        "flush" => Ok(parse_flush(rest)),
         _ => Ok(None),
     }
 }

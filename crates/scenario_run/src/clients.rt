@@ -1,4 +1,4 @@
-//! Lines on clients and on sampling: `client`, `options`, `clientdsn`, `enabled`, `drop` and `sample`.
+//! Lines on clients and on sampling: `client`, `options`, `clientdsn`, `enabled`, `flush`, `drop` and `sample`.
 use crate::answer::{Answer, Reply};
 use crate::fault::Failure;
 use crate::options::{ClientPlan, OptionWords};
@@ -20,6 +20,8 @@ pub enum ClientCommand<'a> {
     Dsn(u64),
     /// `enabled C`
     IsEnabled(u64),
+    /// `flush C`
+    Flush(u64),
     /// `drop C`
     Drop(u64),
     /// `sample MILLIONTHS DRAW`
@@ -41,6 +43,7 @@ impl<'a> ClientCommand<'a> {
             "options" => ClientCommand::Options(words.number()?),
             "clientdsn" => ClientCommand::Dsn(words.number()?),
             "enabled" => ClientCommand::IsEnabled(words.number()?),
+            "flush" => ClientCommand::Flush(words.number()?),
             "drop" => ClientCommand::Drop(words.number()?),
             "sample" => ClientCommand::Sample {
                 millionths: small(words.number()?),
@@ -64,6 +67,7 @@ impl Scenario {
             ClientCommand::Options(client) => Ok(self.options(*client)?),
             ClientCommand::Dsn(client) => Ok(self.dsn_of_client(*client)?),
             ClientCommand::IsEnabled(client) => Ok(self.is_enabled(*client)?),
+            ClientCommand::Flush(client) => Ok(self.flush(*client)?),
             ClientCommand::Drop(client) => Ok(self.drop_client(*client)?),
             ClientCommand::Sample { millionths, draw } => Ok(self.sample(*millionths, *draw)?),
         }
@@ -98,6 +102,10 @@ impl Scenario {
         let is_enabled = self.engine.is_enabled(client_key(client))?.reply;
         let reply = Reply::Enabled { client, is_enabled };
         Ok(Answer::new(self.alloc, reply))
+    }
+
+    fn flush<'a>(&mut self, client: u64) -> Result<Answer<'a>, Refusal> {
+        Ok(Answer::of_sent(self.engine.flush(client_key(client))?))
     }
 
     fn drop_client<'a>(&mut self, client: u64) -> Result<Answer<'a>, Refusal> {

@@ -8,6 +8,7 @@ use crate::hubs::HubCommand;
 use crate::layers::LayerCommand;
 use crate::losses::LossCommand;
 use crate::scopes::ScopeCommand;
+use crate::sessions::SessionCommand;
 use crate::settings::Setting;
 use crate::texts::TextCommand;
 use crate::words::Words;
@@ -24,6 +25,7 @@ pub enum Command<'a> {
     Scope(ScopeCommand<'a>),
     Breadcrumb(BreadcrumbCommand<'a>),
     Capture(CaptureCommand<'a>),
+    Session(SessionCommand),
     Header(HeaderCommand<'a>),
     Text(TextCommand<'a>),
 }
@@ -60,6 +62,9 @@ impl<'a> Command<'a> {
         }
         if let Some(command) = CaptureCommand::read(name, words) {
             return Some(Command::Capture(command));
+        }
+        if let Some(command) = SessionCommand::read(name, words) {
+            return Some(Command::Session(command));
         }
         if let Some(command) = HeaderCommand::read(name, words) {
             return Some(Command::Header(command));

@@ -22,6 +22,7 @@ mod rich;
 mod run;
 mod scenario;
 mod scopes;
+mod sessions;
 mod settings;
 mod texts;
 mod words;

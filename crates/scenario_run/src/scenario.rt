@@ -111,6 +111,7 @@ impl Scenario {
             Command::Scope(command) => self.configure(command),
             Command::Breadcrumb(command) => self.add_breadcrumbs(*command),
             Command::Capture(command) => self.capture(command),
+            Command::Session(command) => self.perform_on_session(*command),
             Command::Header(command) => self.perform_on_headers(command),
             Command::Text(command) => self.read_text(command),
         }
