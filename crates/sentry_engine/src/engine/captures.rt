@@ -21,7 +21,7 @@ use sentry_base::protocol::{
 };
 use sentry_parts::pipeline::{Preparation, prepare_event};
 use sentry_parts::session::Session;
-use sentry_plain::Items;
+use sentry_plain::{Boxed, Items};
 use sentry_state::callbacks::EventCallback;
 use sentry_state::clientoptions::{Callbacks, SessionMode};
 use sentry_state::scope::Scope;
@@ -90,13 +90,27 @@ fn count_reached(session: &mut Session, event: &Option<Event>)
     }
 }
 
+// The value in a box, if there is one: it is cheap to hand on.
+pub(super) fn into_box<T: Drop>(
+    alloc: Global,
+    value: Option<T>,
+) -> Result<Option<Boxed<T>>, AllocError>
+    ensures { IfOk result (λ boxed. boxed ≡ value) }
+{
+    match value {
+        None => Ok(None),
+        Some(value) => Ok(Some(Boxed::new(alloc, value)?)),
+    }
+}
+
 // What a capture does to a session: the update that goes out with the event, and the session after it.
 #[tactic(auto, unfolding(crate::specs::Captures::capture_session))]
 fn capture_session(
+    alloc: Global,
     session: &Session,
     takes: bool,
     reached: &Option<Event>,
-) -> Result<(Option<SessionUpdate>, Session), AllocError>
+) -> Result<(Option<Boxed<SessionUpdate>>, Session), AllocError>
     ensures { IfOk result (λ captured. (state : SessionState) → session.now ≡ plain_session state →
         (captured.0 ≡ (capture_session takes reached.now state).update)
         × (captured.1 ≡ plain_session (capture_session takes reached.now state).after)) }
@@ -106,7 +120,7 @@ fn capture_session(
     if !takes {
         return Ok((None, after));
     }
-    let update = after.create_envelope_item()?;
+    let update = into_box(alloc, after.create_envelope_item()?)?;
     Ok((update, after))
 }
 
@@ -134,12 +148,15 @@ pub(super) fn add_report(
 }
 
 // Adds a session's update as the last item, if there is one.
-fn add_update(envelope: &mut Envelope, update: Option<SessionUpdate>) -> Result<(), AllocError>
+fn add_update(
+    envelope: &mut Envelope,
+    update: Option<Boxed<SessionUpdate>>,
+) -> Result<(), AllocError>
     ensures { OnOk result (envelope.new ≡ with_update update envelope.old) }
 {
     match update {
         None => Ok(()),
-        Some(update) => envelope.add_item(EnvelopeItem::SessionUpdate(update)),
+        Some(update) => envelope.add_item(EnvelopeItem::SessionUpdate(update.into_inner())),
     }
 }
 
@@ -167,7 +184,7 @@ fn attachments_of<P>(scope: Option<&Scope<P>>) -> &[Attachment]
 fn event_envelope(
     alloc: Global,
     event: Event,
-    update: Option<SessionUpdate>,
+    update: Option<Boxed<SessionUpdate>>,
     attachments: &[Attachment],
 ) -> Result<Envelope, AllocError>
     ensures { IfOk result (λ envelope. envelope ≡
@@ -188,7 +205,7 @@ impl<P: EventCallback + Drop, C: Callbacks> Engine<P, C> {
         name: Option<SessionKey>,
         takes: bool,
         reached: &Option<Event>,
-    ) -> Result<(Option<SessionUpdate>, Option<Session>), AllocError>
+    ) -> Result<(Option<Boxed<SessionUpdate>>, Option<Session>), AllocError>
         ensures { IfOk result (λ captured. (world : World P C) → Stands self.now world →
             let expected = option_map (capture_session takes reached.now) (named_session world name) in
             (captured.0 ≡ update_along expected) × (captured.1 ≡ session_after expected)) }
@@ -196,7 +213,7 @@ impl<P: EventCallback + Drop, C: Callbacks> Engine<P, C> {
         let Some(session) = self.named_session(name) else {
             return Ok((None, None));
         };
-        let (update, after) = capture_session(session, takes, reached)?;
+        let (update, after) = capture_session(self.alloc, session, takes, reached)?;
         Ok((update, Some(after)))
     }
 
@@ -234,7 +251,7 @@ impl<P: EventCallback + Drop, C: Callbacks> Engine<P, C> {
         &self,
         key: ClientKey,
         label: Label,
-        update: Option<SessionUpdate>,
+        update: Option<Boxed<SessionUpdate>>,
         scope: Option<&Scope<P>>,
         event: Option<Event>,
     ) -> Result<Items<(ClientKey, Envelope)>, AllocError>

@@ -10,7 +10,7 @@ ghost use Rattle.std.specs.Option.{option_copied};
 ghost use Rattle.sentry_engine.specs.Clients.{is_client_named, has_session_of, set_up, new_client, clone_from, queues_from};
 ghost use Rattle.sentry_engine.specs.Clients as call;
 
-use crate::engine::captures::{add_report, capture, captured_id, drop_unsent};
+use crate::engine::captures::{add_report, capture, captured_id, drop_unsent, into_box};
 use crate::engine::flushes::Flush;
 use crate::engine::{Client, Engine, Hub, Out, Queues};
 use sentry_base::dsn::Dsn;
@@ -28,16 +28,6 @@ use sentry_state::callbacks::EventCallback;
 use sentry_state::clientoptions::{Callbacks, ClientOptions, SessionMode};
 use sentry_state::scope::Scope;
 use std::alloc::{AllocError, Global};
-
-// The event in a box, if there is one.
-fn into_box(alloc: Global, event: Option<Event>) -> Result<Option<Boxed<Event>>, AllocError>
-    ensures { IfOk result (λ boxed. boxed ≡ event) }
-{
-    match event {
-        None => Ok(None),
-        Some(event) => Ok(Some(Boxed::new(alloc, event)?)),
-    }
-}
 
 // A share of the options, after the `setup` of their integrations.
 fn set_up<C: Callbacks>(
