@@ -10,7 +10,6 @@ use Rattle.sentry_base.specs.declared.protocol.refusal.Refusal.TheVariants.{Stal
 use Rattle.sentry_state.specs.declared.clientoptions.ClientOptions.{ClientOptions}
 use Rattle.sentry_state.specs.Callbacks.{Partial, Meanings, set_up_all}
 use Rattle.sentry_state.specs.Stacks.{is_client, names_client}
-use Rattle.sentry_state.specs.declared.clientoptions.choices.SessionMode.{SessionMode}
 use Rattle.sentry_engine.specs.declared.engine.Client.{Client}
 use Rattle.sentry_engine.specs.declared.engine.Hub.{Hub}
 use Rattle.sentry_base.specs.declared.protocol.event.Event.{Event}
@@ -21,11 +20,11 @@ use Rattle.sentry_parts.specs.LossBooks.{report_point}
 use Rattle.sentry_parts.specs.OsAttributes.{os_attributes}
 use Rattle.sentry_parts.specs.Pipeline.{loss_reason}
 use Rattle.sentry_parts.specs.Pipeline as pipeline
-use Rattle.sentry_parts.specs.SessionQueues.{flushed, queue_of, envelopes_of}
 use Rattle.sentry_engine.specs.Books.{with_book, without_unused_book, with_report, pending_report, with_entry, with_entry_if_any}
 use Rattle.sentry_engine.specs.Captures.{lost_event, event_to_send, capture, captured_id, captured_envelopes, attachments_of}
-use Rattle.sentry_engine.specs.Sending.{Sending, send, send_nothing, reply_sending}
-use Rattle.sentry_engine.specs.SessionEnds.{with_client_entry, with_client_state}
+use Rattle.sentry_engine.specs.declared.engine.flushes.Flush.TheVariants.{All, Due, Closing}
+use Rattle.sentry_engine.specs.Flushes.{flush_queues}
+use Rattle.sentry_engine.specs.Sending.{reply_sending}
 use Rattle.sentry_engine.specs.Worlds.{World, ClientState, QueueHistories, SessionState}
 use Rattle.sentry_engine.specs.Outcomes.{Outcome, require_some, require, reply_with, client_at, plain_client_at}
 
@@ -56,14 +55,6 @@ queues_from now = record {
   metric_tick = now;
 }
 
--- the envelopes of all that waits
-abbrev pub waiting_envelopes : SessionMode → QueueHistories → List Envelope
-waiting_envelopes mode queues = envelopes_of (queue_of mode queues.sessions)
-
--- the client after a flush
-abbrev pub flush_all : {C : Type 0} → ClientState C → ClientState C
-flush_all client = with_client_entry flushed client
-
 -- a client after the `setup` of its integrations, with what they then say of the operating system; its slot is occupied
 -- where it had a DSN before that, and has a transport
 unfoldable pub new_client : {C : Type 0} → (C → Meanings) → ClientOptions C → Bool → Label → ℕ → ClientState C
@@ -76,14 +67,11 @@ new_client meanings options transport label now = record {
   queues = queues_from now;
 }
 
-module _ {P C : Type 0} where
-  -- what waits in the queues of a client is sent
-  unfoldable pub flush_queues : ClientKey → ClientState C → World P C → Sending P C
-  flush_queues key client world =
-      if client.closed then send_nothing world else
-      send key client (waiting_envelopes client.options.plain.session_mode client.queues)
-      (with_client_state world key (flush_all client))
+-- a clone of a client that is made at this moment: nothing waits in its queues, and nothing has closed it
+abbrev pub clone_from : {C : Type 0} → ℕ → ClientState C → ClientState C
+clone_from now client = record client { closed = false; queues = queues_from now }
 
+module _ {P C : Type 0} where
   -- a client, under the next number, and a book for its label
   unfoldable pub add_client : (C → Meanings) → ClientOptions C → Bool → Label → ℕ → World P C
       → Outcome P C ClientKey
@@ -147,15 +135,35 @@ module _ {P C : Type 0} where
   -- what waits in the queues of a client
   unfoldable pub flush : ClientKey → World P C → Outcome P C (Unit {0})
   flush key world =
-      require_some Stale world (client_at world key) (λ client. reply_sending tt (flush_queues key client world))
+      require_some Stale world (plain_client_at world key) (λ client. reply_sending tt (flush_queues All key world))
+
+  -- what waits in those queues of a client whose last due tick lies their interval or more before this moment
+  unfoldable pub tick : ClientKey → ℕ → World P C → Outcome P C (Unit {0})
+  tick key now world =
+      require_some Stale world (plain_client_at world key) (λ client. reply_sending tt (flush_queues (Due now) key world))
+
+  -- what waits in the queues of a client, to which nothing comes any more; its slot is empty from then on
+  unfoldable pub close : ClientKey → World P C → Outcome P C (Unit {0})
+  close key world =
+      require_some Stale world (plain_client_at world key) (λ client. reply_sending tt (flush_queues Closing key world))
+
+  -- a client with the options, the label and the slot of another, under the next number
+  unfoldable pub clone_client : ClientKey → ℕ → World P C → Outcome P C ClientKey
+  clone_client key now world =
+      require_some Stale world (client_at world key) (λ client.
+      require Full world (nat_lt world.next.client (2 ^ 64 - 1))
+      (reply_with (record { tag = world.tag; number = world.next.client }) [] (record world {
+        next = record world.next { client = world.next.client + 1 };
+        clients = put world.clients world.next.client (clone_from now client);
+      })))
 
   -- a client that no layer and no session names sends what waits in its queues, and is no longer held; the losses of
   -- its label are forgotten with the last client of it
   unfoldable pub drop_client : ClientKey → World P C → Outcome P C (Unit {0})
   drop_client key world =
-      require_some Stale world (client_at world key) (λ client.
+      require_some Stale world (plain_client_at world key) (λ client.
       require StillNamed world (not (is_client_named key world.hubs))
       (require StillNamed world (not (has_session_of key world.sessions))
-      (let flushed = flush_queues key client world in
+      (let flushed = flush_queues All key world in
       reply_with tt flushed.sent (without_unused_book client.label
       (record flushed.after { clients = without flushed.after.clients key.number })))))

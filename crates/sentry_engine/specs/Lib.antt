@@ -6,8 +6,10 @@ pub mod Outcomes
 pub mod Sending
 pub mod SessionEnds
 pub mod Replies
+pub mod Flushes
 pub mod Clients
 pub mod Hubs
 pub mod Layers
 pub mod Sessions
+pub mod Telemetry
 pub mod Runs

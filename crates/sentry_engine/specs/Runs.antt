@@ -4,7 +4,7 @@ use Rattle.sentry_base.specs.declared.protocol.refusal.Refusal.{Refusal}
 use Rattle.sentry_state.specs.Callbacks.{Partial, Meanings}
 use Rattle.sentry_engine.specs.declared.engine.Out.{Out}
 use Rattle.sentry_engine.specs.declared.call.Call.{Call}
-use Rattle.sentry_engine.specs.declared.call.Call.TheVariants.{AddClient, Options, Dsn, IsEnabled, SampleShouldSend, PrepareEvent, ClientCaptureEvent, SendEnvelope, DropClient, TakeReport, Absorb, NewHub, Configure, AddBreadcrumbs, CaptureEvent, CaptureMessage, CaptureError, LastEventId, Client, IsActive, Scope, PushScope, PopScope, NewHubFromTop, ReleaseHub, BindClient, StartSession, EndSessionWithStatus, Flush}
+use Rattle.sentry_engine.specs.declared.call.Call.TheVariants.{AddClient, Options, Dsn, IsEnabled, SampleShouldSend, PrepareEvent, ClientCaptureEvent, SendEnvelope, DropClient, TakeReport, Absorb, NewHub, Configure, AddBreadcrumbs, CaptureEvent, CaptureMessage, CaptureError, LastEventId, Client, IsActive, Scope, PushScope, PopScope, NewHubFromTop, ReleaseHub, BindClient, StartSession, EndSessionWithStatus, Flush, ClientCaptureLog, ClientCaptureMetric, Tick, Close, CloneClient, CaptureLog, CaptureMetric}
 use Rattle.sentry_engine.specs.declared.call.Reply.{Reply}
 use Rattle.sentry_engine.specs.declared.call.Reply.TheVariants as reply
 use Rattle.sentry_engine.specs.Worlds.{World}
@@ -14,6 +14,7 @@ use Rattle.sentry_engine.specs.Hubs as hubs
 use Rattle.sentry_engine.specs.Layers as layers
 use Rattle.sentry_engine.specs.Losses as losses
 use Rattle.sentry_engine.specs.Sessions as sessions
+use Rattle.sentry_engine.specs.Telemetry as telemetry
 
 module _ {P C T : Type 0} where
   -- an answer whose reply is put into the one type of replies
@@ -50,7 +51,14 @@ module _ {P C : Type 0} (gives : P → Partial) (meanings : C → Meanings) wher
   step (ClientCaptureEvent client event scope fresh) world =
       map_reply reply.Event (clients.client_capture_event gives meanings client event scope fresh world)
   step (SendEnvelope client envelope) world = map_reply (λ _. reply.Done) (clients.send_envelope client envelope world)
+  step (ClientCaptureLog client log scope) world =
+      map_reply (λ _. reply.Done) (telemetry.client_capture_log meanings client log scope world)
+  step (ClientCaptureMetric client draft scope now) world =
+      map_reply (λ _. reply.Done) (telemetry.client_capture_metric meanings client draft scope now world)
   step (Flush client) world = map_reply (λ _. reply.Done) (clients.flush client world)
+  step (Tick client now) world = map_reply (λ _. reply.Done) (clients.tick client now world)
+  step (Close client) world = map_reply (λ _. reply.Done) (clients.close client world)
+  step (CloneClient client now) world = map_reply reply.Client (clients.clone_client client now world)
   step (DropClient client) world = map_reply (λ _. reply.Done) (clients.drop_client client world)
   step (TakeReport label) world = map_reply reply.Report (losses.take_report label world)
   step (Absorb label lost) world = map_reply (λ _. reply.Done) (losses.absorb label lost.quantities world)
@@ -64,6 +72,9 @@ module _ {P C : Type 0} (gives : P → Partial) (meanings : C → Meanings) wher
       map_reply reply.Event (hubs.capture_message gives meanings hub message level fresh world)
   step (CaptureError hub links fresh) world =
       map_reply reply.Event (hubs.capture_error gives meanings hub links fresh world)
+  step (CaptureLog hub log) world = map_reply (λ _. reply.Done) (telemetry.capture_log meanings hub log world)
+  step (CaptureMetric hub draft now) world =
+      map_reply (λ _. reply.Done) (telemetry.capture_metric meanings hub draft now world)
   step (LastEventId hub) world = map_reply reply.LastEvent (hubs.last_event_id hub world)
   step (Client hub) world = map_reply reply.HubClient (hubs.client hub world)
   step (IsActive hub) world = map_reply reply.Decision (hubs.is_active hub world)

@@ -19,6 +19,11 @@ abbrev pub address : ClientKey → Option ClientReport → List Envelope → Lis
 address key report [] = []
 address key report (first ∷ rest) = (key, with_report report first) ∷ address key None rest
 
+-- the report that is left for further envelopes, after these
+abbrev pub report_left : Option ClientReport → List (ClientKey × Envelope) → Option ClientReport
+report_left report [] = report
+report_left report (first ∷ rest) = None
+
 -- what leaves a slot: nothing, where it is empty
 abbrev pub envelopes_from : Bool → ClientKey → Option ClientReport → List Envelope → List (ClientKey × Envelope)
 envelopes_from occupied key report envelopes = if occupied then address key report envelopes else []

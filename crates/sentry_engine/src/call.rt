@@ -13,7 +13,7 @@ use crate::engine::{Engine, Out};
 use sentry_base::dsn::Dsn;
 use sentry_base::protocol::{
     Breadcrumb, ClientKey, ClientReport, Draw, Envelope, ErrorLink, Event, Fresh, HubKey, Label,
-    Level, Losses, Refusal, SampleRate, SessionStatus, Uuid,
+    Level, Log, Losses, MetricDraft, Refusal, SampleRate, SessionStatus, Uuid,
 };
 use sentry_plain::{Boxed, Items, Shared, Text};
 use sentry_state::callbacks::EventCallback;
@@ -56,7 +56,30 @@ pub enum Call<P, C> {
         client: ClientKey,
         envelope: Envelope,
     },
+    ClientCaptureLog {
+        client: ClientKey,
+        log: Boxed<Log>,
+        scope: Boxed<Scope<P>>,
+    },
+    ClientCaptureMetric {
+        client: ClientKey,
+        draft: Boxed<MetricDraft>,
+        scope: Boxed<Scope<P>>,
+        /// The moment in nanoseconds since the epoch.
+        now: u64,
+    },
     Flush(ClientKey),
+    Tick {
+        client: ClientKey,
+        /// The moment in nanoseconds since the epoch.
+        now: u64,
+    },
+    Close(ClientKey),
+    CloneClient {
+        client: ClientKey,
+        /// The moment in nanoseconds since the epoch.
+        now: u64,
+    },
     DropClient(ClientKey),
     TakeReport(Label),
     /// Stands for `absorb`, of plain numbers.
@@ -94,6 +117,16 @@ pub enum Call<P, C> {
         /// The error and its sources, outermost first.
         links: Items<ErrorLink>,
         fresh: Fresh,
+    },
+    CaptureLog {
+        hub: HubKey,
+        log: Boxed<Log>,
+    },
+    CaptureMetric {
+        hub: HubKey,
+        draft: Boxed<MetricDraft>,
+        /// The moment in nanoseconds since the epoch.
+        now: u64,
     },
     LastEventId(HubKey),
     Client(HubKey),
@@ -220,7 +253,19 @@ impl<P: EventCallback + Drop, C: Callbacks> Engine<P, C> {
             Call::SendEnvelope { client, envelope } => {
                 answer_of(self.send_envelope(client, envelope))
             }
+            Call::ClientCaptureLog { client, log, scope } => {
+                answer_of(self.client_capture_log(client, log.into_inner(), scope.get()))
+            }
+            Call::ClientCaptureMetric {
+                client,
+                draft,
+                scope,
+                now,
+            } => answer_of(self.client_capture_metric(client, draft.into_inner(), scope.get(), now)),
             Call::Flush(client) => answer_of(self.flush(client)),
+            Call::Tick { client, now } => answer_of(self.tick(client, now)),
+            Call::Close(client) => answer_of(self.close(client)),
+            Call::CloneClient { client, now } => answer_of(self.clone_client(client, now)),
             Call::DropClient(client) => answer_of(self.drop_client(client)),
             Call::TakeReport(label) => answer_of(self.take_report(label)),
             Call::Absorb { label, losses } => answer_of(self.absorb_losses(label, losses.get())),
@@ -244,6 +289,10 @@ impl<P: EventCallback + Drop, C: Callbacks> Engine<P, C> {
             } => answer_of(self.capture_text(hub, message, level, fresh)),
             Call::CaptureError { hub, links, fresh } => {
                 answer_of(self.capture_error(hub, links.as_slice(), fresh))
+            }
+            Call::CaptureLog { hub, log } => answer_of(self.capture_log(hub, log.into_inner())),
+            Call::CaptureMetric { hub, draft, now } => {
+                answer_of(self.capture_metric(hub, draft.into_inner(), now))
             }
             Call::LastEventId(hub) => answer_of(self.last_event_id(hub)),
             Call::Client(hub) => answer_of(self.client(hub)),

@@ -9,11 +9,15 @@ ghost use Rattle.sentry_engine.specs.Outcomes.{hub_at, plain_client_at, is_held_
 mod books;
 mod captures;
 mod clients;
+mod flushes;
+mod flushing;
 mod hubs;
 mod layers;
+mod mail;
 mod sending;
 mod session_ends;
 mod sessions;
+mod telemetry;
 
 pub use layers::ScopeGuard;
 use sentry_base::protocol::{ClientKey, Envelope, HubKey, Label, Log, Metric, SessionKey, Uuid};

@@ -7,11 +7,11 @@ ghost use Rattle.sentry_engine.specs.Worlds.{World, ClientState, Stands, plain_c
 ghost use Rattle.sentry_engine.specs.Books.{with_book, is_label, without_unused_book};
 ghost use Rattle.sentry_engine.specs.Outcomes.{Does, DoesWithoutMemory, client_at};
 ghost use Rattle.std.specs.Option.{option_copied};
-ghost use Rattle.sentry_engine.specs.Clients.{is_client_named, set_up, new_client, queues_from};
-ghost use Rattle.sentry_engine.specs.Clients.{has_session_of, flush_all, flush_queues};
+ghost use Rattle.sentry_engine.specs.Clients.{is_client_named, set_up, new_client, clone_from, queues_from};
 ghost use Rattle.sentry_engine.specs.Clients as call;
 
 use crate::engine::captures::{add_report, capture, captured_id, drop_unsent};
+use crate::engine::flushes::Flush;
 use crate::engine::{Client, Engine, Hub, Out, Queues};
 use sentry_base::dsn::Dsn;
 use sentry_base::protocol::{
@@ -71,9 +71,7 @@ fn new_client<C: Callbacks>(
     label: Label,
     now: u64,
 ) -> Result<Client<C>, AllocError>
-    ensures client { IfOk result (λ client.
-        client ≡ plain_client (new_client C.meanings options transport label now)) }
-    ensures label { IfOk result (λ client. client.label ≡ label) }
+    ensures { IfOk result (λ client. client ≡ plain_client (new_client C.meanings options transport label now)) }
 {
     let occupied = options.plain.dsn.is_some() && transport;
     let options = set_up(alloc, options)?;
@@ -86,6 +84,21 @@ fn new_client<C: Callbacks>(
         os,
         closed: false,
         queues,
+    })
+}
+
+// A clone of a client that is made at a moment.
+fn clone_of<C: Drop>(alloc: Global, client: &Client<C>, now: u64) -> Result<Client<C>, AllocError>
+    ensures { IfOk result (λ clone. (state : ClientState C) → client.now ≡ plain_client state →
+        clone ≡ plain_client (clone_from now state)) }
+{
+    Ok(Client {
+        options: client.options.clone()?,
+        label: client.label,
+        occupied: client.occupied,
+        os: client.os.clone()?,
+        closed: false,
+        queues: queues_from(alloc, client.options.get().plain.session_mode, now),
     })
 }
 
@@ -195,6 +208,35 @@ impl<P: EventCallback + Drop, C: Callbacks> Engine<P, C> {
         }))
     }
 
+    /// Adds a client with the options, the label and the transport of another, and answers its key. Their options and
+    /// callbacks are shared. Its queues are its own: nothing waits in them, and `now`, in nanoseconds since the epoch,
+    /// is the moment from which ticks count. A clone of a closed client sends nothing.
+    ///
+    /// `Stale`: the client isn't held. `Full`: the numbers are used up. `OutOfMemory`.
+    #[tactic(auto, unfolding(crate::specs::Clients::clone_client))]
+    pub fn clone_client(
+        &mut self,
+        client: ClientKey,
+        now: u64,
+    ) -> Result<Out<ClientKey>, Refusal>
+        ensures { Does self.old self.new result (call.clone_client client now) }
+    {
+        let Some(held) = self.client_at(client) else {
+            return Err(Refusal::Stale);
+        };
+        if self.next.client == u64::MAX {
+            return Err(Refusal::Full);
+        }
+        let number = self.next.client;
+        let clone = clone_of(self.alloc, held, now)?;
+        self.insert_client(number, clone)?;
+        self.next.client = number + 1;
+        Ok(self.out(ClientKey {
+            tag: self.tag,
+            number,
+        }))
+    }
+
     // Removes a client.
     #[tactic(auto, using(crate::proofs::Keeping::without_map_values))]
     fn remove_client(&mut self, number: u64)
@@ -215,61 +257,6 @@ impl<P: EventCallback + Drop, C: Callbacks> Engine<P, C> {
         self.books.remove(label.number);
     }
 
-    // Whether a session that goes on was started under the client.
-    fn has_session_of(&self, client: ClientKey) -> bool
-        ensures { (world : World P C) → Stands self.now world → result ≡ has_session_of client world.sessions }
-    {
-        has_session_of(&self.sessions, client)
-    }
-
-    // Forgets what waits in the queues of a client that is held, once it was sent.
-    fn mark_flushed(&mut self, number: u64)
-        ensures { (world : World P C) (client : ClientState C) → Stands self.old world →
-            value_at self.old.clients number ≡ Some (plain_client client) →
-            Stands self.new (record world { clients = replace_at world.clients number (flush_all client) }) }
-    {
-        let Some(client) = self.clients.get_mut(number) else {
-            return;
-        };
-        client.queues.sessions.mark_flushed();
-    }
-
-    // Sends what waits in the queues of a client that is held. If out of memory, nothing has changed.
-    #[tactic(auto, unfolding(crate::specs::Clients::flush_queues))]
-    fn flush_queues(&mut self, key: ClientKey) -> Result<Items<(ClientKey, Envelope)>, AllocError>
-        ensures in_world { IfOk result (λ sent. (world : World P C) (client : ClientState C) → Stands self.old world →
-            client_at world key ≡ Some client → (sent ≡ (flush_queues key client world).sent)
-            × Stands self.new (flush_queues key client world).after) }
-        ensures err { OnErr result (self.new ≡ self.old) }
-    {
-        let Some(client) = self.client_at(key) else {
-            return Ok(Items::new(self.alloc));
-        };
-        if client.closed {
-            return Ok(Items::new(self.alloc));
-        }
-        let label = client.label;
-        let envelopes = client.queues.sessions.envelopes()?;
-        let sent = self.envelopes_from(client.occupied, key, label, envelopes)?;
-        self.mark_flushed(key.number);
-        self.mark_sent(label, &sent);
-        Ok(sent)
-    }
-
-    /// Sends what waits in the queues of a client: the ended sessions. Without a transport it is dropped.
-    ///
-    /// `Stale`: the client isn't held. `OutOfMemory`.
-    #[tactic(auto, unfolding(crate::specs::Clients::flush))]
-    pub fn flush(&mut self, client: ClientKey) -> Result<Out<()>, Refusal>
-        ensures { Does self.old self.new result (call.flush client) }
-    {
-        if self.client_at(client).is_none() {
-            return Err(Refusal::Stale);
-        }
-        let sent = self.flush_queues(client)?;
-        Ok(Out { reply: (), sent })
-    }
-
     /// Gives a client back, which no layer of a hub names and under which no session goes on. What waits in its queues
     /// is sent, as by `flush`. Its key is stale from then on. With the last client of a label go the losses that are
     /// pending under it.
@@ -287,10 +274,10 @@ impl<P: EventCallback + Drop, C: Callbacks> Engine<P, C> {
         if is_client_named(&self.hubs, client) {
             return Err(Refusal::StillNamed);
         }
-        if self.has_session_of(client) {
+        if has_session_of(&self.sessions, client) {
             return Err(Refusal::StillNamed);
         }
-        let sent = self.flush_queues(client)?;
+        let sent = self.flush_queues(client, Flush::All)?;
         self.remove_client(client.number);
         self.remove_unused_book(label);
         Ok(Out { reply: (), sent })

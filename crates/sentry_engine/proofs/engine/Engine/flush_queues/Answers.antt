@@ -1,30 +1,45 @@
-use Rattle.std.proofs.Common.{sym, ap, subst, ◌≡◌, ◌∙◌, false}
-use Rattle.sentry_parts.specs.SessionQueues.{envelopes_of}
+use Rattle.std.proofs.Common.{◌≡◌, ◌∙◌, ◌++◌, ap, sym, cond, [], true, false, rules}
 use Rattle.sentry_engine.specs.Books.{pending_report}
-use Rattle.sentry_engine.specs.Clients.{flush_all}
-use Rattle.sentry_engine.specs.Sending.{Sending, envelopes_from, after_sending}
-use Rattle.sentry_engine.specs.SessionEnds.{with_client_state}
-use Rattle.sentry_engine.specs.Worlds.{World, Stands, plain_client}
+use Rattle.sentry_engine.specs.Flushes.{flush_queues, flushed_envelopes, after_flush, session_envelopes, batch_envelopes, is_flushed}
+use Rattle.sentry_engine.specs.Sending.{address}
+use Rattle.sentry_engine.specs.Worlds.{ClientState}
 use Rattle.sentry_engine.specs.declared.engine.Client.{Client}
-use Rattle.sentry_engine.proofs.Keeping.{same_client}
-use Rattle.sentry_engine.proofs.SendingLemmas.{flush_queues_is}
+use Rattle.sentry_engine.specs.declared.engine.flushes.TheConstants.{SESSION_INTERVAL}
+use Rattle.sentry_engine.proofs.ChangeLemmas.{client_changed, client_changed_unsent, sent_if_occupied, unsent_if_empty}
 use Rattle.sentry_engine.proofs.engine.Engine.flush_queues.Goals as goal
 
--- the client that was found is the one that stands in the world, and is not closed
-pub returns-clause-in_world : goal.returns-clause-in_world
-returns-clause-in_world g c = λ world client s at.
-    let found = same_client c.args.self.now world s c.args.key c.in-Some.client.now client (c.in-Some.ensures world s) at in
-    let is : c.in-Some.client.now ≡ plain_client client = found.1 in
-    let going_on : client.closed ≡ false = sym (ap (λ (kept : Client g.row.C.Denot). kept.closed) is) ∙ c.if-client.false in
-    let envelopes = c.in_ok-envelopes.ensures ∙ ap (λ (kept : Client g.row.C.Denot). envelopes_of kept.queues.sessions) is in
-    let stands = c.mark_flushed.ensures world client s found.0 in
-    let flushed = with_client_state world c.args.key (flush_all client) in
-    let sent = c.in_ok-sent.ensures world s ∙ (λ i. envelopes_from (is i).occupied c.args.key (pending_report world (is i).label) (envelopes i)) in
-    let marked = c.mark_sent.ensures.in_world _ stands in
-    let expected = sym (flush_queues_is c.args.key world client going_on) in
+-- an empty slot drops what was flushed
+pub returns-then-not-client-clause-in_world : goal.returns-then-not-client-clause-in_world
+unfolding flush_queues
+returns-then-not-client-clause-in_world g c = λ world s.
+    let empty : c.in-Some.client.now.occupied ≡ false = search rules in
+    client_changed_unsent c.args.key
+    (λ (client : ClientState g.row.C.Denot). flushed_envelopes c.args.flush client.options.plain.session_mode client.queues)
+    (after_flush c.args.flush) c.args.self.now c.take_flushed.new.self world s c.in-Some.client.now
+    (c.in-Some.ensures world s) c.if-client.false c.new-then-not-client.result c.new-then-not-client.ensures (λ client there is.
     (
-      sent ∙ ap (λ (sending : Sending g.row.P.Denot g.row.C.Denot). sending.sent) expected,
-      subst (λ (w : World g.row.P.Denot g.row.C.Denot). Stands c.mark_sent.new.self w)
-      ((λ i. after_sending (is i).label (sent i) flushed) ∙ ap (λ (sending : Sending g.row.P.Denot g.row.C.Denot). sending.after) expected)
-      marked,
-    )
+      unsent_if_empty c.args.key c.in-Some.client.now.occupied (pending_report world c.in-Some.client.now.label) _ empty,
+      c.take_flushed.ensures.in_world world client s there,
+    ))
+
+-- an occupied one sends it
+pub returns-clause-in_world : goal.returns-clause-in_world
+unfolding flush_queues
+returns-clause-in_world g c = λ world s.
+    let occupied : c.in-Some.client.now.occupied ≡ true = search rules in
+    client_changed c.args.key
+    (λ (client : ClientState g.row.C.Denot). flushed_envelopes c.args.flush client.options.plain.session_mode client.queues)
+    (after_flush c.args.flush) c.args.self.now c.mark_sent.new.self world s c.in-Some.client.now
+    (c.in-Some.ensures world s) c.if-client.false c.finish-sent.result (λ client there is.
+    let sessions = c.in_ok-sessions.ensures
+    ∙ ap (λ (kept : Client g.row.C.Denot). session_envelopes (is_flushed c.args.flush SESSION_INTERVAL kept.queues.session_tick.0) kept.queues.sessions) is in
+    let logs = c.take_flushed-batches.ensures.logs client there in
+    let metrics = c.take_flushed-batches.ensures.metrics client there in
+    let pending = pending_report world c.in-Some.client.now.label in
+    let mailed = c.in_ok-mail.ensures.sent world s (batch_envelopes c.take_flushed-batches.result.logs c.take_flushed-batches.result.metrics) in
+    let stands = c.take_flushed-batches.ensures.in_world world client s there in
+    (
+      sent_if_occupied c.args.key c.in-Some.client.now.occupied pending _ _ occupied
+      (c.finish-sent.ensures ∙ (mailed ∙ (λ i. address c.args.key pending (sessions i ++ batch_envelopes (logs i) (metrics i))))),
+      c.mark_sent.ensures.in_world _ stands,
+    ))
