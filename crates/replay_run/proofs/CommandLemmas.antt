@@ -8,9 +8,9 @@ use Rattle.std.proofs.lemmas.Slice.Eq.{bytes_eq-Decides}
 use Rattle.sentry_plain.specs.Texts.{Bytes}
 use Rattle.sentry_base.specs.declared.protocol.level.Level.{Level}
 use Rattle.replay_run.specs.declared.command.Command.{Command}
-use Rattle.replay_run.specs.declared.command.Command.TheVariants.{Client, Hub, Tag, Message, Empty, Release, Session, End, Flush}
+use Rattle.replay_run.specs.declared.command.Command.TheVariants.{Client, Hub, Tag, Message, Empty, Release, Session, End, Flush, Log, Close}
 use Rattle.replay_run.specs.Commands.{IsWord, IsNumber, IsRelease, HasForm, level_word}
-use Rattle.replay_run.specs.Reading.{◌>>=◌, cut, is_word, number_of, level_of, client_of, hub_of, tag_of, message_of, empty_of, release_of, session_of, end_of, flush_of, form_of, command_of}
+use Rattle.replay_run.specs.Reading.{◌>>=◌, cut, is_word, number_of, level_of, client_of, hub_of, tag_of, message_of, empty_of, release_of, session_of, end_of, flush_of, log_of, close_of, form_of, command_of}
 use Rattle.replay_run.proofs.ReadingLemmas.{cut-solid, cut_some, number_some, number-is, number_solid, level_some, level-is, level_solid, is_word_some, is_word-is}
 
 -- what was read, and what came of it
@@ -25,6 +25,10 @@ or_next text word x rest z e =
       | inl same ↦ inl ((bytes_eq-Decides text word).0 same, sym (cond-true (bytes_eq text word) x rest same) ∙ e)
       | inr other ↦ inr (sym (cond-false (bytes_eq text word) x rest other) ∙ e)
     ]
+
+-- two words with a space between them
+spaced_two : (a b : Bytes) → (a ++ (32 ∷ [])) ++ b ≡ a ++ (32 ∷ b)
+spaced_two a b = simp append_assoc
 
 -- three words with a space between each two
 spaced : (a b c : Bytes) → (((a ++ (32 ∷ [])) ++ b) ++ (32 ∷ [])) ++ c ≡ a ++ (32 ∷ (b ++ (32 ∷ c)))
@@ -82,6 +86,16 @@ flush-is : (text : Bytes) (client : ℕ) → IsNumber text client → flush_of t
 unfolding flush_of
 flush-is text client h = ap (λ o. o >>= λ n. Some (Flush n)) (number-is text client h)
 
+log-is : (number text : Bytes) (hub : ℕ) → IsNumber number hub → log_of (number ++ (32 ∷ text)) ≡ Some (Log hub text)
+unfolding log_of
+log-is number text hub h =
+    rw (cut-solid number text (number_solid number hub h))
+    (rw (number-is number hub h) refl)
+
+close-is : (text : Bytes) (client : ℕ) → IsNumber text client → close_of text ≡ Some (Close client)
+unfolding close_of
+close-is text client h = ap (λ o. o >>= λ n. Some (Close n)) (number-is text client h)
+
 pub command-is : (line : Bytes) (command : Command) → HasForm line command → command_of line ≡ Some command
 unfolding command_of form_of
 command-is line (Client release) h = ap command_of h.2 ∙ client-is h.0 release h.1
@@ -95,6 +109,9 @@ command-is line (Release hub) h = ap command_of h.2 ∙ release-is h.0 hub h.1
 command-is line (Session hub) h = ap command_of h.2 ∙ session-is h.0 hub h.1
 command-is line (End hub) h = ap command_of h.2 ∙ end-is h.0 hub h.1
 command-is line (Flush client) h = ap command_of h.2 ∙ flush-is h.0 client h.1
+command-is line (Log hub text) h =
+    ap command_of (h.2 ∙ ap (λ rest. codes "log " ++ rest) (spaced_two h.0 text)) ∙ log-is h.0 text hub h.1
+command-is line (Close client) h = ap command_of h.2 ∙ close-is h.0 client h.1
 
 -- from the command to a form
 
@@ -190,6 +207,27 @@ flush_form text command e =
     bind_cases (HasForm (codes "flush " ++ text) command) (number_of text) _ command e (λ client number e.
     subst (HasForm (codes "flush " ++ text)) (same_Some _ _ e) (text, number_some text client number, refl))
 
+log_built : (text number message : Bytes) (hub : ℕ) → cut text ≡ Some (number, message) → number_of number ≡ Some hub → HasForm (codes "log " ++ text) (Log hub message)
+log_built text number message hub first digits =
+    let front = cut_some text number message first in (
+      number,
+      number_some number hub digits,
+      ap (λ t. codes "log " ++ t) (front.0 ∙ sym (spaced_two number message)),
+    )
+
+log_form : (text : Bytes) (command : Command) → log_of text ≡ Some command → HasForm (codes "log " ++ text) command
+unfolding log_of
+log_form text command e =
+    bind_cases (HasForm (codes "log " ++ text) command) (cut text) _ command e (λ first front e.
+    bind_cases (HasForm (codes "log " ++ text) command) (number_of first.0) _ command e (λ hub digits e.
+    subst (HasForm (codes "log " ++ text)) (same_Some _ _ e) (log_built text first.0 first.1 hub front digits)))
+
+close_form : (text : Bytes) (command : Command) → close_of text ≡ Some command → HasForm (codes "close " ++ text) command
+unfolding close_of
+close_form text command e =
+    bind_cases (HasForm (codes "close " ++ text) command) (number_of text) _ command e (λ client number e.
+    subst (HasForm (codes "close " ++ text)) (same_Some _ _ e) (text, number_some text client number, refl))
+
 -- the first word is known, and so is the form
 formed : (line word rest front : Bytes) (command : Command) → cut line ≡ Some (word, rest) → word ≡ front → HasForm (front ++ (32 ∷ rest)) command → HasForm line command
 formed line word rest front command found same form =
@@ -215,9 +253,15 @@ form_form line word rest command found e =
                   | inl h ↦ formed line word rest (codes "session") command found h.0 (session_form rest command h.1)
                   | inr e ↦ elim (or_next word (codes "end") (end_of rest) _ (Some command) e) [
                     | inl h ↦ formed line word rest (codes "end") command found h.0 (end_form rest command h.1)
-                    | inr e ↦ elim (or_next word (codes "flush") (flush_of rest) None (Some command) e) [
+                    | inr e ↦ elim (or_next word (codes "flush") (flush_of rest) _ (Some command) e) [
                       | inl h ↦ formed line word rest (codes "flush") command found h.0 (flush_form rest command h.1)
-                      | inr e ↦ absurd (none-some command e)
+                      | inr e ↦ elim (or_next word (codes "log") (log_of rest) _ (Some command) e) [
+                        | inl h ↦ formed line word rest (codes "log") command found h.0 (log_form rest command h.1)
+                        | inr e ↦ elim (or_next word (codes "close") (close_of rest) None (Some command) e) [
+                          | inl h ↦ formed line word rest (codes "close") command found h.0 (close_form rest command h.1)
+                          | inr e ↦ absurd (none-some command e)
+                        ]
+                      ]
                     ]
                   ]
                 ]
