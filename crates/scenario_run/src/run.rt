@@ -42,11 +42,7 @@ fn answer<'a>(
     }
 }
 
-fn print(
-    text: &mut String,
-    originals: &Originals,
-    answer: &Answer<'_>,
-) -> Result<(), AllocError> {
+fn print(text: &mut String, originals: &Originals, answer: &Answer<'_>) -> Result<(), AllocError> {
     text.clear();
     push_answer(text, originals, answer)
 }
