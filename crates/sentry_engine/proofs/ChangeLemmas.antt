@@ -1,14 +1,18 @@
 -- A client that is not closed changes, and sends envelopes.
-use Rattle.std.proofs.Common.{◌≡◌, refl, ap, ◌∙◌, sym, subst, List, [], Bool, true, false, cond}
-use Rattle.std.specs.Prelude.{Option, Some, None}
+use Rattle.std.proofs.Common.{◌≡◌, ap, ◌∙◌, sym, subst, List, [], ◌∷◌, Bool, true, false, cond}
+use Rattle.std.specs.Prelude.{Option, Some}
 use Rattle.sentry_base.specs.declared.protocol.client_report.ClientReport.{ClientReport}
 use Rattle.sentry_base.specs.declared.protocol.envelope.Envelope.{Envelope}
 use Rattle.sentry_base.specs.declared.protocol.keys.ClientKey.{ClientKey}
+use Rattle.sentry_base.specs.declared.protocol.log.Log.{Log}
+use Rattle.sentry_base.specs.declared.protocol.metric.Metric.{Metric}
 use Rattle.sentry_plain.specs.Tables.{value_at}
+use Rattle.sentry_parts.specs.Batches.{BatchEntry, Queue, queue_of}
 use Rattle.sentry_engine.specs.Books.{pending_report}
 use Rattle.sentry_engine.specs.Outcomes.{client_at, plain_client_at}
 use Rattle.sentry_engine.specs.Sending.{Sending, address, send, send_nothing, send_some, envelopes_from, after_sending}
 use Rattle.sentry_engine.specs.SessionEnds.{with_client_state}
+use Rattle.sentry_engine.specs.Telemetry.{with_log_entry, with_metric_entry}
 use Rattle.sentry_engine.specs.Worlds.{World, ClientState, Stands, plain_client}
 use Rattle.sentry_engine.specs.declared.engine.Client.{Client}
 use Rattle.sentry_engine.specs.declared.engine.Engine.{Engine}
@@ -44,13 +48,12 @@ module _ {P C : Type 0} (key : ClientKey) (envelopes : ClientState C → List En
       let expected : send key client (envelopes client) (with_client_state world key (after client)) ≡ change_client world =
       sym (change_client_is world client found.2 still) in
       let leaves : sent ≡ envelopes_from client.occupied key (pending_report world client.label) (envelopes client) =
-      both.0 ∙ (λ i. envelopes_from (is i).occupied key (pending_report world (is i).label) (envelopes client)) in
-      (
+      both.0 ∙ (λ i. envelopes_from (is i).occupied key (pending_report world (is i).label) (envelopes client)) in (
         leaves ∙ ap (λ (sending : Sending P C). sending.sent) expected,
         subst (λ (w : World P C). Stands new w)
-        ((λ i. after_sending (is i).label (leaves i) (with_client_state world key (after client)))
-        ∙ ap (λ (sending : Sending P C). sending.after) expected)
-        both.1,
+            ((λ i. after_sending (is i).label (leaves i) (with_client_state world key (after client)))
+            ∙ ap (λ (sending : Sending P C). sending.after) expected)
+            both.1,
       )
 
   -- the same where nothing was sent
@@ -62,8 +65,7 @@ module _ {P C : Type 0} (key : ClientKey) (envelopes : ClientState C → List En
       → (sent ≡ (change_client world).sent) × Stands new (change_client world).after
   client_changed_unsent old new world s kept e going_on sent none made =
       client_changed old new world s kept e going_on sent (λ client there is.
-      let both = made client there is in
-      (
+      let both = made client there is in (
         none ∙ both.0,
         subst (λ (l : List (ClientKey × Envelope)). Stands new (after_sending kept.label l (with_client_state world key (after client)))) (sym none) both.1,
       ))
@@ -76,3 +78,16 @@ unsent_if_empty key occupied report envelopes empty = ap (λ b. envelopes_from b
 pub sent_if_occupied : (key : ClientKey) (occupied : Bool) (report : Option ClientReport) (envelopes : List Envelope) (sent : List (ClientKey × Envelope))
     → occupied ≡ true → sent ≡ address key report envelopes → sent ≡ envelopes_from occupied key report envelopes
 sent_if_occupied key occupied report envelopes sent full is = is ∙ ap (λ b. envelopes_from b key report envelopes) (sym full)
+
+module _ {C : Type 0} where
+  -- what is kept of a client to whose logs something came
+  pub logs_changed : (client : ClientState C) (kept : Client C) (entry : BatchEntry Log) (queue : Queue Log) → kept ≡ plain_client client
+      → queue ≡ queue_of (entry ∷ client.queues.logs) client.queues.log_tick
+      → record kept { queues = record kept.queues { logs = queue } } ≡ plain_client (with_log_entry entry client)
+  logs_changed client kept entry queue is q = λ i. record (is i) { queues = record (is i).queues { logs = q i } }
+
+  -- the same of metrics
+  pub metrics_changed : (client : ClientState C) (kept : Client C) (entry : BatchEntry Metric) (queue : Queue Metric) → kept ≡ plain_client client
+      → queue ≡ queue_of (entry ∷ client.queues.metrics) client.queues.metric_tick
+      → record kept { queues = record kept.queues { metrics = queue } } ≡ plain_client (with_metric_entry entry client)
+  metrics_changed client kept entry queue is q = λ i. record (is i) { queues = record (is i).queues { metrics = q i } }

@@ -24,7 +24,9 @@ use Rattle.sentry_state.specs.Stacks.{depth, pop}
 use Rattle.sentry_state.specs.declared.scope.edit.ScopeEdit.{ScopeEdit}
 use Rattle.sentry_base.specs.declared.protocol.keys.Label.{Label}
 use Rattle.sentry_engine.specs.Books.{without_unused_book, with_book}
-use Rattle.sentry_engine.specs.Clients.{add_client, new_client, drop_client, flush_queues, flush_all, waiting_envelopes, is_client_named, has_session_of}
+use Rattle.sentry_engine.specs.Clients.{add_client, new_client, drop_client, is_client_named, has_session_of}
+use Rattle.sentry_engine.specs.Flushes.{flush_queues}
+use Rattle.sentry_engine.specs.declared.engine.flushes.Flush.TheVariants.{All}
 use Rattle.sentry_engine.specs.Hubs.{configure, is_clear}
 use Rattle.sentry_engine.specs.Layers.{pop_scope}
 use Rattle.sentry_engine.specs.Outcomes.{Outcome, IsAnswer, Does, client_at, plain_client_at, hub_at, reply_with, with_hub, with_scope, with_stack}
@@ -55,15 +57,6 @@ module _ {P C : Type 0} where
       ap (λ found. send_some world found (λ (state : ClientState C). cond state.closed (send_nothing world) (sending state))) at
       ∙ ap (λ b. cond b (send_nothing world) (sending client)) going_on
 
-  -- a flush of a client that is not closed
-  pub flush_queues_is : (key : ClientKey) (world : World P C) (client : ClientState C) → client.closed ≡ false
-      → flush_queues key client world
-      ≡ send key client (waiting_envelopes client.options.plain.session_mode client.queues) (with_client_state world key (flush_all client))
-  unfolding flush_queues
-  flush_queues_is key world client going_on =
-      ap (λ b. cond b (send_nothing world)
-      (send key client (waiting_envelopes client.options.plain.session_mode client.queues) (with_client_state world key (flush_all client)))) going_on
-
   -- the world without a session
   abbrev pub forget : SessionKey → Sending P C → Sending P C
   forget key queued = record {
@@ -85,11 +78,11 @@ module _ {P C : Type 0} where
       ∙ ap (λ b. telling (cond b (Some (update_of ended)) None)) dirty
 
   -- a client that nothing names is flushed and dropped
-  pub drop_client_is : (key : ClientKey) (world : World P C) (client : ClientState C) → client_at world key ≡ Some client
+  pub drop_client_is : (key : ClientKey) (world : World P C) (kept : Client C) → plain_client_at world key ≡ Some kept
       → is_client_named key world.hubs ≡ false → has_session_of key world.sessions ≡ false
-      → drop_client key world ≡ reply_with tt (flush_queues key client world).sent (dropped key client.label (flush_queues key client world).after)
+      → drop_client key world ≡ reply_with tt (flush_queues All key world).sent (dropped key kept.label (flush_queues All key world).after)
   unfolding drop_client
-  drop_client_is key world client at unnamed no_session = rw at (rw unnamed (rw no_session refl))
+  drop_client_is key world kept found unnamed no_session = rw found (rw unnamed (rw no_session refl))
 
   -- the top layer of a hub that is not the only one is popped
   pub pop_scope_is : (key : HubKey) (pushed now : ℕ) (world : World P C) (hub : Hub P) → hub_at world key ≡ Some hub
@@ -124,11 +117,10 @@ module _ {P C : Type 0} where
   pub replied : {T : Type 0} (outcome : Outcome P C T) (reply : T) (sent handed : List (ClientKey × Envelope)) (after : World P C) (new : Engine P C)
       → outcome ≡ reply_with reply sent after → handed ≡ sent → Stands new after
       → (outcome.answer ≡ Ok (record { reply = reply; sent = handed })) × Stands new outcome.after
-  replied outcome reply sent handed after new is same stands =
-      (
-        ap (λ o. o.answer) is ∙ ap (λ envelopes. Ok (record { reply = reply; sent = envelopes })) (sym same),
-        subst (λ w. Stands new w) (sym (ap (λ o. o.after) is)) stands,
-      )
+  replied outcome reply sent handed after new is same stands = (
+    ap (λ o. o.answer) is ∙ ap (λ envelopes. Ok (record { reply = reply; sent = envelopes })) (sym same),
+    subst (λ w. Stands new w) (sym (ap (λ o. o.after) is)) stands,
+  )
 
   -- a call that replies may answer out of memory
   pub may_lack_memory : {T : Type 0} (outcome : Outcome P C T) (reply : T) (sent : List (ClientKey × Envelope)) (after : World P C)

@@ -151,9 +151,11 @@ with_attachments (attachment ∷ rest) envelope = with_attachments rest (with_it
 abbrev pub captured_envelopes :
     ClientKey → Option SessionUpdate → List Attachment → Option ClientReport → Option Event → List (ClientKey × Envelope)
 captured_envelopes key update attachments report None = []
-captured_envelopes key update attachments report (Some event) =
-    (key, with_report report (with_attachments attachments
-    (with_update update (with_item empty_envelope (item.Event event))))) ∷ []
+captured_envelopes key update attachments report (Some event) = (
+  key,
+  with_report report (with_attachments attachments
+      (with_update update (with_item empty_envelope (item.Event event)))),
+) ∷ []
 
 -- an event of this message and level
 abbrev pub message_event : Bytes → Level → List ℕ → ℕ → Event

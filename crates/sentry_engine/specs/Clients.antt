@@ -140,7 +140,8 @@ module _ {P C : Type 0} where
   -- what waits in those queues of a client whose last due tick lies their interval or more before this moment
   unfoldable pub tick : ClientKey → ℕ → World P C → Outcome P C (Unit {0})
   tick key now world =
-      require_some Stale world (plain_client_at world key) (λ client. reply_sending tt (flush_queues (Due now) key world))
+      require_some Stale world (plain_client_at world key) (λ client.
+      reply_sending tt (flush_queues (Due now) key world))
 
   -- what waits in the queues of a client, to which nothing comes any more; its slot is empty from then on
   unfoldable pub close : ClientKey → World P C → Outcome P C (Unit {0})

@@ -1,9 +1,8 @@
 -- What the calls on sessions answer, hand out and leave.
-use Rattle.std.specs.Prelude.{ℕ, nat_lt, ◌+◌, ◌-◌, ◌^◌, ◌&&◌, not, is_some, Bool, Option, Some, []}
+use Rattle.std.specs.Prelude.{ℕ, nat_lt, ◌+◌, ◌-◌, ◌^◌, ◌&&◌, not, is_some, Bool, Some, []}
 use Rattle.sentry_plain.specs.Tables.{value_at, put, replace_at}
 use Rattle.sentry_base.specs.declared.protocol.fresh.Fresh.{Fresh}
 use Rattle.sentry_base.specs.declared.protocol.keys.HubKey.{HubKey}
-use Rattle.sentry_base.specs.declared.protocol.keys.SessionKey.{SessionKey}
 use Rattle.sentry_base.specs.declared.protocol.refusal.Refusal.TheVariants.{Stale, Full}
 use Rattle.sentry_base.specs.declared.protocol.session.SessionStatus.{SessionStatus}
 use Rattle.sentry_parts.specs.Sessions.{start_of}
@@ -31,7 +30,7 @@ module _ {P C : Type 0} where
   with_next_session_named number hub world = record world {
     next = record world.next { session = world.next.session + 1 };
     hubs = replace_at world.hubs number
-    (with_session hub (Some (record { tag = world.tag; number = world.next.session })));
+        (with_session hub (Some (record { tag = world.tag; number = world.next.session })));
   }
 
   -- a session starts under the next number; the top layer of a hub gives up the session that it named, and names this

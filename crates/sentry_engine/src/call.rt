@@ -261,7 +261,12 @@ impl<P: EventCallback + Drop, C: Callbacks> Engine<P, C> {
                 draft,
                 scope,
                 now,
-            } => answer_of(self.client_capture_metric(client, draft.into_inner(), scope.get(), now)),
+            } => answer_of(self.client_capture_metric(
+                client,
+                draft.into_inner(),
+                scope.get(),
+                now,
+            )),
             Call::Flush(client) => answer_of(self.flush(client)),
             Call::Tick { client, now } => answer_of(self.tick(client, now)),
             Call::Close(client) => answer_of(self.close(client)),

@@ -65,12 +65,18 @@ pub(super) fn drop_unsent(preparation: &Option<Preparation>, event: &mut Option<
 }
 
 // Whether an event that became this is sent along with its session's update.
-pub(super) fn takes_update<C>(client: &Client<C>, preparation: &Option<Preparation>, event: &Option<Event>) -> bool
+pub(super) fn takes_update<C>(
+    client: &Client<C>,
+    preparation: &Option<Preparation>,
+    event: &Option<Event>,
+) -> bool
     ensures { result ≡ (is_some (sent_event preparation.now event.now)
         && is_application client.now.options.plain.session_mode) }
 {
-    matches!(client.options.get().plain.session_mode, SessionMode::Application)
-        && matches!(preparation, Some(Preparation::Kept))
+    matches!(
+        client.options.get().plain.session_mode,
+        SessionMode::Application
+    ) && matches!(preparation, Some(Preparation::Kept))
         && event.is_some()
 }
 

@@ -7,7 +7,7 @@ ghost use Rattle.sentry_engine.specs.Worlds.{World, ClientState, Stands, plain_c
 ghost use Rattle.sentry_engine.specs.Books.{with_book, is_label, without_unused_book};
 ghost use Rattle.sentry_engine.specs.Outcomes.{Does, DoesWithoutMemory, client_at};
 ghost use Rattle.std.specs.Option.{option_copied};
-ghost use Rattle.sentry_engine.specs.Clients.{is_client_named, set_up, new_client, clone_from, queues_from};
+ghost use Rattle.sentry_engine.specs.Clients.{is_client_named, has_session_of, set_up, new_client, clone_from, queues_from};
 ghost use Rattle.sentry_engine.specs.Clients as call;
 
 use crate::engine::captures::{add_report, capture, captured_id, drop_unsent};
@@ -71,7 +71,9 @@ fn new_client<C: Callbacks>(
     label: Label,
     now: u64,
 ) -> Result<Client<C>, AllocError>
-    ensures { IfOk result (λ client. client ≡ plain_client (new_client C.meanings options transport label now)) }
+    ensures client { IfOk result (λ client.
+        client ≡ plain_client (new_client C.meanings options transport label now)) }
+    ensures label { IfOk result (λ client. client.label ≡ label) }
 {
     let occupied = options.plain.dsn.is_some() && transport;
     let options = set_up(alloc, options)?;
@@ -214,11 +216,7 @@ impl<P: EventCallback + Drop, C: Callbacks> Engine<P, C> {
     ///
     /// `Stale`: the client isn't held. `Full`: the numbers are used up. `OutOfMemory`.
     #[tactic(auto, unfolding(crate::specs::Clients::clone_client))]
-    pub fn clone_client(
-        &mut self,
-        client: ClientKey,
-        now: u64,
-    ) -> Result<Out<ClientKey>, Refusal>
+    pub fn clone_client(&mut self, client: ClientKey, now: u64) -> Result<Out<ClientKey>, Refusal>
         ensures { Does self.old self.new result (call.clone_client client now) }
     {
         let Some(held) = self.client_at(client) else {
@@ -257,6 +255,13 @@ impl<P: EventCallback + Drop, C: Callbacks> Engine<P, C> {
         self.books.remove(label.number);
     }
 
+    // Whether a session that goes on was started under the client.
+    fn has_session_of(&self, client: ClientKey) -> bool
+        ensures { (world : World P C) → Stands self.now world → result ≡ has_session_of client world.sessions }
+    {
+        has_session_of(&self.sessions, client)
+    }
+
     /// Gives a client back, which no layer of a hub names and under which no session goes on. What waits in its queues
     /// is sent, as by `flush`. Its key is stale from then on. With the last client of a label go the losses that are
     /// pending under it.
@@ -274,7 +279,7 @@ impl<P: EventCallback + Drop, C: Callbacks> Engine<P, C> {
         if is_client_named(&self.hubs, client) {
             return Err(Refusal::StillNamed);
         }
-        if has_session_of(&self.sessions, client) {
+        if self.has_session_of(client) {
             return Err(Refusal::StillNamed);
         }
         let sent = self.flush_queues(client, Flush::All)?;

@@ -44,11 +44,7 @@ fn push_report(items: &mut Vec<EnvelopeItem>, report: Option<ClientReport>)
 }
 
 // An envelope of one item, and a report, if there is one, for which there is room.
-fn seal(
-    mut items: Vec<EnvelopeItem>,
-    added: EnvelopeItem,
-    report: Option<ClientReport>,
-) -> Envelope
+fn seal(mut items: Vec<EnvelopeItem>, added: EnvelopeItem, report: Option<ClientReport>) -> Envelope
     requires empty { items.items ≡ [] }
     requires room { vec_len items + 2 ≤ vec_capacity items }
     ensures { result ≡ with_report report (envelope_of (added ∷ [])) }
@@ -118,7 +114,13 @@ impl Mail {
             metrics,
         } = self;
         push_if_some(&mut sent, key, &mut report, logs, logs_item(batches.logs));
-        push_if_some(&mut sent, key, &mut report, metrics, metrics_item(batches.metrics));
+        push_if_some(
+            &mut sent,
+            key,
+            &mut report,
+            metrics,
+            metrics_item(batches.metrics),
+        );
         Items::from_vec(sent)
     }
 }

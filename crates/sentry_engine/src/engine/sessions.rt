@@ -42,7 +42,7 @@ impl<P: EventCallback + Drop, C: Callbacks> Engine<P, C> {
             Stands self.new (record world {
               next = record world.next { session = world.next.session + 1 };
               hubs = replace_at world.hubs number
-              (with_session hub (Some (record { tag = world.tag; number = world.next.session })));
+                  (with_session hub (Some (record { tag = world.tag; number = world.next.session })));
             }) }
     {
         let key = SessionKey {

@@ -131,6 +131,7 @@ impl<P: EventCallback + Drop, C: Callbacks> Engine<P, C> {
     }
 
     // Accepts a log into the batch of a client, which the hundredth sends. If out of memory, nothing has changed.
+    #[tactic(auto, unfolding(crate::specs::Telemetry::accept_log))]
     fn accept_log(
         &mut self,
         key: ClientKey,
@@ -162,6 +163,7 @@ impl<P: EventCallback + Drop, C: Callbacks> Engine<P, C> {
     }
 
     // Accepts a metric into the batch of a client, which the hundredth sends. If out of memory, nothing has changed.
+    #[tactic(auto, unfolding(crate::specs::Telemetry::accept_metric))]
     fn accept_metric(
         &mut self,
         key: ClientKey,

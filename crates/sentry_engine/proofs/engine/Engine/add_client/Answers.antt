@@ -44,9 +44,8 @@ returns g c = λ world s.
       hubs = there.hubs;
       sessions = there.sessions;
       books = there.books;
-    } in
-    (
+    } in (
       ap (λ o. o.answer) is
-      ∙ ((λ i. Ok (record { reply = record { tag = sym there.tag i; number = (sym s.next i).client }; sent = [] })) ∙ ap Ok (sym c.out.ensures)),
+          ∙ ((λ i. Ok (record { reply = record { tag = sym there.tag i; number = (sym s.next i).client }; sent = [] })) ∙ ap Ok (sym c.out.ensures)),
       subst (λ (w : World g.row.P.Denot g.row.C.Denot). Stands engine w) (sym (ap (λ o. o.after) is)) stands,
     )

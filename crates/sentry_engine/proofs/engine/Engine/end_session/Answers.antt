@@ -25,9 +25,8 @@ returns-clause-in_world g c = λ world s.
     let removed = c.remove_session-2.ensures.in_world _ queued.1 in
     let expected =
     (λ i. forget c.args.key (queue_update (start i).client (update i) world))
-    ∙ sym (end_session_is c.args.key c.args.status c.args.now world session found.1 dirty) in
-    (
+    ∙ sym (end_session_is c.args.key c.args.status c.args.now world session found.1 dirty) in (
       queued.0 ∙ ap (λ (sending : Sending g.row.P.Denot g.row.C.Denot). sending.sent) expected,
       subst (λ (w : World g.row.P.Denot g.row.C.Denot). Stands c.remove_session-2.new.self w)
-      (ap (λ (sending : Sending g.row.P.Denot g.row.C.Denot). sending.after) expected) removed,
+          (ap (λ (sending : Sending g.row.P.Denot g.row.C.Denot). sending.after) expected) removed,
     )

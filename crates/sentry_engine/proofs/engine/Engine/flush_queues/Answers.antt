@@ -1,4 +1,4 @@
-use Rattle.std.proofs.Common.{◌≡◌, ◌∙◌, ◌++◌, ap, sym, cond, [], true, false, rules}
+use Rattle.std.proofs.Common.{◌≡◌, ◌∙◌, ◌++◌, ap, true, false, rules}
 use Rattle.sentry_engine.specs.Books.{pending_report}
 use Rattle.sentry_engine.specs.Flushes.{flush_queues, flushed_envelopes, after_flush, session_envelopes, batch_envelopes, is_flushed}
 use Rattle.sentry_engine.specs.Sending.{address}
@@ -16,8 +16,7 @@ returns-then-not-client-clause-in_world g c = λ world s.
     client_changed_unsent c.args.key
     (λ (client : ClientState g.row.C.Denot). flushed_envelopes c.args.flush client.options.plain.session_mode client.queues)
     (after_flush c.args.flush) c.args.self.now c.take_flushed.new.self world s c.in-Some.client.now
-    (c.in-Some.ensures world s) c.if-client.false c.new-then-not-client.result c.new-then-not-client.ensures (λ client there is.
-    (
+    (c.in-Some.ensures world s) c.if-client.false c.new-then-not-client.result c.new-then-not-client.ensures (λ client there is. (
       unsent_if_empty c.args.key c.in-Some.client.now.occupied (pending_report world c.in-Some.client.now.label) _ empty,
       c.take_flushed.ensures.in_world world client s there,
     ))
@@ -37,9 +36,8 @@ returns-clause-in_world g c = λ world s.
     let metrics = c.take_flushed-batches.ensures.metrics client there in
     let pending = pending_report world c.in-Some.client.now.label in
     let mailed = c.in_ok-mail.ensures.sent world s (batch_envelopes c.take_flushed-batches.result.logs c.take_flushed-batches.result.metrics) in
-    let stands = c.take_flushed-batches.ensures.in_world world client s there in
-    (
+    let stands = c.take_flushed-batches.ensures.in_world world client s there in (
       sent_if_occupied c.args.key c.in-Some.client.now.occupied pending _ _ occupied
-      (c.finish-sent.ensures ∙ (mailed ∙ (λ i. address c.args.key pending (sessions i ++ batch_envelopes (logs i) (metrics i))))),
+          (c.finish-sent.ensures ∙ (mailed ∙ (λ i. address c.args.key pending (sessions i ++ batch_envelopes (logs i) (metrics i))))),
       c.mark_sent.ensures.in_world _ stands,
     ))

@@ -21,10 +21,9 @@ returns-clause-in_world g c = λ world s.
     let queued = with_client_state world c.args.key (with_client_entry (enqueued c.args.update) client) in
     let sent = c.in_ok-sent.ensures world s ∙ (λ i. envelopes_from (is i).occupied c.args.key (pending_report world (is i).label) (envelopes i)) in
     let marked = c.mark_sent.ensures.in_world _ stands in
-    let expected = sym (queue_update_is c.args.key c.args.update world client found.2 going_on) in
-    (
+    let expected = sym (queue_update_is c.args.key c.args.update world client found.2 going_on) in (
       sent ∙ ap (λ (sending : Sending g.row.P.Denot g.row.C.Denot). sending.sent) expected,
       subst (λ (w : World g.row.P.Denot g.row.C.Denot). Stands c.mark_sent.new.self w)
-      ((λ i. after_sending (is i).label (sent i) queued) ∙ ap (λ (sending : Sending g.row.P.Denot g.row.C.Denot). sending.after) expected)
-      marked,
+          ((λ i. after_sending (is i).label (sent i) queued) ∙ ap (λ (sending : Sending g.row.P.Denot g.row.C.Denot). sending.after) expected)
+          marked,
     )

@@ -1,4 +1,4 @@
-use Rattle.std.proofs.Common.{rules, ◌≡◌, true, false, ◌∙◌, sym}
+use Rattle.std.proofs.Common.{rules, ◌≡◌, true, false}
 use Rattle.std.specs.List.{list_any}
 use Rattle.sentry_engine.specs.Books.{is_label}
 use Rattle.sentry_engine.proofs.Keeping.{book_kept, book_removed}

@@ -1,4 +1,4 @@
-use Rattle.std.proofs.Common.{◌≡◌, ◌∙◌, ap, sym, Some, None}
+use Rattle.std.proofs.Common.{◌≡◌, ◌∙◌, ap, Some, None}
 use Rattle.sentry_plain.specs.Tables.{value_at}
 use Rattle.sentry_engine.specs.SessionEnds.{with_session}
 use Rattle.sentry_engine.specs.Sessions.{with_new_session}

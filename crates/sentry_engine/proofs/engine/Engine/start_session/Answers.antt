@@ -1,4 +1,4 @@
-use Rattle.std.proofs.Common.{◌≡◌, ◌∙◌, ap, refl, sym, Some, [], true, rules}
+use Rattle.std.proofs.Common.{◌≡◌, ◌∙◌, refl, sym, Some, [], true, rules}
 use Rattle.std.specs.Prelude.{option_map}
 use Rattle.sentry_plain.specs.Tables.{value_at}
 use Rattle.sentry_parts.specs.Sessions.{session_of, start_of}

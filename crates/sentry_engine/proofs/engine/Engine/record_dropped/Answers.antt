@@ -1,0 +1,16 @@
+use Rattle.std.proofs.Common.{sym, ap, ◌∙◌, ◌∷◌}
+use Rattle.sentry_parts.specs.LossBooks.{book_of, engine_losses}
+use Rattle.sentry_engine.proofs.Keeping.{entry_present}
+use Rattle.sentry_engine.proofs.engine.Engine.record_dropped.Goals as goal
+
+pub returns : goal.returns
+returns g c = λ world s. record {
+  tag = s.tag;
+  next = s.next;
+  clients = s.clients;
+  hubs = s.hubs;
+  sessions = s.sessions;
+  books =
+      entry_present c.args.self.now world s _ c.in-Some.book.now _ _ (sym c.in-Some.ensures.value)
+      (λ history is. c.record.ensures history is ∙ ap (λ quantities. book_of (engine_losses quantities ∷ history)) c.of.ensures);
+}
