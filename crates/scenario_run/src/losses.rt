@@ -159,7 +159,8 @@ impl Scenario {
     }
 
     fn report<'a>(&mut self, client: u64) -> Result<Answer<'a>, Refusal> {
-        let report = self.engine.take_report(self.label(client))?.reply;
+        let label = self.label(client);
+        let report = self.engine.take_report(label)?.reply;
         Ok(Answer::new(self.alloc, Reply::Report { client, report }))
     }
 
