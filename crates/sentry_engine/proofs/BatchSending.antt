@@ -28,3 +28,8 @@ module _ {T : Type 0} where
   unsent_item key true report envelopes none items item h =
       ap (address key report) (none ∙ ap envelopes (sym (not_hundredth (length (items ++ item ∷ []) == BATCH_ITEMS) items item refl h)))
   unsent_item key false report envelopes none items item h = refl
+
+module _ {T : Type 0} where
+  pub none_if_empty : (items : List T) → (length items == 0) ≡ true → items ≡ []
+  none_if_empty [] e = refl
+  none_if_empty (item ∷ items) e = absurd (grind (arith, nat_tests))

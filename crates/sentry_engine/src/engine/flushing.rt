@@ -1,5 +1,6 @@
 //! The queues of clients, and the calls that flush them.
-ghost use Rattle.std.specs.Prelude.{◌≡◌, ◌++◌, IfOk, OnErr, Some};
+ghost use Rattle.std.specs.Prelude.{◌≡◌, false, IfOk, OnErr, Some, None};
+ghost use Rattle.sentry_engine.specs.declared.engine.flushes.Flush.{Flush};
 ghost use Rattle.sentry_plain.specs.Tables.{value_at, replace_at};
 ghost use Rattle.sentry_state.specs.declared.clientoptions.choices.SessionMode.{SessionMode};
 ghost use Rattle.sentry_engine.specs.Clients as call;
@@ -47,6 +48,16 @@ impl Queues {
         }
         let envelopes = self.sessions.envelopes()?;
         Ok(envelopes)
+    }
+
+    // Whether a log or a metric waits. If not, no flush hands one out.
+    fn has_batch(&self) -> bool
+        ensures logs { (mode : SessionMode) (before : QueueHistories) (flush : Flush) →
+            self.now ≡ plain_queues mode before → result ≡ false → flushed_logs flush before ≡ None }
+        ensures metrics { (mode : SessionMode) (before : QueueHistories) (flush : Flush) →
+            self.now ≡ plain_queues mode before → result ≡ false → flushed_metrics flush before ≡ None }
+    {
+        self.logs.len() != 0 || self.metrics.len() != 0
     }
 
     // Forgets the ended sessions that wait, if a tick at this moment is due.
@@ -168,6 +179,10 @@ impl<P: EventCallback + Drop, C: Callbacks> Engine<P, C> {
         }
         let label = client.label;
         let sessions = client.queues.session_envelopes(self.alloc, flush)?;
+        if sessions.is_empty() && !client.queues.has_batch() {
+            self.take_flushed(key.number, flush);
+            return Ok(Items::new(self.alloc));
+        }
         let mail = self.mail(key, label, sessions)?;
         let batches = self.take_flushed(key.number, flush);
         let sent = mail.finish(batches);
