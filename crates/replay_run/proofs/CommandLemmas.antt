@@ -8,9 +8,9 @@ use Rattle.std.proofs.lemmas.Slice.Eq.{bytes_eq-Decides}
 use Rattle.sentry_plain.specs.Texts.{Bytes}
 use Rattle.sentry_base.specs.declared.protocol.level.Level.{Level}
 use Rattle.replay_run.specs.declared.command.Command.{Command}
-use Rattle.replay_run.specs.declared.command.Command.TheVariants.{Client, Hub, Tag, Message, Empty, Release, Session, End, Flush}
+use Rattle.replay_run.specs.declared.command.Command.TheVariants.{Client, Hub, Tag, Message, Empty, Release, Session, End, Flush, Log, Close}
 use Rattle.replay_run.specs.Commands.{IsWord, IsNumber, IsRelease, HasForm, level_word}
-use Rattle.replay_run.specs.Reading.{◌>>=◌, cut, is_word, number_of, level_of, client_of, hub_of, tag_of, message_of, empty_of, release_of, session_of, end_of, flush_of, form_of, command_of}
+use Rattle.replay_run.specs.Reading.{◌>>=◌, cut, is_word, number_of, level_of, client_of, hub_of, tag_of, message_of, empty_of, release_of, session_of, end_of, flush_of, log_of, close_of, form_of, command_of}
 use Rattle.replay_run.proofs.ReadingLemmas.{cut-solid, cut_some, number_some, number-is, number_solid, level_some, level-is, level_solid, is_word_some, is_word-is}
 
 -- what was read, and what came of it
@@ -25,6 +25,10 @@ or_next text word x rest z e =
       | inl same ↦ inl ((bytes_eq-Decides text word).0 same, sym (cond-true (bytes_eq text word) x rest same) ∙ e)
       | inr other ↦ inr (sym (cond-false (bytes_eq text word) x rest other) ∙ e)
     ]
+
+-- two words with a space between them
+spaced_two : (a b : Bytes) → (a ++ (32 ∷ [])) ++ b ≡ a ++ (32 ∷ b)
+spaced_two a b = simp append_assoc
 
 -- three words with a space between each two
 spaced : (a b c : Bytes) → (((a ++ (32 ∷ [])) ++ b) ++ (32 ∷ [])) ++ c ≡ a ++ (32 ∷ (b ++ (32 ∷ c)))
@@ -42,10 +46,6 @@ client-is text (Some release) h =
     ∙ cond-true (is_word text) _ _ (subst P (sym h.0) (is_word-is release h.1))
     ∙ ap (λ t. Some (Client (Some t))) h.0
 
-hub-is : (text : Bytes) (client : ℕ) → IsNumber text client → hub_of text ≡ Some (Hub client)
-unfolding hub_of
-hub-is text client h = ap (λ o. o >>= λ n. Some (Hub n)) (number-is text client h)
-
 tag-is : (number key value : Bytes) (hub : ℕ) → IsNumber number hub → IsWord key → tag_of (number ++ (32 ∷ (key ++ (32 ∷ value)))) ≡ Some (Tag hub key value)
 unfolding tag_of
 tag-is number key value hub h word =
@@ -62,39 +62,32 @@ message-is number text hub level h =
     (rw (cut-solid (level_word level) text (level_solid level))
     (rw (level-is level) refl)))
 
-empty-is : (text : Bytes) (client : ℕ) → IsNumber text client → empty_of text ≡ Some (Empty client)
-unfolding empty_of
-empty-is text client h = ap (λ o. o >>= λ n. Some (Empty n)) (number-is text client h)
+log-is : (number text : Bytes) (hub : ℕ) → IsNumber number hub → log_of (number ++ (32 ∷ text)) ≡ Some (Log hub text)
+unfolding log_of
+log-is number text hub h =
+    rw (cut-solid number text (number_solid number hub h))
+    (rw (number-is number hub h) refl)
 
-release-is : (text : Bytes) (hub : ℕ) → IsNumber text hub → release_of text ≡ Some (Release hub)
-unfolding release_of
-release-is text hub h = ap (λ o. o >>= λ n. Some (Release n)) (number-is text hub h)
-
-session-is : (text : Bytes) (hub : ℕ) → IsNumber text hub → session_of text ≡ Some (Session hub)
-unfolding session_of
-session-is text hub h = ap (λ o. o >>= λ n. Some (Session n)) (number-is text hub h)
-
-end-is : (text : Bytes) (hub : ℕ) → IsNumber text hub → end_of text ≡ Some (End hub)
-unfolding end_of
-end-is text hub h = ap (λ o. o >>= λ n. Some (End n)) (number-is text hub h)
-
-flush-is : (text : Bytes) (client : ℕ) → IsNumber text client → flush_of text ≡ Some (Flush client)
-unfolding flush_of
-flush-is text client h = ap (λ o. o >>= λ n. Some (Flush n)) (number-is text client h)
+numbered-is : (make : ℕ → Command) (text : Bytes) (number : ℕ) → IsNumber text number
+    → (number_of text >>= λ n. Some (make n)) ≡ Some (make number)
+numbered-is make text number h = ap (λ o. o >>= λ n. Some (make n)) (number-is text number h)
 
 pub command-is : (line : Bytes) (command : Command) → HasForm line command → command_of line ≡ Some command
-unfolding command_of form_of
+unfolding command_of form_of hub_of empty_of release_of session_of end_of flush_of close_of
 command-is line (Client release) h = ap command_of h.2 ∙ client-is h.0 release h.1
-command-is line (Hub client) h = ap command_of h.2 ∙ hub-is h.0 client h.1
+command-is line (Hub client) h = ap command_of h.2 ∙ numbered-is Hub h.0 client h.1
 command-is line (Tag hub key value) h =
     ap command_of (h.3 ∙ ap (λ rest. codes "tag " ++ rest) (spaced h.0 key value)) ∙ tag-is h.0 key value hub h.1 h.2
 command-is line (Message hub level text) h =
     ap command_of (h.2 ∙ ap (λ rest. codes "message " ++ rest) (spaced h.0 (level_word level) text)) ∙ message-is h.0 text hub level h.1
-command-is line (Empty client) h = ap command_of h.2 ∙ empty-is h.0 client h.1
-command-is line (Release hub) h = ap command_of h.2 ∙ release-is h.0 hub h.1
-command-is line (Session hub) h = ap command_of h.2 ∙ session-is h.0 hub h.1
-command-is line (End hub) h = ap command_of h.2 ∙ end-is h.0 hub h.1
-command-is line (Flush client) h = ap command_of h.2 ∙ flush-is h.0 client h.1
+command-is line (Empty client) h = ap command_of h.2 ∙ numbered-is Empty h.0 client h.1
+command-is line (Release hub) h = ap command_of h.2 ∙ numbered-is Release h.0 hub h.1
+command-is line (Session hub) h = ap command_of h.2 ∙ numbered-is Session h.0 hub h.1
+command-is line (End hub) h = ap command_of h.2 ∙ numbered-is End h.0 hub h.1
+command-is line (Flush client) h = ap command_of h.2 ∙ numbered-is Flush h.0 client h.1
+command-is line (Log hub text) h =
+    ap command_of (h.2 ∙ ap (λ rest. codes "log " ++ rest) (spaced_two h.0 text)) ∙ log-is h.0 text hub h.1
+command-is line (Close client) h = ap command_of h.2 ∙ numbered-is Close h.0 client h.1
 
 -- from the command to a form
 
@@ -115,12 +108,6 @@ client_form text command e =
           (λ same. both_ways (bytes_eq text (codes "-")) other ((bytes_eq-Decides text (codes "-")).1 same))
           (sym (cond-false (bytes_eq text (codes "-")) _ _ other) ∙ e)
     ]
-
-hub_form : (text : Bytes) (command : Command) → hub_of text ≡ Some command → HasForm (codes "hub " ++ text) command
-unfolding hub_of
-hub_form text command e =
-    bind_cases (HasForm (codes "hub " ++ text) command) (number_of text) _ command e (λ client number e.
-    subst (HasForm (codes "hub " ++ text)) (same_Some _ _ e) (text, number_some text client number, refl))
 
 tag_built : (text number rest key value : Bytes) (hub : ℕ) (command : Command) → cut text ≡ Some (number, rest) → number_of number ≡ Some hub → cut rest ≡ Some (key, value) → cond (nat_lt 0 (length key)) (Some (Tag hub key value)) None ≡ Some command → HasForm (codes "tag " ++ text) command
 tag_built text number rest key value hub command first digits second e =
@@ -160,35 +147,27 @@ message_form text command e =
     bind_cases (HasForm (codes "message " ++ text) command) (level_of second.0) _ command e (λ level named e.
     subst (HasForm (codes "message " ++ text)) (same_Some _ _ e) (message_built text first.0 first.1 second.0 second.1 hub level front digits back named)))))
 
-empty_form : (text : Bytes) (command : Command) → empty_of text ≡ Some command → HasForm (codes "empty " ++ text) command
-unfolding empty_of
-empty_form text command e =
-    bind_cases (HasForm (codes "empty " ++ text) command) (number_of text) _ command e (λ client number e.
-    subst (HasForm (codes "empty " ++ text)) (same_Some _ _ e) (text, number_some text client number, refl))
+log_built : (text number message : Bytes) (hub : ℕ) → cut text ≡ Some (number, message) → number_of number ≡ Some hub → HasForm (codes "log " ++ text) (Log hub message)
+log_built text number message hub first digits =
+    let front = cut_some text number message first in (
+      number,
+      number_some number hub digits,
+      ap (λ t. codes "log " ++ t) (front.0 ∙ sym (spaced_two number message)),
+    )
 
-release_form : (text : Bytes) (command : Command) → release_of text ≡ Some command → HasForm (codes "release " ++ text) command
-unfolding release_of
-release_form text command e =
-    bind_cases (HasForm (codes "release " ++ text) command) (number_of text) _ command e (λ hub number e.
-    subst (HasForm (codes "release " ++ text)) (same_Some _ _ e) (text, number_some text hub number, refl))
+log_form : (text : Bytes) (command : Command) → log_of text ≡ Some command → HasForm (codes "log " ++ text) command
+unfolding log_of
+log_form text command e =
+    bind_cases (HasForm (codes "log " ++ text) command) (cut text) _ command e (λ first front e.
+    bind_cases (HasForm (codes "log " ++ text) command) (number_of first.0) _ command e (λ hub digits e.
+    subst (HasForm (codes "log " ++ text)) (same_Some _ _ e) (log_built text first.0 first.1 hub front digits)))
 
-session_form : (text : Bytes) (command : Command) → session_of text ≡ Some command → HasForm (codes "session " ++ text) command
-unfolding session_of
-session_form text command e =
-    bind_cases (HasForm (codes "session " ++ text) command) (number_of text) _ command e (λ hub number e.
-    subst (HasForm (codes "session " ++ text)) (same_Some _ _ e) (text, number_some text hub number, refl))
-
-end_form : (text : Bytes) (command : Command) → end_of text ≡ Some command → HasForm (codes "end " ++ text) command
-unfolding end_of
-end_form text command e =
-    bind_cases (HasForm (codes "end " ++ text) command) (number_of text) _ command e (λ hub number e.
-    subst (HasForm (codes "end " ++ text)) (same_Some _ _ e) (text, number_some text hub number, refl))
-
-flush_form : (text : Bytes) (command : Command) → flush_of text ≡ Some command → HasForm (codes "flush " ++ text) command
-unfolding flush_of
-flush_form text command e =
-    bind_cases (HasForm (codes "flush " ++ text) command) (number_of text) _ command e (λ client number e.
-    subst (HasForm (codes "flush " ++ text)) (same_Some _ _ e) (text, number_some text client number, refl))
+-- a form that is a word and a number
+numbered_form : (front : Bytes) (make : ℕ → Command) → ((number : ℕ) (text : Bytes) → IsNumber text number → HasForm (front ++ text) (make number))
+    → (text : Bytes) (command : Command) → (number_of text >>= λ n. Some (make n)) ≡ Some command → HasForm (front ++ text) command
+numbered_form front make has_form text command e =
+    bind_cases (HasForm (front ++ text) command) (number_of text) _ command e (λ number is e.
+    subst (HasForm (front ++ text)) (same_Some _ _ e) (has_form number text (number_some text number is)))
 
 -- the first word is known, and so is the form
 formed : (line word rest front : Bytes) (command : Command) → cut line ≡ Some (word, rest) → word ≡ front → HasForm (front ++ (32 ∷ rest)) command → HasForm line command
@@ -197,27 +176,33 @@ formed line word rest front command found same form =
     subst P (sym ((cut_some line word rest found).0 ∙ ap (λ w. w ++ (32 ∷ rest)) same)) form
 
 form_form : (line word rest : Bytes) (command : Command) → cut line ≡ Some (word, rest) → form_of word rest ≡ Some command → HasForm line command
-unfolding form_of
+unfolding form_of hub_of empty_of release_of session_of end_of flush_of close_of
 form_form line word rest command found e =
     elim (or_next word (codes "client") (client_of rest) _ (Some command) e) [
       | inl h ↦ formed line word rest (codes "client") command found h.0 (client_form rest command h.1)
       | inr e ↦ elim (or_next word (codes "hub") (hub_of rest) _ (Some command) e) [
-        | inl h ↦ formed line word rest (codes "hub") command found h.0 (hub_form rest command h.1)
+        | inl h ↦ formed line word rest (codes "hub") command found h.0 (numbered_form (codes "hub ") Hub (λ n text is. (text, is, refl)) rest command h.1)
         | inr e ↦ elim (or_next word (codes "tag") (tag_of rest) _ (Some command) e) [
           | inl h ↦ formed line word rest (codes "tag") command found h.0 (tag_form rest command h.1)
           | inr e ↦ elim (or_next word (codes "message") (message_of rest) _ (Some command) e) [
             | inl h ↦ formed line word rest (codes "message") command found h.0 (message_form rest command h.1)
             | inr e ↦ elim (or_next word (codes "empty") (empty_of rest) _ (Some command) e) [
-              | inl h ↦ formed line word rest (codes "empty") command found h.0 (empty_form rest command h.1)
+              | inl h ↦ formed line word rest (codes "empty") command found h.0 (numbered_form (codes "empty ") Empty (λ n text is. (text, is, refl)) rest command h.1)
               | inr e ↦ elim (or_next word (codes "release") (release_of rest) _ (Some command) e) [
-                | inl h ↦ formed line word rest (codes "release") command found h.0 (release_form rest command h.1)
+                | inl h ↦ formed line word rest (codes "release") command found h.0 (numbered_form (codes "release ") Release (λ n text is. (text, is, refl)) rest command h.1)
                 | inr e ↦ elim (or_next word (codes "session") (session_of rest) _ (Some command) e) [
-                  | inl h ↦ formed line word rest (codes "session") command found h.0 (session_form rest command h.1)
+                  | inl h ↦ formed line word rest (codes "session") command found h.0 (numbered_form (codes "session ") Session (λ n text is. (text, is, refl)) rest command h.1)
                   | inr e ↦ elim (or_next word (codes "end") (end_of rest) _ (Some command) e) [
-                    | inl h ↦ formed line word rest (codes "end") command found h.0 (end_form rest command h.1)
-                    | inr e ↦ elim (or_next word (codes "flush") (flush_of rest) None (Some command) e) [
-                      | inl h ↦ formed line word rest (codes "flush") command found h.0 (flush_form rest command h.1)
-                      | inr e ↦ absurd (none-some command e)
+                    | inl h ↦ formed line word rest (codes "end") command found h.0 (numbered_form (codes "end ") End (λ n text is. (text, is, refl)) rest command h.1)
+                    | inr e ↦ elim (or_next word (codes "flush") (flush_of rest) _ (Some command) e) [
+                      | inl h ↦ formed line word rest (codes "flush") command found h.0 (numbered_form (codes "flush ") Flush (λ n text is. (text, is, refl)) rest command h.1)
+                      | inr e ↦ elim (or_next word (codes "log") (log_of rest) _ (Some command) e) [
+                        | inl h ↦ formed line word rest (codes "log") command found h.0 (log_form rest command h.1)
+                        | inr e ↦ elim (or_next word (codes "close") (close_of rest) None (Some command) e) [
+                          | inl h ↦ formed line word rest (codes "close") command found h.0 (numbered_form (codes "close ") Close (λ n text is. (text, is, refl)) rest command h.1)
+                          | inr e ↦ absurd (none-some command e)
+                        ]
+                      ]
                     ]
                   ]
                 ]

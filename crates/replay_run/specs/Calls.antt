@@ -8,12 +8,14 @@ use Rattle.sentry_base.specs.Envelopes.{empty_envelope}
 use Rattle.sentry_base.specs.declared.protocol.fresh.Fresh.{Fresh}
 use Rattle.sentry_base.specs.declared.protocol.keys.ClientKey.{ClientKey}
 use Rattle.sentry_base.specs.declared.protocol.keys.HubKey.{HubKey}
+use Rattle.sentry_base.specs.declared.protocol.log.Log.{Log}
+use Rattle.sentry_base.specs.declared.protocol.log.LogLevel.TheVariants.{Info}
 use Rattle.sentry_base.specs.declared.protocol.session.SessionStatus.TheVariants.{Exited}
 use Rattle.sentry_state.specs.Options.{default_plain_options, default_options_with}
 use Rattle.sentry_state.specs.declared.clientoptions.ClientOptions.{ClientOptions}
 use Rattle.sentry_state.specs.Scopes.{new_scope}
 use Rattle.sentry_state.specs.declared.scope.edit.ScopeEdit.TheVariants.{SetTag}
-use Rattle.sentry_engine.specs.declared.call.Call.TheVariants.{AddClient, NewHub, Configure, CaptureMessage, SendEnvelope, ReleaseHub, StartSession, EndSessionWithStatus, Flush}
+use Rattle.sentry_engine.specs.declared.call.Call.TheVariants.{AddClient, NewHub, Configure, CaptureMessage, SendEnvelope, ReleaseHub, StartSession, EndSessionWithStatus, Flush, CaptureLog, Close}
 use Rattle.replay_run.specs.declared.engine.NoCallbacks.{NoCallbacks}
 use Rattle.replay_run.specs.declared.command.Command.{Command}
 use Rattle.replay_run.specs.declared.command.Command.TheVariants as command
@@ -60,6 +62,16 @@ client_key number = record { tag = 0; number = number }
 abbrev pub hub_key : ℕ → HubKey
 hub_key number = record { tag = 0; number = number }
 
+-- a log of this text at a moment
+abbrev pub info_log : ℕ → Bytes → Log
+info_log now text = record {
+  level = Info;
+  body = text;
+  trace_id = None;
+  timestamp = now;
+  attributes = [];
+}
+
 -- the call of the command on the line of this number; a client's label is the number of its line
 abbrev pub call_of : ℕ → Command → ReplayCall
 call_of number (command.Client release) =
@@ -73,3 +85,5 @@ call_of number (command.Release hub) = ReleaseHub (hub_key hub) (moment_of numbe
 call_of number (command.Session hub) = StartSession (hub_key hub) (fresh_of number)
 call_of number (command.End hub) = EndSessionWithStatus (hub_key hub) Exited (moment_of number)
 call_of number (command.Flush client) = Flush (client_key client)
+call_of number (command.Log hub text) = CaptureLog (hub_key hub) (info_log (moment_of number) text)
+call_of number (command.Close client) = Close (client_key client)

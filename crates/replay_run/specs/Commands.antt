@@ -7,7 +7,7 @@ use Rattle.sentry_plain.specs.Texts.{Bytes}
 use Rattle.sentry_base.specs.declared.protocol.level.Level.{Level}
 use Rattle.sentry_base.specs.declared.protocol.level.Level.TheVariants.{Debug, Info, Warning, Error, Fatal}
 use Rattle.replay_run.specs.declared.command.Command.{Command}
-use Rattle.replay_run.specs.declared.command.Command.TheVariants.{Client, Hub, Tag, Message, Empty, Release, Session, End, Flush}
+use Rattle.replay_run.specs.declared.command.Command.TheVariants.{Client, Hub, Tag, Message, Empty, Release, Session, End, Flush, Log, Close}
 
 -- a word: at least one byte, and no space
 pub record IsWord (text : Bytes) : Type 0 where
@@ -33,7 +33,7 @@ abbrev pub IsRelease : Bytes → Option Bytes → Type 0
 IsRelease text None = text ≡ codes "-"
 IsRelease text (Some release) = (text ≡ release) × IsWord release × (release ≢ codes "-")
 
--- the forms of a line; the last part of a tag and of a message may be empty or hold spaces
+-- the forms of a line; the last part of a tag, of a message and of a log may be empty or hold spaces
 abbrev pub HasForm : Bytes → Command → Type 0
 HasForm line (Client release) =
     (text : Bytes) × IsRelease text release × (line ≡ codes "client " ++ text)
@@ -55,6 +55,10 @@ HasForm line (End hub) =
     (number : Bytes) × IsNumber number hub × (line ≡ codes "end " ++ number)
 HasForm line (Flush client) =
     (number : Bytes) × IsNumber number client × (line ≡ codes "flush " ++ number)
+HasForm line (Log hub text) =
+    (number : Bytes) × IsNumber number hub × (line ≡ codes "log " ++ number ++ codes " " ++ text)
+HasForm line (Close client) =
+    (number : Bytes) × IsNumber number client × (line ≡ codes "close " ++ number)
 
 -- the line is text in UTF-8, and of the form of this command
 pub record Spells (line : Bytes) (command : Command) : Type 0 where

@@ -8,7 +8,7 @@ use Rattle.sentry_base.specs.declared.protocol.level.Level.{Level}
 use Rattle.sentry_base.specs.declared.protocol.level.Level.TheVariants.{Debug, Info, Warning, Error, Fatal}
 use Rattle.replay_run.specs.Commands.{level_word}
 use Rattle.replay_run.specs.declared.command.Command.{Command}
-use Rattle.replay_run.specs.declared.command.Command.TheVariants.{Client, Hub, Tag, Message, Empty, Release, Session, End, Flush}
+use Rattle.replay_run.specs.declared.command.Command.TheVariants.{Client, Hub, Tag, Message, Empty, Release, Session, End, Flush, Log, Close}
 
 infixl 10 ◌>>=◌
 -- goes on with what was read
@@ -75,6 +75,15 @@ end_of text = number_of text >>= λ hub. Some (End hub)
 unfoldable pub flush_of : Bytes → Option Command
 flush_of text = number_of text >>= λ client. Some (Flush client)
 
+unfoldable pub log_of : Bytes → Option Command
+log_of text =
+    cut text >>= λ first.
+    number_of first.0 >>= λ hub.
+    Some (Log hub first.1)
+
+unfoldable pub close_of : Bytes → Option Command
+close_of text = number_of text >>= λ client. Some (Close client)
+
 unfoldable pub form_of : Bytes → Bytes → Option Command
 form_of word rest =
     if bytes_eq word (codes "client") then client_of rest
@@ -86,6 +95,8 @@ form_of word rest =
     else if bytes_eq word (codes "session") then session_of rest
     else if bytes_eq word (codes "end") then end_of rest
     else if bytes_eq word (codes "flush") then flush_of rest
+    else if bytes_eq word (codes "log") then log_of rest
+    else if bytes_eq word (codes "close") then close_of rest
     else None
 
 unfoldable pub command_of : Bytes → Option Command

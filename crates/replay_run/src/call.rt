@@ -1,17 +1,18 @@
 //! The calls that commands make.
 ghost use Rattle.std.specs.Prelude.{◌≡◌, Ok, IfOk};
 ghost use Rattle.sentry_base.specs.DsnTexts.{dsn_of_text};
-ghost use Rattle.replay_run.specs.Calls.{moment_of, fresh_of, client_key, hub_key, call_of};
+ghost use Rattle.replay_run.specs.Calls.{moment_of, fresh_of, client_key, hub_key, info_log, call_of};
 ghost use Rattle.replay_run.specs.Calls.{client_dsn_text, client_dsn, client_options};
 
 use crate::command::Command;
 use crate::engine::{NoCallbacks, ReplayCall};
 use sentry_base::dsn::Dsn;
 use sentry_base::protocol::{
-    ClientKey, Draw, Envelope, Fresh, HubKey, Label, SessionStatus, SpanId, TraceId, Uuid,
+    ClientKey, Draw, Envelope, Fresh, HubKey, Label, Log, LogLevel, SessionStatus, SpanId, TraceId,
+    Uuid,
 };
 use sentry_engine::call::Call;
-use sentry_plain::{Boxed, Items, Text};
+use sentry_plain::{Boxed, Items, Text, TextMap};
 use sentry_state::clientoptions::{ClientOptions, PlainOptions, TracesSamplingStrategy};
 use sentry_state::scope::{Scope, ScopeEdit};
 use std::alloc::{AllocError, Global};
@@ -59,6 +60,19 @@ fn hub_key(number: u64) -> HubKey
     ensures { result ≡ hub_key number }
 {
     HubKey { tag: TAG, number }
+}
+
+// A log of this text at a moment.
+fn info_log(alloc: Global, text: Text, now: u64) -> Log
+    ensures { result ≡ info_log now text }
+{
+    Log {
+        level: LogLevel::Info,
+        body: text,
+        trace_id: None,
+        timestamp: now,
+        attributes: TextMap::new(alloc),
+    }
 }
 
 // The DSN of every client. It is refused for nothing but memory, by `client_dsn_has_its_parts`.
@@ -132,5 +146,10 @@ pub fn build_call(alloc: Global, number: u64, command: Command) -> Result<Replay
             now,
         }),
         Command::Flush(client) => Ok(Call::Flush(client_key(client))),
+        Command::Log { hub, text } => Ok(Call::CaptureLog {
+            hub: hub_key(hub),
+            log: Boxed::new(alloc, info_log(alloc, text, now))?,
+        }),
+        Command::Close(client) => Ok(Call::Close(client_key(client))),
     }
 }

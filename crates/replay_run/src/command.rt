@@ -1,7 +1,8 @@
 //! Commands, and the lines that spell them.
 ghost use Rattle.std.specs.Prelude.{◌≡◌, IfOk, IfSome, IfNone};
 ghost use Rattle.replay_run.specs.Reading.{client_of, hub_of, tag_of, message_of, empty_of, release_of};
-ghost use Rattle.replay_run.specs.Reading.{session_of, end_of, flush_of, form_of, command_of};
+ghost use Rattle.replay_run.specs.Reading.{session_of, end_of, flush_of, log_of, close_of};
+ghost use Rattle.replay_run.specs.Reading.{form_of, command_of};
 ghost use Rattle.replay_run.specs.Commands.{Spells};
 ghost use Rattle.replay_run.specs.declared.command.Command.{Command};
 ghost use Rattle.sentry_plain.specs.Texts.{Bytes};
@@ -32,6 +33,10 @@ pub enum Command {
     End(u64),
     /// Sends what waits in the queues of the client of this number.
     Flush(u64),
+    /// Captures a log on a hub, at the level info.
+    Log { hub: u64, text: Text },
+    /// Closes the client of this number.
+    Close(u64),
 }
 
 #[tactic(auto, unfolding(crate::specs::Reading::client_of))]
@@ -130,6 +135,27 @@ fn parse_flush(text: &str) -> Option<Command>
     Some(Command::Flush(parse_number(text)?))
 }
 
+#[tactic(auto, unfolding(crate::specs::Reading::log_of))]
+fn parse_log(alloc: Global, text: &str) -> Result<Option<Command>, AllocError>
+    ensures { IfOk result (λ found. found ≡ log_of text.now) }
+{
+    let Some((hub, rest)) = cut(text) else {
+        return Ok(None);
+    };
+    let Some(hub) = parse_number(hub) else {
+        return Ok(None);
+    };
+    let text = Text::new(alloc, rest)?;
+    Ok(Some(Command::Log { hub, text }))
+}
+
+#[tactic(auto, unfolding(crate::specs::Reading::close_of))]
+fn parse_close(text: &str) -> Option<Command>
+    ensures { result ≡ close_of text.now }
+{
+    Some(Command::Close(parse_number(text)?))
+}
+
 #[tactic(auto, unfolding(crate::specs::Reading::form_of, crate::specs::Reading::command_of))]
 fn parse_text(alloc: Global, line: &str) -> Result<Option<Command>, AllocError>
     ensures { IfOk result (λ found. found ≡ command_of line.now) }
@@ -147,6 +173,8 @@ fn parse_text(alloc: Global, line: &str) -> Result<Option<Command>, AllocError>
         "session" => Ok(parse_session(rest)),
         "end" => Ok(parse_end(rest)),
         "flush" => Ok(parse_flush(rest)),
+        "log" => parse_log(alloc, rest),
+        "close" => Ok(parse_close(rest)),
         _ => Ok(None),
     }
 }

@@ -1,4 +1,5 @@
-//! Lines on clients and on sampling: `client`, `options`, `clientdsn`, `enabled`, `flush`, `drop` and `sample`.
+//! Lines on clients and on sampling: `client`, `options`, `clientdsn`, `enabled`, `flush`, `tick`, `close`, `clone`,
+//! `drop` and `sample`.
 use crate::answer::{Answer, Reply};
 use crate::fault::Failure;
 use crate::options::{ClientPlan, OptionWords};
@@ -22,6 +23,12 @@ pub enum ClientCommand<'a> {
     IsEnabled(u64),
     /// `flush C`
     Flush(u64),
+    /// `tick C`
+    Tick(u64),
+    /// `close C`
+    Close(u64),
+    /// `clone C`
+    Clone(u64),
     /// `drop C`
     Drop(u64),
     /// `sample MILLIONTHS DRAW`
@@ -44,6 +51,9 @@ impl<'a> ClientCommand<'a> {
             "clientdsn" => ClientCommand::Dsn(words.number()?),
             "enabled" => ClientCommand::IsEnabled(words.number()?),
             "flush" => ClientCommand::Flush(words.number()?),
+            "tick" => ClientCommand::Tick(words.number()?),
+            "close" => ClientCommand::Close(words.number()?),
+            "clone" => ClientCommand::Clone(words.number()?),
             "drop" => ClientCommand::Drop(words.number()?),
             "sample" => ClientCommand::Sample {
                 millionths: small(words.number()?),
@@ -68,6 +78,9 @@ impl Scenario {
             ClientCommand::Dsn(client) => Ok(self.dsn_of_client(*client)?),
             ClientCommand::IsEnabled(client) => Ok(self.is_enabled(*client)?),
             ClientCommand::Flush(client) => Ok(self.flush(*client)?),
+            ClientCommand::Tick(client) => Ok(self.tick(*client)?),
+            ClientCommand::Close(client) => Ok(self.close(*client)?),
+            ClientCommand::Clone(client) => Ok(self.clone_client(*client)?),
             ClientCommand::Drop(client) => Ok(self.drop_client(*client)?),
             ClientCommand::Sample { millionths, draw } => Ok(self.sample(*millionths, *draw)?),
         }
@@ -106,6 +119,26 @@ impl Scenario {
 
     fn flush<'a>(&mut self, client: u64) -> Result<Answer<'a>, Refusal> {
         Ok(Answer::of_sent(self.engine.flush(client_key(client))?))
+    }
+
+    fn tick<'a>(&mut self, client: u64) -> Result<Answer<'a>, Refusal> {
+        let now = self.moment();
+        Ok(Answer::of_sent(self.engine.tick(client_key(client), now)?))
+    }
+
+    fn close<'a>(&mut self, client: u64) -> Result<Answer<'a>, Refusal> {
+        Ok(Answer::of_sent(self.engine.close(client_key(client))?))
+    }
+
+    // The original is noted before the call, so that what is out of memory has changed nothing that is seen; a client
+    // that isn't held was refused before that.
+    fn clone_client<'a>(&mut self, client: u64) -> Result<Answer<'a>, Refusal> {
+        self.engine.is_enabled(client_key(client))?;
+        self.originals.note(self.clients, client)?;
+        let now = self.moment();
+        let out = self.engine.clone_client(client_key(client), now)?;
+        self.clients = out.reply.number.saturating_add(1);
+        Ok(Answer::of_sent(out))
     }
 
     fn drop_client<'a>(&mut self, client: u64) -> Result<Answer<'a>, Refusal> {

@@ -6,7 +6,9 @@ use crate::clients::ClientCommand;
 use crate::headers::HeaderCommand;
 use crate::hubs::HubCommand;
 use crate::layers::LayerCommand;
+use crate::logs::LogCommand;
 use crate::losses::LossCommand;
+use crate::metrics::MetricCommand;
 use crate::scopes::ScopeCommand;
 use crate::sessions::SessionCommand;
 use crate::settings::Setting;
@@ -26,6 +28,8 @@ pub enum Command<'a> {
     Breadcrumb(BreadcrumbCommand<'a>),
     Capture(CaptureCommand<'a>),
     Session(SessionCommand),
+    Log(LogCommand<'a>),
+    Metric(MetricCommand<'a>),
     Header(HeaderCommand<'a>),
     Text(TextCommand<'a>),
 }
@@ -65,6 +69,12 @@ impl<'a> Command<'a> {
         }
         if let Some(command) = SessionCommand::read(name, words) {
             return Some(Command::Session(command));
+        }
+        if let Some(command) = LogCommand::read(name, words) {
+            return Some(Command::Log(command));
+        }
+        if let Some(command) = MetricCommand::read(name, words) {
+            return Some(Command::Metric(command));
         }
         if let Some(command) = HeaderCommand::read(name, words) {
             return Some(Command::Header(command));

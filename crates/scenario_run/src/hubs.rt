@@ -56,8 +56,7 @@ impl Scenario {
 
     // A hub with a new scope.
     fn add_hub<'a>(&mut self, client: Option<u64>) -> Result<Answer<'a>, Refusal> {
-        let fresh = self.fresh();
-        let scope = Scope::new(self.alloc, fresh.trace_id, fresh.span_id);
+        let scope = self.new_scope();
         self.add_hub_with(client, scope)
     }
 

@@ -3,6 +3,7 @@
 #![tactic(auto)]
 
 mod answer;
+mod attributes;
 mod breadcrumbs;
 mod callbacks;
 mod captures;
@@ -14,8 +15,11 @@ mod headers;
 mod hubs;
 mod layers;
 mod lines;
+mod logs;
 mod losses;
+mod metrics;
 mod options;
+mod originals;
 mod print;
 mod quantities;
 mod rich;

@@ -4,7 +4,7 @@ ghost use Rattle.scenario_run.specs.Losses.{losses_of_kind};
 use crate::answer::{Answer, Reply};
 use crate::fault::Failure;
 use crate::quantities::losses_of_words;
-use crate::scenario::{Scenario, client_key, client_label};
+use crate::scenario::{Scenario, client_key};
 use crate::words::Words;
 use sentry_base::protocol::{Category, Envelope, LossSource, Losses, Reason, Refusal};
 use sentry_engine::call::Call;
@@ -134,7 +134,7 @@ impl Scenario {
         reason: TransportLossReason,
     ) -> Result<Answer<'a>, Refusal> {
         self.engine.is_enabled(client_key(client))?;
-        let (mut recorder, mut drainer) = LossWords::new(self.alloc, client_label(client))?;
+        let (mut recorder, mut drainer) = LossWords::new(self.alloc, self.label(client))?;
         recorder.record_lost_data(&kind, reason);
         match self.engine.absorb(drainer.drain()) {
             Ok(out) => Ok(Answer::of_sent(out)),
@@ -152,14 +152,15 @@ impl Scenario {
             None => Losses::none(),
         };
         let call = Call::Absorb {
-            label: client_label(client),
+            label: self.label(client),
             losses: Boxed::new(self.alloc, losses)?,
         };
         Ok(Answer::of_sent(self.engine.apply(call)?))
     }
 
     fn report<'a>(&mut self, client: u64) -> Result<Answer<'a>, Refusal> {
-        let report = self.engine.take_report(client_label(client))?.reply;
+        let label = self.label(client);
+        let report = self.engine.take_report(label)?.reply;
         Ok(Answer::new(self.alloc, Reply::Report { client, report }))
     }
 

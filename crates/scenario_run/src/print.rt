@@ -10,7 +10,8 @@ mod telemetry;
 mod values;
 
 use crate::answer::Answer;
-use crate::print::lists::push_joined;
+use crate::originals::Originals;
+use crate::print::envelopes::push_envelope;
 use std::alloc::AllocError;
 
 /// What is printed of a value. Where memory is refused, a part of it may stand in the text.
@@ -19,8 +20,16 @@ pub trait Shown {
     fn push_to(&self, text: &mut String) -> Result<(), AllocError>;
 }
 
-/// Puts the lines of an answer at the end of the text: the reply, and each envelope.
-pub fn push_answer(text: &mut String, answer: &Answer<'_>) -> Result<(), AllocError> {
+/// Puts the lines of an answer at the end of the text: the reply, and each envelope, under the client whose transport
+/// it goes through.
+pub fn push_answer(
+    text: &mut String,
+    originals: &Originals,
+    answer: &Answer<'_>,
+) -> Result<(), AllocError> {
     answer.reply.push_to(text)?;
-    push_joined(text, answer.sent.as_slice(), "")
+    for (client, envelope) in answer.sent.as_slice() {
+        push_envelope(text, originals.of(client.number), envelope)?;
+    }
+    Ok(())
 }

@@ -3,6 +3,7 @@ use crate::answer::{Answer, Reply};
 use crate::command::Command;
 use crate::fault::{Failure, ScenarioFault};
 use crate::lines::next_line;
+use crate::originals::Originals;
 use crate::print::push_answer;
 use crate::scenario::Scenario;
 use sentry_base::protocol::Refusal;
@@ -41,9 +42,9 @@ fn answer<'a>(
     }
 }
 
-fn print(text: &mut String, answer: &Answer<'_>) -> Result<(), AllocError> {
+fn print(text: &mut String, originals: &Originals, answer: &Answer<'_>) -> Result<(), AllocError> {
     text.clear();
-    push_answer(text, answer)
+    push_answer(text, originals, answer)
 }
 
 /// Does one line, and makes its text in `text`. Where memory is refused for that, the text is made once more, and the
@@ -58,9 +59,9 @@ fn play(
         return Err(ScenarioFault::BadCommand(number));
     };
     let answer = answer(scenario, number, &command)?;
-    match print(text, &answer) {
+    match print(text, &scenario.originals, &answer) {
         Ok(()) => Ok(()),
-        Err(_) => Ok(print(text, &answer)?),
+        Err(_) => Ok(print(text, &scenario.originals, &answer)?),
     }
 }
 

@@ -4,6 +4,7 @@ use crate::callbacks::{Callbacks, Handler};
 use crate::command::Command;
 use crate::fault::Failure;
 use crate::headers::Header;
+use crate::originals::Originals;
 use sentry_base::protocol::{ClientKey, Draw, Fresh, HubKey, Label, SpanId, TraceId, Uuid};
 use sentry_engine::engine::Engine;
 use sentry_plain::{Items, Table};
@@ -18,8 +19,10 @@ const NANOSECONDS: u64 = 1_000_000_000;
 pub struct Scenario {
     pub alloc: Global,
     pub engine: Engine<Handler, Callbacks>,
-    /// How many clients there are. A client's label has its number.
+    /// How many clients there are.
     pub clients: u64,
+    /// Which client each clone was made of.
+    pub originals: Originals,
     /// The depth of each hub that was pushed onto, by its number.
     pub depths: Table<usize>,
     /// The number of the line that is being done.
@@ -38,6 +41,7 @@ impl Drop for Scenario {
             alloc: _,
             engine: _,
             clients: _,
+            originals: _,
             depths: _,
             line: _,
             now: _,
@@ -52,7 +56,7 @@ pub fn client_key(number: u64) -> ClientKey {
     ClientKey { tag: TAG, number }
 }
 
-/// The label of the client of this number.
+/// The label of the client of this number, which is no clone.
 pub fn client_label(number: u64) -> Label {
     Label { tag: TAG, number }
 }
@@ -69,6 +73,7 @@ impl Scenario {
             alloc,
             engine: Engine::new(alloc, TAG),
             clients: 0,
+            originals: Originals::new(alloc),
             depths: Table::new(alloc),
             line: 0,
             now: None,
@@ -83,6 +88,11 @@ impl Scenario {
             Some(now) => now,
             None => self.line.saturating_mul(NANOSECONDS),
         }
+    }
+
+    /// The label of a client: that of the client of which it was made, where it is a clone.
+    pub fn label(&self, client: u64) -> Label {
+        client_label(self.originals.of(client))
     }
 
     /// What a call on the line is handed in place of a clock and a generator: ids are the line's number.
@@ -112,6 +122,8 @@ impl Scenario {
             Command::Breadcrumb(command) => self.add_breadcrumbs(*command),
             Command::Capture(command) => self.capture(command),
             Command::Session(command) => self.perform_on_session(*command),
+            Command::Log(command) => self.capture_log(command),
+            Command::Metric(command) => self.capture_metric(command),
             Command::Header(command) => self.perform_on_headers(command),
             Command::Text(command) => self.read_text(command),
         }

@@ -1,4 +1,5 @@
 //! The words of a line.
+use crate::attributes::AttributeWords;
 use sentry_base::protocol::{Draw, Level};
 
 /// The word that stands for none.
@@ -78,6 +79,22 @@ impl<'a> Words<'a> {
         }
     }
 
+    /// The next word, as a whole number that may be below 0.
+    pub fn integer(&mut self) -> Option<i64> {
+        integer(self.word()?)
+    }
+
+    /// The next word and all that is left after it, as an attribute, or none where nothing is left.
+    pub fn attribute_if_any(&mut self) -> Option<Option<AttributeWords<'a>>> {
+        match self.left {
+            None => Some(None),
+            Some(_) => Some(Some(AttributeWords {
+                key: self.word()?,
+                value: self.rest()?,
+            })),
+        }
+    }
+
     /// The next word, as a draw, which is a number below 1000000.
     pub fn draw(&mut self) -> Option<Draw> {
         Draw::new(small(self.number()?))
@@ -99,6 +116,14 @@ impl<'a> Words<'a> {
 
 /// The number that a word of decimal digits spells, up to 2^64-1.
 pub fn number(word: &str) -> Option<u64> {
+    if word.starts_with('+') {
+        return None;
+    }
+    word.parse().ok()
+}
+
+// The number that a word of decimal digits spells, perhaps after a `-`, from -2^63 to 2^63-1.
+fn integer(word: &str) -> Option<i64> {
     if word.starts_with('+') {
         return None;
     }

@@ -3,23 +3,23 @@ use crate::print::Shown;
 use crate::print::lists::{push_joined, push_labeled, push_list};
 use crate::print::telemetry::push_batch;
 use sentry_base::protocol::{
-    Attachment, ClientKey, ClientReport, ClientReportItem, DynamicSamplingContext, Envelope,
-    EnvelopeItem, SampleRate, TraceId,
+    Attachment, ClientReport, ClientReportItem, DynamicSamplingContext, Envelope, EnvelopeItem,
+    SampleRate, TraceId,
 };
 use std::alloc::AllocError;
 
-/// The line of an envelope.
-impl Shown for (ClientKey, Envelope) {
-    fn push_to(&self, text: &mut String) -> Result<(), AllocError> {
-        let (client, envelope) = self;
-        let number = client.number;
-        write!(text, "envelope {number} ")?;
-        if let Some(trace) = &envelope.header.trace {
-            trace.push_to(text)?;
-        }
-        push_joined(text, envelope.items.as_slice(), " | ")?;
-        text.push_str("\n")
+/// Puts the line of an envelope of the client of this number at the end of the text.
+pub fn push_envelope(
+    text: &mut String,
+    client: u64,
+    envelope: &Envelope,
+) -> Result<(), AllocError> {
+    write!(text, "envelope {client} ")?;
+    if let Some(trace) = &envelope.header.trace {
+        trace.push_to(text)?;
     }
+    push_joined(text, envelope.items.as_slice(), " | ")?;
+    text.push_str("\n")
 }
 
 impl Shown for DynamicSamplingContext {

@@ -1,0 +1,43 @@
+//! Who captures a log or a metric of a line, and its attributes.
+use crate::callbacks::Handler;
+use crate::scenario::Scenario;
+use sentry_base::protocol::{LogAttribute, Value};
+use sentry_plain::{Text, TextMap};
+use sentry_state::scope::Scope;
+use std::alloc::{AllocError, Global};
+
+/// Who captures it, by number.
+#[derive(Clone, Copy)]
+pub enum Capturer {
+    Hub(u64),
+    /// A client itself, under a new scope.
+    Client(u64),
+}
+
+/// An attribute that a line names.
+#[derive(Clone, Copy)]
+pub struct AttributeWords<'a> {
+    pub key: &'a str,
+    pub value: &'a str,
+}
+
+/// The attributes of a log or a metric whose line names one of them, or none.
+pub fn attributes(
+    alloc: Global,
+    attribute: Option<AttributeWords<'_>>,
+) -> Result<TextMap<LogAttribute>, AllocError> {
+    let mut attributes = TextMap::new(alloc);
+    if let Some(AttributeWords { key, value }) = attribute {
+        let value = Value::Text(Text::new(alloc, value)?);
+        attributes.insert(Text::new(alloc, key)?, LogAttribute(value))?;
+    }
+    Ok(attributes)
+}
+
+impl Scenario {
+    /// A new scope, with the ids of the line.
+    pub fn new_scope(&self) -> Scope<Handler> {
+        let fresh = self.fresh();
+        Scope::new(self.alloc, fresh.trace_id, fresh.span_id)
+    }
+}
