@@ -180,20 +180,24 @@ fn attachments_of<P>(scope: Option<&Scope<P>>) -> &[Attachment]
     }
 }
 
-// The envelope of an event, with room for a report.
+// The envelope of an event, with no more room than its items take: an item is as large as an event.
 fn event_envelope(
     alloc: Global,
     event: Event,
     update: Option<Boxed<SessionUpdate>>,
     attachments: &[Attachment],
+    report: Option<ClientReport>,
 ) -> Result<Envelope, AllocError>
-    ensures { IfOk result (λ envelope. envelope ≡
-        with_attachments attachments.now (with_update update (with_item empty_envelope (item.Event event)))) }
+    ensures { IfOk result (λ envelope. envelope ≡ with_report report
+        (with_attachments attachments.now (with_update update (with_item empty_envelope (item.Event event))))) }
 {
-    let mut envelope = Envelope::with_capacity(alloc, attachments.len().saturating_add(3))?;
+    let others = usize::from(update.is_some()) + usize::from(report.is_some());
+    let room = attachments.len().saturating_add(1 + others);
+    let mut envelope = Envelope::with_capacity(alloc, room)?;
     envelope.add_item(EnvelopeItem::Event(event))?;
     add_update(&mut envelope, update)?;
     add_attachments(&mut envelope, attachments)?;
+    add_report(&mut envelope, report)?;
     Ok(envelope)
 }
 
@@ -262,8 +266,7 @@ impl<P: EventCallback + Drop, C: Callbacks> Engine<P, C> {
             return Ok(Items::new(self.alloc));
         };
         let report = self.pending_report(label)?;
-        let mut envelope = event_envelope(self.alloc, event, update, attachments_of(scope))?;
-        add_report(&mut envelope, report)?;
+        let envelope = event_envelope(self.alloc, event, update, attachments_of(scope), report)?;
         let mut sent = Vec::with_capacity(self.alloc, 1)?;
         sent.push_reserved((key, envelope));
         Ok(Items::from_vec(sent))

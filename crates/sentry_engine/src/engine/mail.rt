@@ -20,7 +20,6 @@ use sentry_state::clientoptions::Callbacks;
 use std::alloc::{AllocError, Global};
 
 // Envelopes of a client, with room for one of logs and for one of metrics, which takes no more memory.
-#[derive(Drop)]
 pub(super) struct Mail {
     key: ClientKey,
     // Goes along with the first of the envelopes that are still to come.
@@ -29,6 +28,18 @@ pub(super) struct Mail {
     // Room for the items of the envelope of logs.
     logs: Vec<EnvelopeItem>,
     metrics: Vec<EnvelopeItem>,
+}
+
+impl Drop for Mail {
+    fn drop(self) {
+        let Mail {
+            key: _,
+            report: _,
+            sent: _,
+            logs: _,
+            metrics: _,
+        } = self;
+    }
 }
 
 // Adds a report as the last item, if there is one, for which there is room.
