@@ -1,11 +1,15 @@
-//! Callbacks in boxes, as users of the library hand them in.
-use sentry_core::protocol::{Breadcrumb, Event};
+//! Engines over callbacks in boxes, as users of the library hand them in.
+use crate::engines::{DSN, LABEL, fresh, id, options, scope};
+use sentry_core::engine::{Engine, Out};
+use sentry_core::protocol::{Breadcrumb, EnvelopeItem, Event, Refusal, Uuid};
 use sentry_core::types::Dsn;
 use sentry_core::{
     BoxedBreadcrumbCallback, BoxedEventCallback, BoxedIntegration, BreadcrumbCallback,
-    EventCallback, Integration, PlainOptions,
+    ClientOptions, EventCallback, Integration, Level, PlainOptions, Scope,
 };
+use sentry_plain::Items;
 use std::alloc::{AllocError, Global};
+use std::test::Fail;
 
 /// Adds to the event's moment. At 0 it is refused its memory, so that a call of it shows.
 #[derive(Drop)]
@@ -100,60 +104,20 @@ impl Integration for Multiplies {
     }
 }
 
-/// Takes the release from the options, and drops every event.
-#[derive(Drop)]
-struct Hides;
-
-impl Integration for Hides {
-    ghost use Rattle.std.specs.Prelude.{None, codes};
-
-    ghost meaning = { λ _. record {
-      name = codes "hides";
-      setup = λ options. record options { release = None };
-      process_event = λ _ event. None;
-    } };
-
-    fn name(&self) -> &str {
-        "hides"
-    }
-
-    fn setup(&self, options: &mut PlainOptions) -> Result<(), AllocError> {
-        options.release = None;
-        Ok(())
-    }
-
-    fn process_event(
-        &self,
-        _event: Event,
-        _options: &PlainOptions,
-    ) -> Result<Option<Event>, AllocError> {
-        Ok(None)
-    }
-}
-
 /// A callback that adds to the moment, or, at 0, is refused its memory.
-pub(crate) fn boxed_adds(alloc: Global, number: u64) -> Result<BoxedEventCallback, AllocError> {
+fn boxed_adds(alloc: Global, number: u64) -> Result<BoxedEventCallback, AllocError> {
     let callback: BoxedEventCallback = Box::new(alloc, Adds(number))?;
     Ok(callback)
 }
 
 /// A callback that drops the breadcrumbs from a moment on, or, if that is 0, is refused its memory.
-pub(crate) fn boxed_keeps_until(
-    alloc: Global,
-    moment: u64,
-) -> Result<BoxedBreadcrumbCallback, AllocError> {
+fn boxed_keeps_until(alloc: Global, moment: u64) -> Result<BoxedBreadcrumbCallback, AllocError> {
     let callback: BoxedBreadcrumbCallback = Box::new(alloc, KeepsUntil(moment))?;
     Ok(callback)
 }
 
-/// A callback that drops every event.
-pub(crate) fn boxed_drops(alloc: Global) -> Result<BoxedEventCallback, AllocError> {
-    let callback: BoxedEventCallback = Box::new(alloc, Drops)?;
-    Ok(callback)
-}
-
 /// An integration that gives the options this DSN, and multiplies the moment or, by 0, is refused its memory.
-pub(crate) fn boxed_multiplies(
+fn boxed_multiplies(
     alloc: Global,
     factor: u64,
     dsn: Option<Dsn>,
@@ -162,8 +126,186 @@ pub(crate) fn boxed_multiplies(
     Ok(integration)
 }
 
-/// An integration that takes the release from the options, and drops every event.
-pub(crate) fn boxed_hides(alloc: Global) -> Result<BoxedIntegration, AllocError> {
-    let integration: BoxedIntegration = Box::new(alloc, Hides)?;
-    Ok(integration)
+/// A scope after calls of its setters, of which the first adds a processor.
+fn scope_with(alloc: Global, processor: BoxedEventCallback) -> Result<Scope, Refusal> {
+    let mut scope = scope(alloc);
+    scope.add_event_processor(processor)?;
+    scope.set_level(Some(Level::Warning));
+    scope.set_tag("a", "1")?;
+    scope.set_tag("b", "2")?;
+    scope.remove_tag("b");
+    Ok(scope)
+}
+
+/// The moment and the level of the only event of the only envelope, if that is all, and how many tags it has.
+fn sent_event(out: &Out<Uuid>) -> Option<(u64, Level, usize)> {
+    match out.sent.as_slice() {
+        [(_, envelope)] => match envelope.items.as_slice() {
+            [EnvelopeItem::Event(event)] => Some((event.timestamp, event.level, event.tags.len())),
+            _ => None,
+        },
+        _ => None,
+    }
+}
+
+/// What an event at moment 1 comes to: the id answered, what goes out, and the hub's last event id.
+type Outcome = (Uuid, Option<(u64, Level, usize)>, Option<Uuid>);
+
+/// The same of an event without an id, on a hub with this scope of a client with these options.
+fn capture_once(
+    alloc: Global,
+    options: ClientOptions,
+    transport: bool,
+    scope: Scope,
+) -> Result<Outcome, Refusal> {
+    let mut engine = Engine::new(alloc, 0);
+    let client = engine.add_client(options, transport, LABEL, 0)?.reply;
+    let hub = engine.new_hub(Some(client), scope)?.reply;
+    let event = Event::new(alloc, Uuid::nil(), 1)?;
+    let out = engine.capture_event(hub, event, fresh(1))?;
+    Ok((
+        out.reply,
+        sent_event(&out),
+        engine.last_event_id(hub)?.reply,
+    ))
+}
+
+/// Options whose callbacks multiply by 3, multiply by 5, and add 100. The DSN is taken in the set-up.
+fn counting_options(alloc: Global) -> Result<ClientOptions, Refusal> {
+    options(alloc)?
+        .before_send(boxed_adds(alloc, 100)?)?
+        .add_integration(boxed_multiplies(alloc, 3, None)?)?
+        .add_integration(boxed_multiplies(alloc, 5, None)?)
+}
+
+/// Options whose callbacks are refused their memory.
+fn starving_options(alloc: Global) -> Result<ClientOptions, Refusal> {
+    options(alloc)?
+        .before_send(boxed_adds(alloc, 0)?)?
+        .add_integration(boxed_multiplies(alloc, 0, None)?)
+}
+
+#[test]
+fn boxed_callbacks_run_in_order(rt: HostRuntime) -> Result<(), Fail> {
+    let alloc = rt.alloc();
+    let dropped = (Uuid::nil(), None, Some(Uuid::nil()));
+    // the processor, the integrations, the callback: (1 + 3) * 3 * 5 + 100
+    let counted = (id(1), Some((160, Level::Warning, 1)), Some(id(1)));
+    let scope = scope_with(alloc, boxed_adds(alloc, 3)?)?;
+    assert_eq!(rt;
+        capture_once(alloc, counting_options(alloc)?, true, scope)?,
+        counted
+    );
+    // What drops an event stops what follows.
+    let drops: BoxedEventCallback = Box::new(alloc, Drops)?;
+    let scope = scope_with(alloc, drops)?;
+    assert_eq!(rt;
+        capture_once(alloc, starving_options(alloc)?, true, scope)?,
+        dropped
+    );
+    let scope = scope_with(alloc, boxed_adds(alloc, 3)?)?;
+    let refusal = capture_once(alloc, starving_options(alloc)?, true, scope).err();
+    assert_eq!(rt; refusal, Some(Refusal::OutOfMemory));
+    // Without a transport nothing runs.
+    let scope = scope_with(alloc, boxed_adds(alloc, 0)?)?;
+    assert_eq!(rt;
+        capture_once(alloc, starving_options(alloc)?, false, scope)?,
+        dropped
+    );
+    Ok(())
+}
+
+#[test]
+fn clients_capture_under_a_scope(rt: HostRuntime) -> Result<(), Fail> {
+    let alloc = rt.alloc();
+    let mut engine = Engine::new(alloc, 0);
+    let client = engine
+        .add_client(counting_options(alloc)?, true, LABEL, 0)?
+        .reply;
+    let scope = scope_with(alloc, boxed_adds(alloc, 3)?)?;
+    let event = Event::new(alloc, Uuid::nil(), 1)?;
+    let out = engine.client_capture_event(client, event, Some(&scope), fresh(1))?;
+    assert_eq!(rt;
+        (out.reply, sent_event(&out)),
+        (id(1), Some((160, Level::Warning, 1)))
+    );
+    Ok(())
+}
+
+/// Why breadcrumbs of the moments below a count are refused, if they are, on a hub of a client whose callback keeps
+/// those until a moment, and how many the scope has after that.
+fn breadcrumbs_kept(
+    alloc: Global,
+    until: u64,
+    count: u64,
+) -> Result<(Option<Refusal>, usize), Refusal> {
+    let options = options(alloc)?.before_breadcrumb(boxed_keeps_until(alloc, until)?)?;
+    let mut engine = Engine::new(alloc, 0);
+    let client = engine.add_client(options, true, LABEL, 0)?.reply;
+    let hub = engine.new_hub(Some(client), scope(alloc))?.reply;
+    let mut breadcrumbs = Items::new(alloc);
+    for moment in 0..count {
+        breadcrumbs.push(Breadcrumb::new(alloc, moment)?)?;
+    }
+    let refusal = engine.add_breadcrumbs(hub, breadcrumbs.into_vec()).err();
+    Ok((refusal, engine.scope(hub)?.reply.breadcrumbs.len()))
+}
+
+#[test]
+fn breadcrumbs_go_through_a_boxed_callback(rt: HostRuntime) -> Result<(), Fail> {
+    let alloc = rt.alloc();
+    assert_eq!(rt; breadcrumbs_kept(alloc, 2, 3)?, (None, 2));
+    assert_eq!(rt;
+        breadcrumbs_kept(alloc, 0, 3)?,
+        (Some(Refusal::OutOfMemory), 0)
+    );
+    // An empty list calls no callback.
+    assert_eq!(rt; breadcrumbs_kept(alloc, 0, 0)?, (None, 0));
+    Ok(())
+}
+
+/// Of a client with these options and a transport: whether it is enabled and has a DSN, and how many integrations it
+/// has.
+fn facts_of_client(alloc: Global, options: ClientOptions) -> Result<(bool, bool, usize), Refusal> {
+    let mut engine = Engine::new(alloc, 0);
+    let client = engine.add_client(options, true, LABEL, 0)?.reply;
+    let options = engine.options(client)?.reply;
+    Ok((
+        engine.is_enabled(client)?.reply,
+        engine.dsn(client)?.reply.is_some(),
+        options.callbacks.integrations.len(),
+    ))
+}
+
+/// Options without a DSN, to which an integration gives one.
+fn directed_options(alloc: Global) -> Result<ClientOptions, Refusal> {
+    let dsn = Dsn::parse(alloc, DSN)?;
+    ClientOptions::new(alloc).add_integration(boxed_multiplies(alloc, 2, Some(dsn))?)
+}
+
+#[test]
+fn set_up_changes_the_options(rt: HostRuntime) -> Result<(), Fail> {
+    let alloc = rt.alloc();
+    // A DSN that is taken disables the client. That its slot stays occupied shows where callbacks run in order.
+    let copy = counting_options(alloc)?.clone()?;
+    assert_eq!(rt; facts_of_client(alloc, copy)?, (false, false, 2));
+    // A list of integrations replaces those before.
+    let dsn = Dsn::parse(alloc, DSN)?;
+    let giving = vec![in alloc; boxed_multiplies(alloc, 2, Some(dsn))?]?;
+    assert_eq!(rt;
+        facts_of_client(alloc, counting_options(alloc)?.integrations(giving)?)?,
+        (true, true, 1)
+    );
+    // A DSN that is given opens no slot.
+    assert_eq!(rt;
+        facts_of_client(alloc, directed_options(alloc)?)?,
+        (false, true, 1)
+    );
+    let dropped = (Uuid::nil(), None, Some(Uuid::nil()));
+    let scope = scope(alloc);
+    assert_eq!(rt;
+        capture_once(alloc, directed_options(alloc)?, true, scope)?,
+        dropped
+    );
+    Ok(())
 }

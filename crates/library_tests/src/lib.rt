@@ -1,5 +1,5 @@
 //! Tests of what no text given to a program can show: boxed callbacks, clones and `==`, builders and calls that no
-//! command makes, callbacks that are refused memory, and streams that fail.
+//! command makes, what a refused call hands back, and a stream that fails.
 #![tactic(auto)]
 
 #[cfg(test)]
@@ -8,8 +8,6 @@ mod callbacks;
 mod engines;
 #[cfg(test)]
 mod options;
-#[cfg(test)]
-mod pipelines;
 #[cfg(test)]
 mod plain;
 #[cfg(test)]

@@ -1,5 +1,5 @@
 //! Calls as values, one call, and a list of calls.
-ghost use Rattle.std.specs.Prelude.{◌≡◌, IfOk, IfErr, option_copied};
+ghost use Rattle.std.specs.Prelude.{◌≡◌, IfOk, IfErr};
 ghost use Rattle.sentry_base.specs.declared.protocol.refusal.Refusal.TheVariants.{OutOfMemory};
 ghost use Rattle.sentry_engine.specs.Worlds.{World, Stands, first_world};
 ghost use Rattle.sentry_engine.specs.Outcomes.{Does, DoesWith};
@@ -7,6 +7,7 @@ ghost use Rattle.sentry_engine.specs.Hubs as call;
 ghost use Rattle.sentry_engine.specs.Replies.{IsMapped};
 ghost use Rattle.sentry_engine.specs.Runs.{step, takes_no_memory, Run};
 
+mod boxed;
 mod replies;
 
 use crate::engine::{Engine, Out};
@@ -188,16 +189,6 @@ pub enum Reply<P, C> {
 /// What a call answers: its reply and envelopes, or why it was refused.
 pub type Answer<P, C> = Result<Out<Reply<P, C>>, Refusal>;
 
-// The scope in a box, if there is one.
-fn lent_scope<P>(scope: &Option<Boxed<Scope<P>>>) -> Option<&Scope<P>>
-    ensures { option_copied result ≡ scope.now }
-{
-    match scope {
-        None => None,
-        Some(scope) => Some(scope.get()),
-    }
-}
-
 // The answer with its reply put into the one type of replies.
 fn answer_of<T: Into<Reply<P, C>>, P, C>(answer: Result<Out<T>, Refusal>) -> Answer<P, C>
     ensures { IsMapped T.converts answer result }
@@ -221,7 +212,7 @@ impl<P: EventCallback + Drop, C: Callbacks> Engine<P, C> {
                 transport,
                 label,
                 now,
-            } => answer_of(self.add_client(options.into_inner(), transport, label, now)),
+            } => answer_of(self.add_boxed_client(options, transport, label, now)),
             Call::Options(client) => answer_of(self.options(client)),
             Call::Dsn(client) => answer_of(self.dsn(client)),
             Call::IsEnabled(client) => answer_of(self.is_enabled(client)),
@@ -233,23 +224,13 @@ impl<P: EventCallback + Drop, C: Callbacks> Engine<P, C> {
                 event,
                 scope,
                 fresh,
-            } => answer_of(self.prepare_event(
-                client,
-                event.into_inner(),
-                lent_scope(&scope),
-                fresh,
-            )),
+            } => answer_of(self.prepare_boxed_event(client, event, &scope, fresh)),
             Call::ClientCaptureEvent {
                 client,
                 event,
                 scope,
                 fresh,
-            } => answer_of(self.client_capture_event(
-                client,
-                event.into_inner(),
-                lent_scope(&scope),
-                fresh,
-            )),
+            } => answer_of(self.client_capture_boxed_event(client, event, &scope, fresh)),
             Call::SendEnvelope { client, envelope } => {
                 answer_of(self.send_envelope(client, envelope))
             }
@@ -274,7 +255,7 @@ impl<P: EventCallback + Drop, C: Callbacks> Engine<P, C> {
             Call::DropClient(client) => answer_of(self.drop_client(client)),
             Call::TakeReport(label) => answer_of(self.take_report(label)),
             Call::Absorb { label, losses } => answer_of(self.absorb_losses(label, losses.get())),
-            Call::NewHub { client, scope } => answer_of(self.new_hub(client, scope.into_inner())),
+            Call::NewHub { client, scope } => answer_of(self.new_boxed_hub(client, scope)),
             Call::Configure { hub, edits, now } => answer_of(self.configure(
                 hub,
                 edits.into_vec(),
@@ -284,7 +265,7 @@ impl<P: EventCallback + Drop, C: Callbacks> Engine<P, C> {
                 answer_of(self.add_breadcrumbs(hub, breadcrumbs.into_vec()))
             }
             Call::CaptureEvent { hub, event, fresh } => {
-                answer_of(self.capture_event(hub, event.into_inner(), fresh))
+                answer_of(self.capture_boxed_event(hub, event, fresh))
             }
             Call::CaptureMessage {
                 hub,

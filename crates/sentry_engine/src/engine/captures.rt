@@ -16,8 +16,8 @@ ghost use Rattle.sentry_base.specs.declared.protocol.envelope.EnvelopeItem.TheVa
 
 use crate::engine::{Client, Engine};
 use sentry_base::protocol::{
-    Attachment, ClientKey, ClientReport, Envelope, EnvelopeItem, Event, Fresh, Label, SessionKey,
-    SessionUpdate, Uuid,
+    Attachment, ClientKey, ClientReport, Envelope, EnvelopeHeaders, EnvelopeItem, Event, Fresh,
+    Label, SessionKey, SessionUpdate, Uuid,
 };
 use sentry_parts::pipeline::{Preparation, prepare_event};
 use sentry_parts::session::Session;
@@ -180,21 +180,32 @@ fn attachments_of<P>(scope: Option<&Scope<P>>) -> &[Attachment]
     }
 }
 
-// The envelope of an event, with no more room than its items take: an item is as large as an event.
+// The envelope of the event that is there, which is taken out, with no more room than its items take: an item is as large
+// as an event.
 fn event_envelope(
     alloc: Global,
-    event: Event,
+    event: &mut Option<Event>,
     update: Option<Boxed<SessionUpdate>>,
     attachments: &[Attachment],
     report: Option<ClientReport>,
 ) -> Result<Envelope, AllocError>
-    ensures { IfOk result (λ envelope. envelope ≡ with_report report
-        (with_attachments attachments.now (with_update update (with_item empty_envelope (item.Event event))))) }
+    ensures { (given : Event) → event.old ≡ Some given → IfOk result (λ envelope. envelope ≡ with_report report
+        (with_attachments attachments.now (with_update update (with_item empty_envelope (item.Event given))))) }
 {
     let others = usize::from(update.is_some()) + usize::from(report.is_some());
     let room = attachments.len().saturating_add(1 + others);
-    let mut envelope = Envelope::with_capacity(alloc, room)?;
-    envelope.add_item(EnvelopeItem::Event(event))?;
+    let mut items = Vec::with_capacity(alloc, room)?;
+    let event_id = Some(captured_id(event));
+    if let Some(event) = event.take() {
+        items.push_reserved(EnvelopeItem::Event(event));
+    }
+    let mut envelope = Envelope {
+        header: EnvelopeHeaders {
+            event_id,
+            trace: None,
+        },
+        items: Items::from_vec(items),
+    };
     add_update(&mut envelope, update)?;
     add_attachments(&mut envelope, attachments)?;
     add_report(&mut envelope, report)?;
@@ -249,22 +260,22 @@ impl<P: EventCallback + Drop, C: Callbacks> Engine<P, C> {
         self.set_session(key.number, after);
     }
 
-    // The envelopes of a capture: the event, the session's update, the attachments of the scope, and the pending report
-    // as the last item.
+    // The envelopes of a capture: the event, which is taken out, the session's update, the attachments of the scope, and
+    // the pending report as the last item.
     pub(super) fn captured_envelopes(
         &self,
         key: ClientKey,
         label: Label,
         update: Option<Boxed<SessionUpdate>>,
         scope: Option<&Scope<P>>,
-        event: Option<Event>,
+        event: &mut Option<Event>,
     ) -> Result<Items<(ClientKey, Envelope)>, AllocError>
         ensures { (world : World P C) → Stands self.now world → IfOk result (λ sent. sent ≡ captured_envelopes key
-            update (attachments_of (option_copied scope.entry)) (pending_report world label) event) }
+            update (attachments_of (option_copied scope.entry)) (pending_report world label) event.old) }
     {
-        let Some(event) = event else {
+        if event.is_none() {
             return Ok(Items::new(self.alloc));
-        };
+        }
         let report = self.pending_report(label)?;
         let envelope = event_envelope(self.alloc, event, update, attachments_of(scope), report)?;
         let mut sent = Vec::with_capacity(self.alloc, 1)?;

@@ -352,7 +352,7 @@ impl<P: EventCallback + Drop, C: Callbacks> Engine<P, C> {
         let preparation = capture(self.alloc, held, scope, fresh, &mut event)?;
         drop_unsent(&preparation, &mut event);
         let reply = captured_id(&event);
-        let sent = self.captured_envelopes(client, label, None, scope, event)?;
+        let sent = self.captured_envelopes(client, label, None, scope, &mut event)?;
         self.note_capture(label, preparation);
         Ok(Out { reply, sent })
     }

@@ -298,15 +298,16 @@ impl<P: EventCallback + Drop, C: Callbacks> Engine<P, C> {
         Ok(self.out(held.last_event_id))
     }
 
-    // Captures the event that is there; none is left.
+    // Captures the event that is there; none is left. It is lent, since a function that owns an event makes room for one
+    // at each of its ends.
     #[tactic(auto, unfolding(crate::specs::Hubs::capture_event))]
     fn capture(
         &mut self,
         hub: HubKey,
-        mut event: Option<Event>,
+        event: &mut Option<Event>,
         fresh: Fresh,
     ) -> Result<Out<Uuid>, Refusal>
-        ensures { (given : Event) → event ≡ Some given →
+        ensures { (given : Event) → event.old ≡ Some given →
             Does self.old self.new result (call.capture_event P.gives C.meanings hub given fresh) }
     {
         let Some(held) = self.hub_at(hub) else {
@@ -321,11 +322,11 @@ impl<P: EventCallback + Drop, C: Callbacks> Engine<P, C> {
         let label = client.label;
         let scope = Some(&held.stack.top.scope);
         let name = held.stack.top.session;
-        let preparation = capture(self.alloc, client, scope, fresh, &mut event)?;
-        let takes = takes_update(client, &preparation, &event);
-        let (update, session) = self.capture_named_session(name, takes, &event)?;
-        drop_unsent(&preparation, &mut event);
-        let reply = captured_id(&event);
+        let preparation = capture(self.alloc, client, scope, fresh, event)?;
+        let takes = takes_update(client, &preparation, event);
+        let (update, session) = self.capture_named_session(name, takes, event)?;
+        drop_unsent(&preparation, event);
+        let reply = captured_id(event);
         let sent = self.captured_envelopes(key, label, update, scope, event)?;
         self.note_capture(label, preparation);
         self.set_named_session(name, session);
@@ -347,7 +348,7 @@ impl<P: EventCallback + Drop, C: Callbacks> Engine<P, C> {
     ) -> Result<Out<Uuid>, Refusal>
         ensures { Does self.old self.new result (call.capture_event P.gives C.meanings hub event fresh) }
     {
-        self.capture(hub, Some(event), fresh)
+        self.capture(hub, &mut Some(event), fresh)
     }
 
     // The refusal of a call on a hub for which there is no memory.
@@ -373,7 +374,7 @@ impl<P: EventCallback + Drop, C: Callbacks> Engine<P, C> {
         ensures { Does self.old self.new result (call.capture_message P.gives C.meanings hub message level fresh) }
     {
         match message_event(self.alloc, message, level, fresh.uuid, fresh.now) {
-            Ok(event) => self.capture(hub, event, fresh),
+            Ok(mut event) => self.capture(hub, &mut event, fresh),
             Err(_) => Err(self.hub_refusal(hub)),
         }
     }
@@ -411,7 +412,7 @@ impl<P: EventCallback + Drop, C: Callbacks> Engine<P, C> {
         ensures { Does self.old self.new result (call.capture_error P.gives C.meanings hub links.now fresh) }
     {
         match event_from_error(self.alloc, links, fresh.uuid, fresh.now) {
-            Ok(event) => self.capture(hub, Some(event), fresh),
+            Ok(event) => self.capture(hub, &mut Some(event), fresh),
             Err(_) => Err(self.hub_refusal(hub)),
         }
     }

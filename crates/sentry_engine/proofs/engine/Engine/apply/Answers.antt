@@ -14,7 +14,5 @@ pub returns-in-ClientCaptureEvent : goal.returns-in-ClientCaptureEvent
 unfolding step
 returns-in-ClientCaptureEvent g c =
     rw c.in-ClientCaptureEvent.is
-    (let captured =
-    rw c.lent_scope-in-ClientCaptureEvent.ensures at rw c.into_inner-in-ClientCaptureEvent.ensures at
-    c.client_capture_event.ensures in
-    does_replying _ Event _ (λ x y given. given) _ _ _ _ _ captured c.answer_of-in-ClientCaptureEvent.ensures)
+    (does_replying _ Event _ (λ x y given. given) _ _ _ _ _ c.client_capture_boxed_event.ensures
+    c.answer_of-in-ClientCaptureEvent.ensures)
