@@ -180,8 +180,8 @@ fn attachments_of<P>(scope: Option<&Scope<P>>) -> &[Attachment]
     }
 }
 
-// The envelope of the event that is there, which is taken out, with no more room than its items take: an item is as large
-// as an event.
+// The envelope of the event that is there, which is taken out. It has no more room than its items take: an item is as
+// large as an event.
 fn event_envelope(
     alloc: Global,
     event: &mut Option<Event>,
@@ -260,8 +260,8 @@ impl<P: EventCallback + Drop, C: Callbacks> Engine<P, C> {
         self.set_session(key.number, after);
     }
 
-    // The envelopes of a capture: the event, which is taken out, the session's update, the attachments of the scope, and
-    // the pending report as the last item.
+    // The envelopes of a capture: the event, which is taken out, the session's update, the attachments of the scope,
+    // and the pending report as the last item.
     pub(super) fn captured_envelopes(
         &self,
         key: ClientKey,

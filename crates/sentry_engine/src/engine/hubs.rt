@@ -298,8 +298,8 @@ impl<P: EventCallback + Drop, C: Callbacks> Engine<P, C> {
         Ok(self.out(held.last_event_id))
     }
 
-    // Captures the event that is there; none is left. It is lent, since a function that owns an event makes room for one
-    // at each of its ends.
+    // Captures the event that is there; none is left. It is lent, since a function that owns an event makes room for
+    // one at each of its ends.
     #[tactic(auto, unfolding(crate::specs::Hubs::capture_event))]
     fn capture(
         &mut self,
