@@ -8,7 +8,7 @@ use Rattle.sentry_base.specs.declared.protocol.keys.ClientKey.{ClientKey}
 use Rattle.sentry_base.specs.declared.protocol.log.Log.{Log}
 use Rattle.sentry_base.specs.declared.protocol.metric.Metric.{Metric}
 use Rattle.sentry_state.specs.declared.clientoptions.choices.SessionMode.{SessionMode}
-use Rattle.sentry_parts.specs.Batches.{tick_history, ticked_out}
+use Rattle.sentry_parts.specs.Batches.{tick_history, batch_on_tick}
 use Rattle.sentry_parts.specs.declared.batcher.TheConstants.{BATCH_INTERVAL}
 use Rattle.sentry_parts.specs.SessionQueues.{QueueEntry, Waiting, flushed, queue_of, envelopes_of, envelope_of}
 use Rattle.sentry_parts.specs.Ticks.{is_due, after_tick}
@@ -57,11 +57,11 @@ batch_envelopes logs metrics =
 
 -- the logs that a flush hands out, if it does
 abbrev pub flushed_logs : Flush → QueueHistories → Option (List Log)
-flushed_logs flush queues = ticked_out (is_flushed flush BATCH_INTERVAL queues.log_tick) queues.logs
+flushed_logs flush queues = batch_on_tick (is_flushed flush BATCH_INTERVAL queues.log_tick) queues.logs
 
 -- the metrics that a flush hands out, if it does
 abbrev pub flushed_metrics : Flush → QueueHistories → Option (List Metric)
-flushed_metrics flush queues = ticked_out (is_flushed flush BATCH_INTERVAL queues.metric_tick) queues.metrics
+flushed_metrics flush queues = batch_on_tick (is_flushed flush BATCH_INTERVAL queues.metric_tick) queues.metrics
 
 -- the envelopes of a flush
 abbrev pub flushed_envelopes : Flush → SessionMode → QueueHistories → List Envelope

@@ -14,7 +14,7 @@ use Rattle.sentry_base.specs.declared.protocol.metric.MetricDraft.{MetricDraft}
 use Rattle.sentry_base.specs.declared.protocol.refusal.Refusal.TheVariants.{Stale}
 use Rattle.sentry_state.specs.Callbacks.{Meanings}
 use Rattle.sentry_state.specs.declared.scope.Scope.{Scope}
-use Rattle.sentry_parts.specs.Batches.{BatchEntry, accept, handed_out}
+use Rattle.sentry_parts.specs.Batches.{BatchEntry, accept, batch_on}
 use Rattle.sentry_parts.specs.DefaultAttributes.{default_log_attributes, default_metric_attributes}
 use Rattle.sentry_parts.specs.LossBooks.{LossEntry, engine_losses}
 use Rattle.sentry_parts.specs.Telemetry.{prepare_log, prepare_metric}
@@ -57,7 +57,7 @@ module _ {P C : Type 0} where
   accept_log key log world =
       send_some world (client_at world key) (λ client.
       if client.closed then send_nothing world else
-      send key client (batch_envelopes (handed_out (accept log) client.queues.logs) None)
+      send key client (batch_envelopes (batch_on (accept log) client.queues.logs) None)
       (with_client_state world key (with_log_entry (accept log) client)))
 
   -- the same of a metric
@@ -65,7 +65,7 @@ module _ {P C : Type 0} where
   accept_metric key metric world =
       send_some world (client_at world key) (λ client.
       if client.closed then send_nothing world else
-      send key client (batch_envelopes None (handed_out (accept metric) client.queues.metrics))
+      send key client (batch_envelopes None (batch_on (accept metric) client.queues.metrics))
       (with_client_state world key (with_metric_entry (accept metric) client)))
 
   -- a log that came through the callback is accepted, and one that didn't is lost

@@ -6,7 +6,7 @@ use Rattle.std.specs.List.{AllByRecursion}
 use Rattle.std.specs.Option.{option_to_list}
 use Rattle.std.specs.Option.{IfSome}
 use Rattle.sentry_parts.specs.declared.batcher.TheConstants.{BATCH_ITEMS}
-use Rattle.sentry_parts.specs.Batches.{BatchEntry, accept, cut, queued, unless_full, if_full, if_any, handed_out, batches, items_of, accepted, IsBatch}
+use Rattle.sentry_parts.specs.Batches.{BatchEntry, accept, cut, queued_items, unless_full, if_full, if_any, batch_on, batches, items_of, accepted_items, IsBatch}
 
 module _ {T : Type 0} where
   short_by : (b : Bool) (items : List T) → (length items == BATCH_ITEMS) ≡ b → length items ≤ BATCH_ITEMS
@@ -17,11 +17,11 @@ module _ {T : Type 0} where
   one_more : (items : List T) (item : T) → length items < BATCH_ITEMS → length (items ++ item ∷ []) ≤ BATCH_ITEMS
   one_more items item h = omega (arith, length-append items (item ∷ []))
 
-  pub queued_short : (history : List (BatchEntry T)) → length (queued history) < BATCH_ITEMS
+  pub queued_short : (history : List (BatchEntry T)) → length (queued_items history) < BATCH_ITEMS
   queued_short [] = omega arith
   queued_short (accept item ∷ history) =
-      let items = queued history ++ item ∷ [] in
-      short_by (length items == BATCH_ITEMS) items refl (one_more (queued history) item (queued_short history))
+      let items = queued_items history ++ item ∷ [] in
+      short_by (length items == BATCH_ITEMS) items refl (one_more (queued_items history) item (queued_short history))
   queued_short (cut ∷ history) = omega arith
 
   all_with : (P : List T → Type 0) (some : List (List T)) (o : Option (List T)) → AllByRecursion P some → IfSome o P
@@ -40,16 +40,16 @@ module _ {T : Type 0} where
   any_sized true items e h = tt
   any_sized false items e h = grind (arith, nat_tests)
 
-  sized : (entry : BatchEntry T) (history : List (BatchEntry T)) → IfSome (handed_out entry history) IsBatch
+  sized : (entry : BatchEntry T) (history : List (BatchEntry T)) → IfSome (batch_on entry history) IsBatch
   sized (accept item) history =
-      let items = queued history ++ item ∷ [] in full_sized (length items == BATCH_ITEMS) items refl
+      let items = queued_items history ++ item ∷ [] in full_sized (length items == BATCH_ITEMS) items refl
   sized cut history =
-      any_sized (length (queued history) == 0) (queued history) refl (omega (arith, queued_short history))
+      any_sized (length (queued_items history) == 0) (queued_items history) refl (omega (arith, queued_short history))
 
   pub batches_sized : (history : List (BatchEntry T)) → AllByRecursion IsBatch (batches history)
   batches_sized [] = tt
   batches_sized (entry ∷ history) =
-      all_with IsBatch (batches history) (handed_out entry history) (batches_sized history) (sized entry history)
+      all_with IsBatch (batches history) (batch_on entry history) (batches_sized history) (sized entry history)
 
   items_of-with : (some : List (List T)) (o : Option (List T))
       → items_of (some ++ option_to_list o) ≡ items_of some ++ items_of (option_to_list o)
@@ -69,18 +69,18 @@ module _ {T : Type 0} where
   any_kept true (item ∷ items) e = absurd (grind (arith, nat_tests))
   any_kept false items e = append-nil (items ++ []) ∙ append-nil items
 
-  pub batches_joined : (history : List (BatchEntry T)) → items_of (batches history) ++ queued history ≡ accepted history
+  pub batches_joined : (history : List (BatchEntry T)) → items_of (batches history) ++ queued_items history ≡ accepted_items history
   batches_joined [] = refl
   batches_joined (accept item ∷ history) =
-      let items = queued history ++ item ∷ [] in
+      let items = queued_items history ++ item ∷ [] in
       let full = length items == BATCH_ITEMS in
       ap (λ some. some ++ unless_full items) (items_of-with (batches history) (if_full items))
       ∙ append_assoc (items_of (batches history)) (items_of (option_to_list (if_full items))) (unless_full items)
       ∙ ap (λ some. items_of (batches history) ++ some) (full_kept full items)
-      ∙ sym (append_assoc (items_of (batches history)) (queued history) (item ∷ []))
+      ∙ sym (append_assoc (items_of (batches history)) (queued_items history) (item ∷ []))
       ∙ ap (λ some. some ++ item ∷ []) (batches_joined history)
   batches_joined (cut ∷ history) =
-      let items = queued history in
+      let items = queued_items history in
       ap (λ some. some ++ []) (items_of-with (batches history) (if_any items))
       ∙ append_assoc (items_of (batches history)) (items_of (option_to_list (if_any items))) []
       ∙ ap (λ some. items_of (batches history) ++ some) (any_kept (length items == 0) items refl)

@@ -10,7 +10,7 @@ use Rattle.sentry_base.specs.declared.protocol.envelope.EnvelopeItem.TheVariants
 use Rattle.sentry_base.specs.declared.protocol.session.SessionUpdate.{SessionUpdate}
 use Rattle.sentry_state.specs.declared.clientoptions.choices.SessionMode.{SessionMode}
 use Rattle.sentry_parts.specs.SessionLaws.{QueueIsShort}
-use Rattle.sentry_parts.specs.SessionQueues.{QueueEntry, enqueued, flushed, aggregate_cmp, counts_of, is_aggregated, aggregated, individual, is_full, since_flush, oldest, Waiting, waiting, queue_of, envelopes_of, envelopes_on}
+use Rattle.sentry_parts.specs.SessionQueues.{QueueEntry, enqueued, flushed, aggregate_cmp, counts_of, is_aggregated, aggregated, individual, is_full, since_flush, oldest, Waiting, what_waits, queue_of, envelopes_of, envelopes_on}
 use Rattle.sentry_parts.specs.QueueSteps.{aggregate, append, nothing, clear, is_last, append_or_clear, envelopes_on_append, enqueue, envelopes_on_enqueue}
 use Rattle.sentry_parts.specs.declared.session.aggregates.AggregateCounts.{AggregateCounts}
 use Rattle.sentry_parts.specs.declared.session.aggregates.TheConstants.{MAX_INDIVIDUAL}
@@ -32,8 +32,8 @@ unfolding counts_of
 no_entries = nil_from_length _ (sym (len-entries (empty {X = AggregateCounts} {R = aggregate_cmp})) ∙ len-empty aggregate_cmp AggregateCounts)
 
 -- nothing waits
-pub waiting_none : (mode : SessionMode) → waiting mode [] ≡ nothing mode
-unfolding waiting
+pub waiting_none : (mode : SessionMode) → what_waits mode [] ≡ nothing mode
+unfolding what_waits
 waiting_none mode = λ i. record { mode = mode; counts = no_entries i; attributes = None; individual = [] }
 
 first_kept : {A B : Type 0} (f : A → B) (o : Option A) (x : A) → option_map f (option_or o (Some x)) ≡ option_or (option_map f o) (Some (f x))
@@ -71,17 +71,17 @@ module _ (mode : SessionMode) (u : SessionUpdate) (us : List SessionUpdate) wher
   others_more : is_aggregated mode u ≡ false → individual mode (u ∷ us) ≡ u ∷ individual mode us
   others_more h = rw h refl
 
-  aggregate_is : is_aggregated mode u ≡ true → waiting mode (u ∷ us) ≡ aggregate u (waiting mode us)
-  unfolding waiting
+  aggregate_is : is_aggregated mode u ≡ true → what_waits mode (u ∷ us) ≡ aggregate u (what_waits mode us)
+  unfolding what_waits
   aggregate_is h =
-      let split : waiting mode (u ∷ us) ≡ waiting_from mode (u ∷ aggregated mode us) (individual mode us) =
+      let split : what_waits mode (u ∷ us) ≡ waiting_from mode (u ∷ aggregated mode us) (individual mode us) =
       λ i. waiting_from mode (counted_more h i) (others_stay h i) in
       split ∙ aggregate_from mode u (aggregated mode us) (individual mode us)
 
-  append_is : is_aggregated mode u ≡ false → waiting mode (u ∷ us) ≡ append u (waiting mode us)
-  unfolding waiting
+  append_is : is_aggregated mode u ≡ false → what_waits mode (u ∷ us) ≡ append u (what_waits mode us)
+  unfolding what_waits
   append_is h =
-      let split : waiting mode (u ∷ us) ≡ waiting_from mode (aggregated mode us) (u ∷ individual mode us) =
+      let split : what_waits mode (u ∷ us) ≡ waiting_from mode (aggregated mode us) (u ∷ individual mode us) =
       λ i. waiting_from mode (counted_stay h i) (others_more h i) in
       split ∙ append_from mode u (aggregated mode us) (individual mode us)
 
@@ -102,7 +102,7 @@ length_kept : (others : List SessionUpdate) → length (map item.SessionUpdate (
 length_kept others = length-map (reverse others) item.SessionUpdate ∙ length-reverse others
 
 pub queue_is_short_is : QueueIsShort
-unfolding waiting
+unfolding what_waits
 queue_is_short_is mode history =
     rw (length_kept (individual mode (since_flush mode history))) (short mode history)
 
@@ -121,7 +121,7 @@ module _ (mode : SessionMode) (u : SessionUpdate) (history : List QueueEntry) wh
       ∙ not_full (length (individual mode (since_flush mode history))) (short mode history)
 
   last_is : is_aggregated mode u ≡ false → is_last (queue_of mode history) ≡ is_full mode (u ∷ since_flush mode history)
-  unfolding waiting
+  unfolding what_waits
   last_is h =
       let others = individual mode (since_flush mode history) in
       ap (nat_le (MAX_INDIVIDUAL - 1)) (length_kept others)
@@ -129,23 +129,23 @@ module _ (mode : SessionMode) (u : SessionUpdate) (history : List QueueEntry) wh
       ∙ ap (λ (xs : List SessionUpdate). nat_le MAX_INDIVIDUAL (length xs)) (sym (others_more mode u (since_flush mode history) h)))
 
   after_append : (b : Bool) → is_aggregated mode u ≡ false
-      → cond b (clear (queue_of mode history)) (append u (queue_of mode history)) ≡ waiting mode (cond b [] (u ∷ since_flush mode history))
-  unfolding waiting
+      → cond b (clear (queue_of mode history)) (append u (queue_of mode history)) ≡ what_waits mode (cond b [] (u ∷ since_flush mode history))
+  unfolding what_waits
   after_append true h = sym (waiting_none mode)
   after_append false h = sym (append_is mode u (since_flush mode history) h)
 
   sent_on_append : (b : Bool) → is_aggregated mode u ≡ false
-      → cond b (envelopes_of (append u (queue_of mode history))) [] ≡ cond b (envelopes_of (waiting mode (u ∷ since_flush mode history))) []
+      → cond b (envelopes_of (append u (queue_of mode history))) [] ≡ cond b (envelopes_of (what_waits mode (u ∷ since_flush mode history))) []
   sent_on_append true h = ap envelopes_of (sym (append_is mode u (since_flush mode history) h))
   sent_on_append false h = refl
 
   enqueue_by : (b : Bool) → is_aggregated mode u ≡ b → enqueue u (queue_of mode history) ≡ queue_of mode (enqueued u ∷ history)
-  unfolding since_flush waiting
+  unfolding since_flush what_waits
   enqueue_by true h =
       let queue = queue_of mode history in
       ap (λ (b : Bool). cond b (aggregate u queue) (append_or_clear u queue)) h
       ∙ (sym (aggregate_is mode u (since_flush mode history) h)
-      ∙ ap (λ (b : Bool). waiting mode (cond b [] (u ∷ since_flush mode history))) (sym (counted_not_full h)))
+      ∙ ap (λ (b : Bool). what_waits mode (cond b [] (u ∷ since_flush mode history))) (sym (counted_not_full h)))
   enqueue_by false h =
       let queue = queue_of mode history in
       ap (λ (b : Bool). cond b (aggregate u queue) (append_or_clear u queue)) h
@@ -153,11 +153,11 @@ module _ (mode : SessionMode) (u : SessionUpdate) (history : List QueueEntry) wh
       ∙ after_append (is_full mode (u ∷ since_flush mode history)) h)
 
   envelopes_by : (b : Bool) → is_aggregated mode u ≡ b → envelopes_on_enqueue u (queue_of mode history) ≡ envelopes_on mode u history
-  unfolding waiting
+  unfolding what_waits
   envelopes_by true h =
       let queue = queue_of mode history in
       ap (λ (b : Bool). cond b [] (envelopes_on_append u queue)) h
-      ∙ ap (λ (b : Bool). cond b (envelopes_of (waiting mode (u ∷ since_flush mode history))) []) (sym (counted_not_full h))
+      ∙ ap (λ (b : Bool). cond b (envelopes_of (what_waits mode (u ∷ since_flush mode history))) []) (sym (counted_not_full h))
   envelopes_by false h =
       let queue = queue_of mode history in
       ap (λ (b : Bool). cond b [] (envelopes_on_append u queue)) h
@@ -174,7 +174,7 @@ module _ (mode : SessionMode) (u : SessionUpdate) (history : List QueueEntry) wh
 
 -- a flush
 pub clear_is : (mode : SessionMode) (history : List QueueEntry) → clear (queue_of mode history) ≡ queue_of mode (flushed ∷ history)
-unfolding since_flush waiting
+unfolding since_flush what_waits
 clear_is mode history = sym (waiting_none mode)
 
 -- a new queue

@@ -9,7 +9,7 @@ use Rattle.sentry_base.specs.declared.protocol.session.SessionStatus.{SessionSta
 use Rattle.sentry_base.specs.declared.protocol.session.SessionStatus.TheVariants as session_status
 use Rattle.sentry_parts.specs.declared.session.record.Session.{Session}
 use Rattle.sentry_parts.specs.declared.session.record.SessionStart.{SessionStart}
-use Rattle.sentry_parts.specs.Sessions.{SessionEntry, event_reached, handed_out, closed, SessionEnd, crash, closing, end_by, end_of, end_status, end_duration, closing_status, counting, is_crash, is_error, is_error_entry, is_change, since_hand_out, was_handed_out, session_of}
+use Rattle.sentry_parts.specs.Sessions.{SessionEntry, event_reached, handed_out, closed, SessionEnd, crash, closing, end_by, end_of, end_status, end_duration, closing_status, what_counts, is_crash, is_error, is_error_entry, is_change, since_hand_out, was_handed_out, session_of}
 use Rattle.sentry_parts.specs.SessionLaws.{EndedStatusStays}
 use Rattle.sentry_parts.specs.SessionSteps.{has_ended, count_event, end_at, update_from_event, close, mark_handed_out}
 
@@ -84,13 +84,13 @@ pub update_from_event_is : (event : Event) (start : SessionStart) (history : Lis
     → update_from_event event (session_of start history) ≡ session_of start (event_reached event ∷ history)
 unfolding session_of
 update_from_event_is event start history =
-    after_event start (end_of history) (counting history) (was_handed_out history) event
+    after_event start (end_of history) (what_counts history) (was_handed_out history) event
 
 -- a closing
 pub close_is : (status : Option SessionStatus) (now : ℕ) (start : SessionStart) (history : List SessionEntry)
     → close status now (session_of start history) ≡ session_of start (closed status now ∷ history)
 unfolding session_of
-close_is status now start history = after_close start (end_of history) (counting history) (was_handed_out history) status now
+close_is status now start history = after_close start (end_of history) (what_counts history) (was_handed_out history) status now
 
 pub event_ended : (event : Event) (session : Session) (start : SessionStart) (history : List SessionEntry)
     → has_ended session.status ≡ true → session ≡ session_of start history → session ≡ session_of start (event_reached event ∷ history)

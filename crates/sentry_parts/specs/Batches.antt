@@ -21,10 +21,10 @@ module _ {T : Type 0} where
   unless_full items = if length items == BATCH_ITEMS then [] else items
 
   -- what follows the last cut, the oldest first
-  abbrev pub queued : List (BatchEntry T) → List T
-  queued [] = []
-  queued (accept item ∷ history) = unless_full (queued history ++ item ∷ [])
-  queued (cut ∷ history) = []
+  abbrev pub queued_items : List (BatchEntry T) → List T
+  queued_items [] = []
+  queued_items (accept item ∷ history) = unless_full (queued_items history ++ item ∷ [])
+  queued_items (cut ∷ history) = []
 
   -- these items, if there are a hundred of them
   abbrev pub if_full : List T → Option (List T)
@@ -35,34 +35,34 @@ module _ {T : Type 0} where
   if_any items = if length items == 0 then None else Some items
 
   -- the batch that an entry hands out, if it does
-  abbrev pub handed_out : BatchEntry T → List (BatchEntry T) → Option (List T)
-  handed_out (accept item) history = if_full (queued history ++ item ∷ [])
-  handed_out cut history = if_any (queued history)
+  abbrev pub batch_on : BatchEntry T → List (BatchEntry T) → Option (List T)
+  batch_on (accept item) history = if_full (queued_items history ++ item ∷ [])
+  batch_on cut history = if_any (queued_items history)
 
   -- what a batch keeps of its history
   abbrev pub queue_of : List (BatchEntry T) → ℕ → Queue T
-  queue_of history last_tick = record { items = queued history; last_tick = last_tick }
+  queue_of history last_tick = record { items = queued_items history; last_tick = last_tick }
 
   -- the history after a tick, which cuts where it is due
   abbrev pub tick_history : Bool → List (BatchEntry T) → List (BatchEntry T)
   tick_history due history = if due then cut ∷ history else history
 
   -- the batch that a tick hands out, if it does
-  abbrev pub ticked_out : Bool → List (BatchEntry T) → Option (List T)
-  ticked_out due history = if due then handed_out cut history else None
+  abbrev pub batch_on_tick : Bool → List (BatchEntry T) → Option (List T)
+  batch_on_tick due history = if due then batch_on cut history else None
 
   -- ---- laws of every history
 
   -- all accepted items, the oldest first
-  abbrev pub accepted : List (BatchEntry T) → List T
-  accepted [] = []
-  accepted (accept item ∷ history) = accepted history ++ item ∷ []
-  accepted (cut ∷ history) = accepted history
+  abbrev pub accepted_items : List (BatchEntry T) → List T
+  accepted_items [] = []
+  accepted_items (accept item ∷ history) = accepted_items history ++ item ∷ []
+  accepted_items (cut ∷ history) = accepted_items history
 
   -- all batches that were handed out, the oldest first
   abbrev pub batches : List (BatchEntry T) → List (List T)
   batches [] = []
-  batches (entry ∷ history) = batches history ++ option_to_list (handed_out entry history)
+  batches (entry ∷ history) = batches history ++ option_to_list (batch_on entry history)
 
   -- the items of all batches
   abbrev pub items_of : List (List T) → List T

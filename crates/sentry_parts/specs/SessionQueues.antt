@@ -118,8 +118,8 @@ pub record Waiting : Type 0 where
   pub attributes : Option SessionAttributes
   pub individual : List EnvelopeItem
 
-unfoldable pub waiting : SessionMode → List SessionUpdate → Waiting
-waiting mode updates = record {
+unfoldable pub what_waits : SessionMode → List SessionUpdate → Waiting
+what_waits mode updates = record {
   mode = mode;
   counts = entries (counts_of (aggregated mode updates));
   attributes = option_map (λ update. update.attributes) (oldest (aggregated mode updates));
@@ -128,7 +128,7 @@ waiting mode updates = record {
 
 -- what a queue keeps of its history
 abbrev pub queue_of : SessionMode → List QueueEntry → Waiting
-queue_of mode history = waiting mode (since_flush mode history)
+queue_of mode history = what_waits mode (since_flush mode history)
 
 -- ---- envelopes
 
@@ -168,4 +168,4 @@ envelopes_of queue = envelope_if_any (aggregates_items (aggregates_of queue)) ++
 abbrev pub envelopes_on : SessionMode → SessionUpdate → List QueueEntry → List Envelope
 envelopes_on mode update history =
     let updates = update ∷ since_flush mode history in
-    if is_full mode updates then envelopes_of (waiting mode updates) else []
+    if is_full mode updates then envelopes_of (what_waits mode updates) else []

@@ -65,10 +65,10 @@ end_of [] = None
 end_of (entry ∷ earlier) = option_or (end_of earlier) (end_by entry)
 
 -- the entries that count: what came before the end, the end itself, and all that was handed out
-abbrev pub counting : List SessionEntry → List SessionEntry
-counting [] = []
-counting (handed_out ∷ earlier) = handed_out ∷ counting earlier
-counting (entry ∷ earlier) = if is_some (end_of earlier) then counting earlier else entry ∷ counting earlier
+abbrev pub what_counts : List SessionEntry → List SessionEntry
+what_counts [] = []
+what_counts (handed_out ∷ earlier) = handed_out ∷ what_counts earlier
+what_counts (entry ∷ earlier) = if is_some (end_of earlier) then what_counts earlier else entry ∷ what_counts earlier
 
 abbrev pub is_error_entry : SessionEntry → Bool
 is_error_entry (event_reached event) = is_error event
@@ -111,11 +111,11 @@ abbrev pub was_handed_out : List SessionEntry → Bool
 was_handed_out history = list_any is_hand_out history
 
 abbrev pub count_errors : List SessionEntry → ℕ
-count_errors history = min (count_by is_error_entry (counting history)) (2 ^ 64 - 1)
+count_errors history = min (count_by is_error_entry (what_counts history)) (2 ^ 64 - 1)
 
 -- nothing was handed out, or a change that counts followed what was handed out last
 abbrev pub is_dirty : List SessionEntry → Bool
-is_dirty history = not (was_handed_out history) || list_any is_change (since_hand_out (counting history))
+is_dirty history = not (was_handed_out history) || list_any is_change (since_hand_out (what_counts history))
 
 -- the session that started so and to which this came
 unfoldable pub session_of : SessionStart → List SessionEntry → Session

@@ -1,7 +1,7 @@
 //! Batches of logs and metrics.
 ghost use Rattle.std.specs.Prelude.{◌≡◌, ◌<◌, ◌++◌, ℕ, [], ◌∷◌, List, length, OnOk, OnErr, IfOk};
 ghost use Rattle.std.specs.List.{AllByRecursion};
-ghost use Rattle.sentry_parts.specs.Batches.{Queue, BatchEntry, accept, cut, queued, queue_of, if_any, handed_out, tick_history, ticked_out, accepted, batches, items_of, IsBatch};
+ghost use Rattle.sentry_parts.specs.Batches.{Queue, BatchEntry, accept, cut, queued_items, queue_of, if_any, batch_on, tick_history, batch_on_tick, accepted_items, batches, items_of, IsBatch};
 ghost use Rattle.sentry_parts.specs.Ticks.{is_due, after_tick};
 
 use crate::tick::LastTick;
@@ -73,7 +73,7 @@ impl<T> Batch<T> {
         ensures queue { (history : List (BatchEntry T)) (moment : ℕ) → self.old ≡ queue_of history moment
             → self.new ≡ queue_of (cut ∷ history) moment }
         ensures batch { (history : List (BatchEntry T)) (moment : ℕ) → self.old ≡ queue_of history moment
-            → result ≡ handed_out cut history }
+            → result ≡ batch_on cut history }
     {
         take_if_any(&mut self.items)
     }
@@ -85,7 +85,7 @@ impl<T> Batch<T> {
             → self.new ≡ queue_of (tick_history (is_due BATCH_INTERVAL moment now) history)
             (after_tick BATCH_INTERVAL moment now) }
         ensures batch { (history : List (BatchEntry T)) (moment : ℕ) → self.old ≡ queue_of history moment
-            → result ≡ ticked_out (is_due BATCH_INTERVAL moment now) history }
+            → result ≡ batch_on_tick (is_due BATCH_INTERVAL moment now) history }
     {
         if !self.last_tick.tick(BATCH_INTERVAL, now) {
             return None;
@@ -100,7 +100,7 @@ impl<T: Drop> Batch<T> {
         ensures queue { OnOk result ((history : List (BatchEntry T)) (moment : ℕ) → self.old ≡ queue_of history moment
             → self.new ≡ queue_of (accept item ∷ history) moment) }
         ensures batch { IfOk result (λ batch. (history : List (BatchEntry T)) (moment : ℕ)
-            → self.old ≡ queue_of history moment → batch ≡ handed_out (accept item) history) }
+            → self.old ≡ queue_of history moment → batch ≡ batch_on (accept item) history) }
         ensures err { OnErr result (self.new ≡ self.old) }
     {
         self.items.push(item)?;
@@ -114,7 +114,8 @@ impl<T: Drop> Batch<T> {
 /// Whatever came to a batch: fewer than a hundred items are queued. Each batch that it handed out has an item and a
 /// hundred at most. And the items of these batches, in order, followed by the queue, are the accepted items.
 pub fn batches_keep_items<T>()
-    ensures bound { (history : List (BatchEntry T)) → length (queued history) < BATCH_ITEMS }
+    ensures bound { (history : List (BatchEntry T)) → length (queued_items history) < BATCH_ITEMS }
     ensures sizes { (history : List (BatchEntry T)) → AllByRecursion IsBatch (batches history) }
-    ensures order { (history : List (BatchEntry T)) → items_of (batches history) ++ queued history ≡ accepted history }
+    ensures order { (history : List (BatchEntry T)) →
+        items_of (batches history) ++ queued_items history ≡ accepted_items history }
 {}

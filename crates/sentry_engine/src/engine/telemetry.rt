@@ -1,7 +1,7 @@
 //! The calls on logs and metrics.
 ghost use Rattle.std.specs.Prelude.{◌≡◌, ◌==◌, ◌&&◌, ◌-◌, length, IfOk, OnOk, OnErr, Some};
 ghost use Rattle.sentry_plain.specs.Tables.{value_at, replace_at};
-ghost use Rattle.sentry_parts.specs.Batches.{accept, handed_out};
+ghost use Rattle.sentry_parts.specs.Batches.{accept, batch_on};
 ghost use Rattle.sentry_engine.specs.Books.{with_entry};
 ghost use Rattle.sentry_engine.specs.Outcomes.{Does};
 ghost use Rattle.sentry_engine.specs.Telemetry.{with_log_entry, with_metric_entry, dropped_item, client_log, client_metric};
@@ -97,7 +97,7 @@ impl<P: EventCallback + Drop, C: Callbacks> Engine<P, C> {
             })) }
         ensures batch { IfOk result (λ batch. (client : ClientState C) →
             value_at self.old.clients number ≡ Some (plain_client client) →
-            batch ≡ handed_out (accept log) client.queues.logs) }
+            batch ≡ batch_on (accept log) client.queues.logs) }
         ensures err { OnErr result (self.new ≡ self.old) }
     {
         let Some(client) = self.clients.get_mut(number) else {
@@ -120,7 +120,7 @@ impl<P: EventCallback + Drop, C: Callbacks> Engine<P, C> {
             })) }
         ensures batch { IfOk result (λ batch. (client : ClientState C) →
             value_at self.old.clients number ≡ Some (plain_client client) →
-            batch ≡ handed_out (accept metric) client.queues.metrics) }
+            batch ≡ batch_on (accept metric) client.queues.metrics) }
         ensures err { OnErr result (self.new ≡ self.old) }
     {
         let Some(client) = self.clients.get_mut(number) else {

@@ -1,7 +1,7 @@
 use Rattle.std.proofs.Common.{◌≡◌, ◌∙◌, ◌++◌, ◌-◌, ◌==◌, ap, sym, true, false, rules, refl, List, length}
 use Rattle.std.specs.Prelude.{Option, None, ◌&&◌}
 use Rattle.sentry_base.specs.declared.protocol.log.Log.{Log}
-use Rattle.sentry_parts.specs.Batches.{accept, handed_out, queued}
+use Rattle.sentry_parts.specs.Batches.{accept, batch_on, queued_items}
 use Rattle.sentry_parts.specs.declared.batcher.TheConstants.{BATCH_ITEMS}
 use Rattle.sentry_engine.specs.Books.{pending_report}
 use Rattle.sentry_engine.specs.Flushes.{batch_envelopes}
@@ -19,11 +19,11 @@ unfolding accept_log
 returns-then-not-sends_next_log-clause-in_world g c = λ world s.
     let stays : (c.in-Some.client.now.occupied && length c.in-Some.client.now.queues.logs.items == BATCH_ITEMS - 1) ≡ false = search rules in
     client_changed_unsent c.args.key
-    (λ (client : ClientState g.row.C.Denot). batch_envelopes (handed_out (accept c.args.log) client.queues.logs) None)
+    (λ (client : ClientState g.row.C.Denot). batch_envelopes (batch_on (accept c.args.log) client.queues.logs) None)
     (with_log_entry (accept c.args.log)) c.args.self.now c.enqueue_log.new.self world s c.in-Some.client.now
     (c.in-Some.ensures world s) c.if-client.false c.new-then-not-sends_next_log.result c.new-then-not-sends_next_log.ensures (λ client there is. (
       unsent_item c.args.key c.in-Some.client.now.occupied (pending_report world c.in-Some.client.now.label)
-          (λ (logs : Option (List Log)). batch_envelopes logs None) refl (queued client.queues.logs) c.args.log
+          (λ (logs : Option (List Log)). batch_envelopes logs None) refl (queued_items client.queues.logs) c.args.log
           (ap (λ (kept : Client g.row.C.Denot). c.in-Some.client.now.occupied && length kept.queues.logs.items == BATCH_ITEMS - 1) (sym is) ∙ stays),
       c.in_ok-enqueue_log.ensures.in_world world client s there,
     ))
@@ -34,7 +34,7 @@ unfolding accept_log
 returns-clause-in_world g c = λ world s.
     let leaves : (c.in-Some.client.now.occupied && length c.in-Some.client.now.queues.logs.items == BATCH_ITEMS - 1) ≡ true = search rules in
     client_changed c.args.key
-    (λ (client : ClientState g.row.C.Denot). batch_envelopes (handed_out (accept c.args.log) client.queues.logs) None)
+    (λ (client : ClientState g.row.C.Denot). batch_envelopes (batch_on (accept c.args.log) client.queues.logs) None)
     (with_log_entry (accept c.args.log)) c.args.self.now c.mark_sent.new.self world s c.in-Some.client.now
     (c.in-Some.ensures world s) c.if-client.false c.finish-sent.result (λ client there is.
     let pending = pending_report world c.in-Some.client.now.label in

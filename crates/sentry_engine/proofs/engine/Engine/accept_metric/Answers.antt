@@ -1,7 +1,7 @@
 use Rattle.std.proofs.Common.{◌≡◌, ◌∙◌, ◌++◌, ◌-◌, ◌==◌, ap, sym, true, false, rules, refl, List, length}
 use Rattle.std.specs.Prelude.{Option, None, ◌&&◌}
 use Rattle.sentry_base.specs.declared.protocol.metric.Metric.{Metric}
-use Rattle.sentry_parts.specs.Batches.{accept, handed_out, queued}
+use Rattle.sentry_parts.specs.Batches.{accept, batch_on, queued_items}
 use Rattle.sentry_parts.specs.declared.batcher.TheConstants.{BATCH_ITEMS}
 use Rattle.sentry_engine.specs.Books.{pending_report}
 use Rattle.sentry_engine.specs.Flushes.{batch_envelopes}
@@ -19,11 +19,11 @@ unfolding accept_metric
 returns-then-not-sends_next_metric-clause-in_world g c = λ world s.
     let stays : (c.in-Some.client.now.occupied && length c.in-Some.client.now.queues.metrics.items == BATCH_ITEMS - 1) ≡ false = search rules in
     client_changed_unsent c.args.key
-    (λ (client : ClientState g.row.C.Denot). batch_envelopes None (handed_out (accept c.args.metric) client.queues.metrics))
+    (λ (client : ClientState g.row.C.Denot). batch_envelopes None (batch_on (accept c.args.metric) client.queues.metrics))
     (with_metric_entry (accept c.args.metric)) c.args.self.now c.enqueue_metric.new.self world s c.in-Some.client.now
     (c.in-Some.ensures world s) c.if-client.false c.new-then-not-sends_next_metric.result c.new-then-not-sends_next_metric.ensures (λ client there is. (
       unsent_item c.args.key c.in-Some.client.now.occupied (pending_report world c.in-Some.client.now.label)
-          (λ (metrics : Option (List Metric)). batch_envelopes None metrics) refl (queued client.queues.metrics) c.args.metric
+          (λ (metrics : Option (List Metric)). batch_envelopes None metrics) refl (queued_items client.queues.metrics) c.args.metric
           (ap (λ (kept : Client g.row.C.Denot). c.in-Some.client.now.occupied && length kept.queues.metrics.items == BATCH_ITEMS - 1) (sym is) ∙ stays),
       c.in_ok-enqueue_metric.ensures.in_world world client s there,
     ))
@@ -34,7 +34,7 @@ unfolding accept_metric
 returns-clause-in_world g c = λ world s.
     let leaves : (c.in-Some.client.now.occupied && length c.in-Some.client.now.queues.metrics.items == BATCH_ITEMS - 1) ≡ true = search rules in
     client_changed c.args.key
-    (λ (client : ClientState g.row.C.Denot). batch_envelopes None (handed_out (accept c.args.metric) client.queues.metrics))
+    (λ (client : ClientState g.row.C.Denot). batch_envelopes None (batch_on (accept c.args.metric) client.queues.metrics))
     (with_metric_entry (accept c.args.metric)) c.args.self.now c.mark_sent.new.self world s c.in-Some.client.now
     (c.in-Some.ensures world s) c.if-client.false c.finish-sent.result (λ client there is.
     let pending = pending_report world c.in-Some.client.now.label in
