@@ -5,7 +5,7 @@ use crate::fault::Failure;
 use crate::options::{ClientPlan, OptionWords};
 use crate::scenario::{Scenario, client_key, client_label};
 use crate::words::{Words, small};
-use sentry_base::protocol::{Draw, Refusal, SampleRate};
+use sentry_base::protocol::{Draw, SampleRate};
 
 /// What a line asks of a client, or of the engine's sampling.
 #[derive(Clone, Copy)]
@@ -41,28 +41,42 @@ pub enum ClientCommand<'a> {
 impl<'a> ClientCommand<'a> {
     /// The command of this name, read from the words that follow it.
     pub fn read(name: &str, words: Words<'a>) -> Option<ClientCommand<'a>> {
-        let mut words = words;
-        let command = match name {
-            "client" => ClientCommand::Add {
-                release: words.word_or_none()?,
-                options: OptionWords::read(words.rest())?,
-            },
-            "options" => ClientCommand::Options(words.number()?),
-            "clientdsn" => ClientCommand::Dsn(words.number()?),
-            "enabled" => ClientCommand::IsEnabled(words.number()?),
-            "flush" => ClientCommand::Flush(words.number()?),
-            "tick" => ClientCommand::Tick(words.number()?),
-            "close" => ClientCommand::Close(words.number()?),
-            "clone" => ClientCommand::Clone(words.number()?),
-            "drop" => ClientCommand::Drop(words.number()?),
-            "sample" => ClientCommand::Sample {
-                millionths: small(words.number()?),
-                draw: words.draw()?,
-            },
-            _ => return None,
-        };
-        words.end()?;
-        Some(command)
+        match name {
+            "client" => read_add(words),
+            "sample" => read_sample(words),
+            _ => read_on_client(name, words),
+        }
+    }
+}
+
+fn read_add(words: Words<'_>) -> Option<ClientCommand<'_>> {
+    let mut words = words;
+    let release = words.word_or_none()?;
+    let options = OptionWords::read(words.rest())?;
+    Some(ClientCommand::Add { release, options })
+}
+
+fn read_sample<'a>(words: Words<'_>) -> Option<ClientCommand<'a>> {
+    let mut words = words;
+    let millionths = small(words.number()?);
+    let draw = words.draw()?;
+    words.end()?;
+    Some(ClientCommand::Sample { millionths, draw })
+}
+
+// The forms of one client alone.
+fn read_on_client<'a>(name: &str, words: Words<'_>) -> Option<ClientCommand<'a>> {
+    let client = words.only_number()?;
+    match name {
+        "options" => Some(ClientCommand::Options(client)),
+        "clientdsn" => Some(ClientCommand::Dsn(client)),
+        "enabled" => Some(ClientCommand::IsEnabled(client)),
+        "flush" => Some(ClientCommand::Flush(client)),
+        "tick" => Some(ClientCommand::Tick(client)),
+        "close" => Some(ClientCommand::Close(client)),
+        "clone" => Some(ClientCommand::Clone(client)),
+        "drop" => Some(ClientCommand::Drop(client)),
+        _ => None,
     }
 }
 
@@ -73,16 +87,16 @@ impl Scenario {
         command: &ClientCommand<'_>,
     ) -> Result<Answer<'a>, Failure> {
         match command {
-            ClientCommand::Add { release, options } => Ok(self.add_client(*release, *options)?),
-            ClientCommand::Options(client) => Ok(self.options(*client)?),
-            ClientCommand::Dsn(client) => Ok(self.dsn_of_client(*client)?),
-            ClientCommand::IsEnabled(client) => Ok(self.is_enabled(*client)?),
-            ClientCommand::Flush(client) => Ok(self.flush(*client)?),
-            ClientCommand::Tick(client) => Ok(self.tick(*client)?),
-            ClientCommand::Close(client) => Ok(self.close(*client)?),
-            ClientCommand::Clone(client) => Ok(self.clone_client(*client)?),
-            ClientCommand::Drop(client) => Ok(self.drop_client(*client)?),
-            ClientCommand::Sample { millionths, draw } => Ok(self.sample(*millionths, *draw)?),
+            ClientCommand::Add { release, options } => self.add_client(*release, *options),
+            ClientCommand::Options(client) => self.options(*client),
+            ClientCommand::Dsn(client) => self.dsn_of_client(*client),
+            ClientCommand::IsEnabled(client) => self.is_enabled(*client),
+            ClientCommand::Flush(client) => self.flush(*client),
+            ClientCommand::Tick(client) => self.tick(*client),
+            ClientCommand::Close(client) => self.close(*client),
+            ClientCommand::Clone(client) => self.clone_client(*client),
+            ClientCommand::Drop(client) => self.drop_client(*client),
+            ClientCommand::Sample { millionths, draw } => self.sample(*millionths, *draw),
         }
     }
 
@@ -91,7 +105,7 @@ impl Scenario {
         &mut self,
         release: Option<&str>,
         options: OptionWords<'_>,
-    ) -> Result<Answer<'a>, Refusal> {
+    ) -> Result<Answer<'a>, Failure> {
         let plan = ClientPlan::new(self.alloc, release)?;
         let ClientPlan { options, transport } = plan.set_all(self.alloc, options)?;
         let label = client_label(self.clients);
@@ -101,38 +115,38 @@ impl Scenario {
         Ok(Answer::of_sent(out))
     }
 
-    fn options<'a>(&self, client: u64) -> Result<Answer<'a>, Refusal> {
+    fn options<'a>(&self, client: u64) -> Result<Answer<'a>, Failure> {
         let options = self.engine.options(client_key(client))?.reply;
         Ok(Answer::new(self.alloc, Reply::Options { client, options }))
     }
 
-    fn dsn_of_client<'a>(&self, client: u64) -> Result<Answer<'a>, Refusal> {
+    fn dsn_of_client<'a>(&self, client: u64) -> Result<Answer<'a>, Failure> {
         let dsn = self.engine.dsn(client_key(client))?.reply;
         Ok(Answer::new(self.alloc, Reply::ClientDsn { client, dsn }))
     }
 
-    fn is_enabled<'a>(&self, client: u64) -> Result<Answer<'a>, Refusal> {
+    fn is_enabled<'a>(&self, client: u64) -> Result<Answer<'a>, Failure> {
         let is_enabled = self.engine.is_enabled(client_key(client))?.reply;
         let reply = Reply::Enabled { client, is_enabled };
         Ok(Answer::new(self.alloc, reply))
     }
 
-    fn flush<'a>(&mut self, client: u64) -> Result<Answer<'a>, Refusal> {
+    fn flush<'a>(&mut self, client: u64) -> Result<Answer<'a>, Failure> {
         Ok(Answer::of_sent(self.engine.flush(client_key(client))?))
     }
 
-    fn tick<'a>(&mut self, client: u64) -> Result<Answer<'a>, Refusal> {
+    fn tick<'a>(&mut self, client: u64) -> Result<Answer<'a>, Failure> {
         let now = self.moment();
         Ok(Answer::of_sent(self.engine.tick(client_key(client), now)?))
     }
 
-    fn close<'a>(&mut self, client: u64) -> Result<Answer<'a>, Refusal> {
+    fn close<'a>(&mut self, client: u64) -> Result<Answer<'a>, Failure> {
         Ok(Answer::of_sent(self.engine.close(client_key(client))?))
     }
 
     // The original is noted before the call, so that what is out of memory has changed nothing that is seen; a client
     // that isn't held was refused before that.
-    fn clone_client<'a>(&mut self, client: u64) -> Result<Answer<'a>, Refusal> {
+    fn clone_client<'a>(&mut self, client: u64) -> Result<Answer<'a>, Failure> {
         self.engine.is_enabled(client_key(client))?;
         self.originals.note(self.clients, client)?;
         let now = self.moment();
@@ -141,11 +155,11 @@ impl Scenario {
         Ok(Answer::of_sent(out))
     }
 
-    fn drop_client<'a>(&mut self, client: u64) -> Result<Answer<'a>, Refusal> {
+    fn drop_client<'a>(&mut self, client: u64) -> Result<Answer<'a>, Failure> {
         Ok(Answer::of_sent(self.engine.drop_client(client_key(client))?))
     }
 
-    fn sample<'a>(&self, millionths: u32, draw: Draw) -> Result<Answer<'a>, Refusal> {
+    fn sample<'a>(&self, millionths: u32, draw: Draw) -> Result<Answer<'a>, Failure> {
         let rate = SampleRate::new(millionths)?;
         let decision = self.engine.sample_should_send(rate, draw)?.reply;
         Ok(Answer::new(self.alloc, Reply::Sample(decision)))

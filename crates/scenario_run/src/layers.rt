@@ -3,7 +3,6 @@ use crate::answer::Answer;
 use crate::fault::Failure;
 use crate::scenario::{Scenario, client_key, hub_key};
 use crate::words::Words;
-use sentry_base::protocol::Refusal;
 use sentry_engine::call::Call;
 use sentry_engine::engine::Out;
 
@@ -49,11 +48,11 @@ impl Scenario {
     /// Does a command on the layers of a hub.
     pub fn perform_on_layers<'a>(&mut self, command: LayerCommand) -> Result<Answer<'a>, Failure> {
         match command {
-            LayerCommand::Push(hub) => Ok(self.push_scope(hub)?),
-            LayerCommand::Pop { hub, depth } => Ok(self.pop_scope(hub, depth)?),
-            LayerCommand::Top(hub) => Ok(self.add_hub_from_top(hub)?),
-            LayerCommand::Release(hub) => Ok(self.release_hub(hub)?),
-            LayerCommand::Bind { hub, client } => Ok(self.bind_client(hub, client)?),
+            LayerCommand::Push(hub) => self.push_scope(hub),
+            LayerCommand::Pop { hub, depth } => self.pop_scope(hub, depth),
+            LayerCommand::Top(hub) => self.add_hub_from_top(hub),
+            LayerCommand::Release(hub) => self.release_hub(hub),
+            LayerCommand::Bind { hub, client } => self.bind_client(hub, client),
         }
     }
 
@@ -66,7 +65,7 @@ impl Scenario {
     }
 
     // The hub gets its entry before the call, so that what is out of memory has changed nothing.
-    fn push_scope<'a>(&mut self, hub: u64) -> Result<Answer<'a>, Refusal> {
+    fn push_scope<'a>(&mut self, hub: u64) -> Result<Answer<'a>, Failure> {
         if self.depths.get(hub).is_none() {
             self.depths.insert(hub, 0)?;
         }
@@ -84,7 +83,7 @@ impl Scenario {
         }
     }
 
-    fn pop_scope<'a>(&mut self, hub: u64, depth: Option<u64>) -> Result<Answer<'a>, Refusal> {
+    fn pop_scope<'a>(&mut self, hub: u64, depth: Option<u64>) -> Result<Answer<'a>, Failure> {
         let depth = self.depth_to_pop(hub, depth);
         let call = Call::PopScope {
             hub: hub_key(hub),
@@ -96,16 +95,16 @@ impl Scenario {
         Ok(Answer::of_sent(out))
     }
 
-    fn add_hub_from_top<'a>(&mut self, hub: u64) -> Result<Answer<'a>, Refusal> {
+    fn add_hub_from_top<'a>(&mut self, hub: u64) -> Result<Answer<'a>, Failure> {
         Ok(Answer::of_sent(self.engine.new_hub_from_top(hub_key(hub))?))
     }
 
-    fn release_hub<'a>(&mut self, hub: u64) -> Result<Answer<'a>, Refusal> {
+    fn release_hub<'a>(&mut self, hub: u64) -> Result<Answer<'a>, Failure> {
         let now = self.moment();
         Ok(Answer::of_sent(self.engine.release_hub(hub_key(hub), now)?))
     }
 
-    fn bind_client<'a>(&mut self, hub: u64, client: Option<u64>) -> Result<Answer<'a>, Refusal> {
+    fn bind_client<'a>(&mut self, hub: u64, client: Option<u64>) -> Result<Answer<'a>, Failure> {
         let client = client.map(client_key);
         Ok(Answer::of_sent(self.engine.bind_client(hub_key(hub), client)?))
     }

@@ -6,7 +6,7 @@ use crate::fault::Failure;
 use crate::quantities::losses_of_words;
 use crate::scenario::{Scenario, client_key};
 use crate::words::Words;
-use sentry_base::protocol::{Category, Envelope, LossSource, Losses, Reason, Refusal};
+use sentry_base::protocol::{Category, Envelope, LossSource, Losses, Reason};
 use sentry_engine::call::Call;
 use sentry_parts::client_reports::{LossWords, TransportLossReason};
 use sentry_plain::Boxed;
@@ -118,10 +118,10 @@ impl Scenario {
                 client,
                 kind,
                 reason,
-            } => Ok(self.lose(client, kind, reason)?),
+            } => self.lose(client, kind, reason),
             LossCommand::Absorb { client, quantities } => self.absorb(client, quantities),
-            LossCommand::Report(client) => Ok(self.report(client)?),
-            LossCommand::Empty(client) => Ok(self.send_empty(client)?),
+            LossCommand::Report(client) => self.report(client),
+            LossCommand::Empty(client) => self.send_empty(client),
         }
     }
 
@@ -132,7 +132,7 @@ impl Scenario {
         client: u64,
         kind: Kind,
         reason: TransportLossReason,
-    ) -> Result<Answer<'a>, Refusal> {
+    ) -> Result<Answer<'a>, Failure> {
         self.engine.is_enabled(client_key(client))?;
         let (mut recorder, mut drainer) = LossWords::new(self.alloc, self.label(client))?;
         recorder.record_lost_data(&kind, reason);
@@ -140,7 +140,7 @@ impl Scenario {
             Ok(out) => Ok(Answer::of_sent(out)),
             Err((refusal, drained)) => {
                 drained.into_parts();
-                Err(refusal)
+                Err(Failure::Refused(refusal))
             }
         }
     }
@@ -158,13 +158,13 @@ impl Scenario {
         Ok(Answer::of_sent(self.engine.apply(call)?))
     }
 
-    fn report<'a>(&mut self, client: u64) -> Result<Answer<'a>, Refusal> {
+    fn report<'a>(&mut self, client: u64) -> Result<Answer<'a>, Failure> {
         let label = self.label(client);
         let report = self.engine.take_report(label)?.reply;
         Ok(Answer::new(self.alloc, Reply::Report { client, report }))
     }
 
-    fn send_empty<'a>(&mut self, client: u64) -> Result<Answer<'a>, Refusal> {
+    fn send_empty<'a>(&mut self, client: u64) -> Result<Answer<'a>, Failure> {
         let envelope = Envelope::new(self.alloc);
         let out = self.engine.send_envelope(client_key(client), envelope)?;
         Ok(Answer::of_sent(out))

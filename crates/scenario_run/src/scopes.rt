@@ -80,24 +80,31 @@ impl<'a> ScopeCommand<'a> {
 
 fn read_change<'a>(name: &str, words: &mut Words<'a>) -> Option<ScopeChange<'a>> {
     match name {
-        "clear" => Some(ScopeChange::Clear),
+        "tag" => read_entry(words).map(ScopeChange::SetTag),
+        "untag" => words.word().map(ScopeChange::RemoveTag),
+        "extra" => read_entry(words).map(ScopeChange::SetExtra),
+        "unextra" => words.word().map(ScopeChange::RemoveExtra),
+        "context" => read_entry(words).map(ScopeChange::SetContext),
+        "uncontext" => words.word().map(ScopeChange::RemoveContext),
+        "attach" => read_entry(words).map(ScopeChange::AddAttachment),
+        "dropper" => words.rest().map(ScopeChange::AddDropper),
+        "tagger" => read_entry(words).map(ScopeChange::AddTagger),
+        _ => read_other_change(name, words),
+    }
+}
+
+// The forms whose operands aren't a key, an entry or a prefix.
+fn read_other_change<'a>(name: &str, words: &mut Words<'a>) -> Option<ScopeChange<'a>> {
+    match name {
         "level" => Some(ScopeChange::SetLevel(words.level_or_none()?)),
-        "fingerprint" => Some(ScopeChange::SetFingerprint(words.rest_or_none()?)),
+        "fingerprint" => words.rest_or_none().map(ScopeChange::SetFingerprint),
         "name" => Some(ScopeChange::SetTransaction(Some(words.rest()?))),
-        "unname" => Some(ScopeChange::SetTransaction(None)),
         "user" => Some(ScopeChange::SetUser(Some(read_identity(words)?))),
+        "clear" => Some(ScopeChange::Clear),
+        "unname" => Some(ScopeChange::SetTransaction(None)),
         "nouser" => Some(ScopeChange::SetUser(None)),
-        "tag" => Some(ScopeChange::SetTag(read_entry(words)?)),
-        "untag" => Some(ScopeChange::RemoveTag(words.word()?)),
-        "extra" => Some(ScopeChange::SetExtra(read_entry(words)?)),
-        "unextra" => Some(ScopeChange::RemoveExtra(words.word()?)),
-        "context" => Some(ScopeChange::SetContext(read_entry(words)?)),
-        "uncontext" => Some(ScopeChange::RemoveContext(words.word()?)),
         "nocrumbs" => Some(ScopeChange::ClearBreadcrumbs),
-        "attach" => Some(ScopeChange::AddAttachment(read_entry(words)?)),
         "noattach" => Some(ScopeChange::ClearAttachments),
-        "dropper" => Some(ScopeChange::AddDropper(words.rest()?)),
-        "tagger" => Some(ScopeChange::AddTagger(read_entry(words)?)),
         _ => None,
     }
 }

@@ -3,7 +3,7 @@ use crate::answer::Answer;
 use crate::fault::Failure;
 use crate::scenario::{Scenario, hub_key};
 use crate::words::Words;
-use sentry_base::protocol::{Refusal, SessionStatus};
+use sentry_base::protocol::SessionStatus;
 
 /// What a line asks of the session of a hub.
 #[derive(Clone, Copy)]
@@ -52,17 +52,17 @@ impl Scenario {
         command: SessionCommand,
     ) -> Result<Answer<'a>, Failure> {
         match command {
-            SessionCommand::Start(hub) => Ok(self.start_session(hub)?),
-            SessionCommand::End { hub, status } => Ok(self.end_session(hub, status)?),
+            SessionCommand::Start(hub) => self.start_session(hub),
+            SessionCommand::End { hub, status } => self.end_session(hub, status),
         }
     }
 
-    fn start_session<'a>(&mut self, hub: u64) -> Result<Answer<'a>, Refusal> {
+    fn start_session<'a>(&mut self, hub: u64) -> Result<Answer<'a>, Failure> {
         let fresh = self.fresh();
         Ok(Answer::of_sent(self.engine.start_session(hub_key(hub), fresh)?))
     }
 
-    fn end_session<'a>(&mut self, hub: u64, status: SessionStatus) -> Result<Answer<'a>, Refusal> {
+    fn end_session<'a>(&mut self, hub: u64, status: SessionStatus) -> Result<Answer<'a>, Failure> {
         let now = self.moment();
         let out = self
             .engine

@@ -63,6 +63,14 @@ impl<'a> Words<'a> {
         number(self.word()?)
     }
 
+    /// All that is left, as a number.
+    pub fn only_number(self) -> Option<u64> {
+        let mut words = self;
+        let number = words.number()?;
+        words.end()?;
+        Some(number)
+    }
+
     /// The next word, as a number or `-` for none.
     pub fn number_or_none(&mut self) -> Option<Option<u64>> {
         match self.word()? {

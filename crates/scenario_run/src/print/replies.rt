@@ -133,18 +133,22 @@ fn push_headers(
     text.push_str("\n")
 }
 
-// A header's value is the id of the trace, and after a `-` that of the span and the decision on sampling.
 fn push_hub_headers(text: &mut String, hub: u64, headers: &[Header]) -> Result<(), AllocError> {
     write!(text, "headers {hub}")?;
     for header in headers {
-        let name = header.name.as_str();
-        let value = header.value.as_str();
-        match value.split_once('-') {
-            Some((trace, rest)) => write!(text, " {name} T{trace}-S{rest}")?,
-            None => write!(text, " {name} {value}")?,
-        }
+        push_header(text, header)?;
     }
     text.push_str("\n")
+}
+
+// A header's value is the id of the trace, and after a `-` that of the span and the decision on sampling.
+fn push_header(text: &mut String, header: &Header) -> Result<(), AllocError> {
+    let name = header.name.as_str();
+    let value = header.value.as_str();
+    match value.split_once('-') {
+        Some((trace, rest)) => write!(text, " {name} T{trace}-S{rest}"),
+        None => write!(text, " {name} {value}"),
+    }
 }
 
 impl Shown for Dsn {
