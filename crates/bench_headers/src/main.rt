@@ -1,8 +1,8 @@
 //! Reads trace headers many times, to be timed from outside. The arguments are `read` or `scan` and a number of calls.
 #![tactic(auto)]
 
-use sentry_base::headers::TracePropagationContext;
 use sentry_base::protocol::OrganizationId;
+use sentry_trace::headers::TracePropagationContext;
 use std::{env, io};
 
 type Headers = [(&'static str, &'static str); 2];

@@ -2,10 +2,10 @@
 use crate::engines::DSN;
 use crate::records::is_its_clone;
 use sentry_base::dsn::{Dsn, IntoDsn, ParseDsnError, ProjectId};
-use sentry_base::headers::{SentryTrace, TracePropagationContext, parse_headers};
 use sentry_base::protocol::{ErrorLink, Refusal, SpanId, TraceId, Uuid};
 use sentry_base::utils::event_from_error;
 use sentry_plain::Text;
+use sentry_trace::headers::{SentryTrace, TracePropagationContext, parse_headers};
 use std::alloc::Global;
 use std::borrow::CowStr;
 use std::test::Fail;

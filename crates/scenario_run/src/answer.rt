@@ -2,11 +2,11 @@
 use crate::callbacks::Callbacks;
 use crate::headers::Header;
 use sentry_base::dsn::{Dsn, ParseDsnError};
-use sentry_base::headers::{HeaderParseError, TracePropagationContext};
 use sentry_base::protocol::{ClientKey, ClientReport, Envelope, Event, Refusal, Uuid};
 use sentry_engine::engine::Out;
 use sentry_plain::{Boxed, Items, Shared};
 use sentry_state::clientoptions::ClientOptions;
+use sentry_trace::headers::{HeaderParseError, TracePropagationContext};
 use std::alloc::Global;
 use url::Url;
 

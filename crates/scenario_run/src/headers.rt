@@ -3,9 +3,9 @@ use crate::answer::{Answer, Reply};
 use crate::fault::Failure;
 use crate::scenario::{Scenario, hub_key};
 use crate::words::Words;
-use sentry_base::headers::TracePropagationContext;
 use sentry_base::protocol::Refusal;
 use sentry_plain::{Items, Text};
+use sentry_trace::headers::TracePropagationContext;
 use std::alloc::AllocError;
 
 /// A header that is kept for a later line, or printed.

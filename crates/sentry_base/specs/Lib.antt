@@ -4,10 +4,7 @@ pub mod Envelopes
 pub mod Ids
 pub mod DsnParts
 pub mod DsnTexts
-pub mod TraceTexts
 pub mod Readings
-pub mod HeaderLists
-pub mod TraceHeaders
 pub mod UtilityTexts
 pub mod Losses
 pub mod RecordLosses

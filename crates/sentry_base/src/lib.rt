@@ -1,7 +1,6 @@
-//! Types that every layer of the SDK uses: event records, ids, keys, refusals, losses, trace headers and DSNs.
+//! Types that every layer of the SDK uses: event records, ids, keys, refusals, losses and DSNs.
 #![tactic(auto)]
 
 pub mod dsn;
-pub mod headers;
 pub mod protocol;
 pub mod utils;

@@ -10,10 +10,6 @@ pub mod utils;
 
 pub use boxed::{ClientCallbacks, ClientOptions, Scope, ScopeEdit, Stack, StackLayer};
 pub use sentry_base::dsn::IntoDsn;
-pub use sentry_base::headers::{
-    HeaderParseError, SentryTrace, TraceHeader, TraceHeadersIter, TracePropagationContext,
-    parse_headers,
-};
 pub use sentry_base::protocol;
 pub use sentry_base::protocol::{Breadcrumb, Envelope, Level, User};
 pub use sentry_base::utils::{event_from_error, parse_type_from_debug};
@@ -28,4 +24,8 @@ pub use sentry_state::callbacks::{
 pub use sentry_state::clientoptions::{
     EventSamplingStrategy, MaxRequestBodySize, PlainOptions, SessionMode, TracesSamplingStrategy,
     UserAgent,
+};
+pub use sentry_trace::headers::{
+    HeaderParseError, SentryTrace, TraceHeader, TraceHeadersIter, TracePropagationContext,
+    parse_headers,
 };

@@ -27,7 +27,6 @@ use sentry_parts::os_attributes::OsAttributes;
 use sentry_parts::session::{Session, SessionQueue};
 use sentry_parts::tick::LastTick;
 use sentry_plain::{Items, Shared, Table};
-use sentry_state::callbacks::EventCallback;
 use sentry_state::clientoptions::{Callbacks, ClientOptions};
 use sentry_state::scope::{Scope, Stack};
 use std::alloc::{AllocError, Global};
@@ -127,7 +126,7 @@ impl<P: Drop, C: Drop> Drop for Engine<P, C> {
     }
 }
 
-impl<P: EventCallback + Drop, C: Callbacks> Engine<P, C> {
+impl<P: Drop, C: Callbacks> Engine<P, C> {
     /// An engine that holds nothing. Its keys carry the tag, by which those of another engine are refused. It takes no
     /// memory.
     pub fn new(alloc: Global, tag: u64) -> Engine<P, C>

@@ -4,10 +4,10 @@ use Rattle.std.specs.Option.{option_or}
 use Rattle.sentry_plain.specs.Texts.{Bytes, put, without, merge, value_at}
 use Rattle.sentry_plain.specs.Defaults.{with_default}
 use Rattle.sentry_plain.specs.ValueView.{data_of}
-use Rattle.sentry_base.specs.HeaderLists as headers
-use Rattle.sentry_base.specs.TraceHeaders.{trace_header}
-use Rattle.sentry_base.specs.TraceTexts.{trace_text}
-use Rattle.sentry_base.specs.declared.headers.TracePropagationContext.{TracePropagationContext}
+use Rattle.sentry_trace.specs.HeaderLists as headers
+use Rattle.sentry_trace.specs.TraceHeaders.{trace_header}
+use Rattle.sentry_trace.specs.TraceTexts.{trace_text}
+use Rattle.sentry_trace.specs.declared.headers.TracePropagationContext.{TracePropagationContext}
 use Rattle.sentry_base.specs.declared.protocol.breadcrumb.Breadcrumb.{Breadcrumb}
 use Rattle.sentry_base.specs.declared.protocol.event.Event.{Event}
 use Rattle.sentry_base.specs.declared.protocol.context.Context.{Context}

@@ -1,6 +1,6 @@
 //! Scopes: what a hub knows about the surroundings of its events.
 ghost use Rattle.std.specs.Prelude.{◌≡◌, IfOk, option_copied};
-ghost use Rattle.sentry_base.specs.TraceHeaders.{headers_left};
+ghost use Rattle.sentry_trace.specs.TraceHeaders.{headers_left};
 ghost use Rattle.sentry_state.specs.Scopes.{new_scope, propagation_of, propagation_headers};
 
 mod edit;
@@ -11,11 +11,11 @@ mod trace;
 mod trail;
 
 pub use edit::ScopeEdit;
-use sentry_base::headers::{TraceHeadersIter, TracePropagationContext};
 use sentry_base::protocol::{
     Attachment, Breadcrumb, Context, Level, SpanId, TraceId, User, ValueMap,
 };
 use sentry_plain::{Items, Shared, Text, TextMap};
+use sentry_trace::headers::{TraceHeadersIter, TracePropagationContext};
 pub use stack::{Stack, StackLayer};
 use std::alloc::{AllocError, Global};
 pub use trace::ActiveTrace;

@@ -4,9 +4,9 @@ use crate::headers::Header;
 use crate::print::Shown;
 use crate::print::lists::{NONE, push_joined, push_labeled};
 use sentry_base::dsn::{Dsn, ParseDsnError};
-use sentry_base::headers::{HeaderParseError, TracePropagationContext};
 use sentry_base::protocol::{ClientKey, ClientReport, Event, OrganizationId, Uuid};
 use sentry_plain::Boxed;
+use sentry_trace::headers::{HeaderParseError, TracePropagationContext};
 use std::alloc::AllocError;
 
 impl Shown for Reply<'_> {

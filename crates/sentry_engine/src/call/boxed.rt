@@ -22,7 +22,7 @@ fn lent_scope<P>(scope: &Option<Boxed<Scope<P>>>) -> Option<&Scope<P>>
     }
 }
 
-impl<P: EventCallback + Drop, C: Callbacks> Engine<P, C> {
+impl<P: Drop, C: Callbacks> Engine<P, C> {
     // The same as `add_client`, of options in a box.
     pub(super) fn add_boxed_client(
         &mut self,
@@ -36,6 +36,19 @@ impl<P: EventCallback + Drop, C: Callbacks> Engine<P, C> {
         self.add_client(options.into_inner(), transport, label, now)
     }
 
+    // The same as `new_hub`, of a scope in a box.
+    pub(super) fn new_boxed_hub(
+        &mut self,
+        client: Option<ClientKey>,
+        scope: Boxed<Scope<P>>,
+    ) -> Result<Out<HubKey>, Refusal>
+        ensures { Does self.old self.new result (hubs.new_hub client scope) }
+    {
+        self.new_hub(client, scope.into_inner())
+    }
+}
+
+impl<P: EventCallback + Drop, C: Callbacks> Engine<P, C> {
     // The same as `prepare_event`, of an event in a box.
     pub(super) fn prepare_boxed_event(
         &mut self,
@@ -62,17 +75,6 @@ impl<P: EventCallback + Drop, C: Callbacks> Engine<P, C> {
             (clients.client_capture_event P.gives C.meanings client event scope.now fresh) }
     {
         self.client_capture_event(client, event.into_inner(), lent_scope(scope), fresh)
-    }
-
-    // The same as `new_hub`, of a scope in a box.
-    pub(super) fn new_boxed_hub(
-        &mut self,
-        client: Option<ClientKey>,
-        scope: Boxed<Scope<P>>,
-    ) -> Result<Out<HubKey>, Refusal>
-        ensures { Does self.old self.new result (hubs.new_hub client scope) }
-    {
-        self.new_hub(client, scope.into_inner())
     }
 
     // The same as `capture_event`, of an event in a box.

@@ -11,11 +11,10 @@ ghost use Rattle.sentry_engine.specs.Losses as call;
 use crate::engine::{Engine, Out};
 use sentry_base::protocol::{Category, ClientReport, Label, Losses, Reason, Refusal};
 use sentry_parts::client_reports::{Drained, LossBook};
-use sentry_state::callbacks::EventCallback;
 use sentry_state::clientoptions::Callbacks;
 use std::alloc::AllocError;
 
-impl<P: EventCallback + Drop, C: Callbacks> Engine<P, C> {
+impl<P: Drop, C: Callbacks> Engine<P, C> {
     // Whether a client names the label.
     #[tactic(auto, using(crate::proofs::Keeping::has_book_in_world))]
     fn has_book(&self, label: Label) -> bool

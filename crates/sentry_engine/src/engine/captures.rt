@@ -212,7 +212,7 @@ fn event_envelope(
     Ok(envelope)
 }
 
-impl<P: EventCallback + Drop, C: Callbacks> Engine<P, C> {
+impl<P: Drop, C: Callbacks> Engine<P, C> {
     // What a capture does to the session that a layer names, if it still goes on: the update that goes out with the
     // event, and the session after it.
     pub(super) fn capture_named_session(

@@ -130,7 +130,7 @@ fn has_client_of<C>(clients: &Table<Client<C>>, label: Label) -> bool
     false
 }
 
-impl<P: EventCallback + Drop, C: Callbacks> Engine<P, C> {
+impl<P: Drop, C: Callbacks> Engine<P, C> {
     // Holds a client under a number.
     #[tactic(auto, using(crate::proofs::Keeping::stored_in_world))]
     fn insert_client(&mut self, number: u64, client: Client<C>) -> Result<(), AllocError>
@@ -329,6 +329,36 @@ impl<P: EventCallback + Drop, C: Callbacks> Engine<P, C> {
         Ok(self.out(rate.keeps(draw)))
     }
 
+    /// Sends an envelope, with the pending report as its last item. Without a transport nothing is sent.
+    ///
+    /// `Stale`: the client isn't held. `OutOfMemory`.
+    #[tactic(auto, unfolding(crate::specs::Clients::send_envelope))]
+    pub fn send_envelope(
+        &mut self,
+        client: ClientKey,
+        mut envelope: Envelope,
+    ) -> Result<Out<()>, Refusal>
+        ensures { Does self.old self.new result (call.send_envelope client envelope) }
+    {
+        let Some(held) = self.client_at(client) else {
+            return Err(Refusal::Stale);
+        };
+        if !held.occupied {
+            return Ok(self.out(()));
+        }
+        let label = held.label;
+        add_report(&mut envelope, self.pending_report(label)?)?;
+        let mut sent = Vec::with_capacity(self.alloc, 1)?;
+        sent.push_reserved((client, envelope));
+        self.mark_reported(label);
+        Ok(Out {
+            reply: (),
+            sent: Items::from_vec(sent),
+        })
+    }
+}
+
+impl<P: EventCallback + Drop, C: Callbacks> Engine<P, C> {
     /// Captures an event of a client, under a scope, if one is given: it goes through the pipeline, and out in an
     /// envelope, with the pending report as its last item. Its id is the reply; the nil id if it was not sent.
     ///
@@ -388,33 +418,5 @@ impl<P: EventCallback + Drop, C: Callbacks> Engine<P, C> {
                 Ok(self.out(None))
             }
         }
-    }
-
-    /// Sends an envelope, with the pending report as its last item. Without a transport nothing is sent.
-    ///
-    /// `Stale`: the client isn't held. `OutOfMemory`.
-    #[tactic(auto, unfolding(crate::specs::Clients::send_envelope))]
-    pub fn send_envelope(
-        &mut self,
-        client: ClientKey,
-        mut envelope: Envelope,
-    ) -> Result<Out<()>, Refusal>
-        ensures { Does self.old self.new result (call.send_envelope client envelope) }
-    {
-        let Some(held) = self.client_at(client) else {
-            return Err(Refusal::Stale);
-        };
-        if !held.occupied {
-            return Ok(self.out(()));
-        }
-        let label = held.label;
-        add_report(&mut envelope, self.pending_report(label)?)?;
-        let mut sent = Vec::with_capacity(self.alloc, 1)?;
-        sent.push_reserved((client, envelope));
-        self.mark_reported(label);
-        Ok(Out {
-            reply: (),
-            sent: Items::from_vec(sent),
-        })
     }
 }

@@ -15,7 +15,6 @@ use crate::engine::{Client, Engine, Out, Queues};
 use sentry_base::protocol::{ClientKey, Envelope, Log, Metric, Refusal};
 use sentry_parts::tick::LastTick;
 use sentry_plain::Items;
-use sentry_state::callbacks::EventCallback;
 use sentry_state::clientoptions::Callbacks;
 use std::alloc::{AllocError, Global};
 
@@ -136,7 +135,7 @@ impl<C> Client<C> {
     }
 }
 
-impl<P: EventCallback + Drop, C: Callbacks> Engine<P, C> {
+impl<P: Drop, C: Callbacks> Engine<P, C> {
     // Takes out of the queues of a client that is held what a flush hands out.
     fn take_flushed(&mut self, number: u64, flush: Flush) -> Batches
         ensures in_world { (world : World P C) (client : ClientState C) → Stands self.old world →

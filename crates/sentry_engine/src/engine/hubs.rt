@@ -66,7 +66,7 @@ fn only<T: Drop>(items: Vec<T>) -> Result<T, Vec<T>>
     items.pop().ok_or(items)
 }
 
-impl<P: EventCallback + Drop, C: Callbacks> Engine<P, C> {
+impl<P: Drop, C: Callbacks> Engine<P, C> {
     // Makes one edit in place. Where it is out of memory, nothing has changed.
     #[tactic(auto, using(crate::proofs::Keeping::changed_same))]
     fn edit_scope(&mut self, number: u64, setter: ScopeEdit<P>) -> Result<(), AllocError>
@@ -298,6 +298,66 @@ impl<P: EventCallback + Drop, C: Callbacks> Engine<P, C> {
         Ok(self.out(held.last_event_id))
     }
 
+    // The refusal of a call on a hub for which there is no memory.
+    fn hub_refusal(&self, hub: HubKey) -> Refusal
+        ensures { (world : World P C) → Stands self.now world →
+            result ≡ if is_some (hub_at world hub) then Refusal.OutOfMemory else Refusal.Stale }
+    {
+        if self.hub_at(hub).is_some() {
+            return Refusal::OutOfMemory;
+        }
+        Refusal::Stale
+    }
+
+    /// The client of the top layer, if it has one.
+    ///
+    /// `Stale`: the hub isn't held.
+    #[tactic(auto, unfolding(crate::specs::Hubs::client))]
+    pub fn client(&self, hub: HubKey) -> Result<Out<Option<ClientKey>>, Refusal>
+        ensures { DoesWithoutMemory self.now self.now result (call.client hub) }
+    {
+        let Some(held) = self.hub_at(hub) else {
+            return Err(Refusal::Stale);
+        };
+        Ok(self.out(held.stack.top.client))
+    }
+
+    /// Whether the top layer has a client that is enabled.
+    ///
+    /// `Stale`: the hub isn't held.
+    #[tactic(auto, unfolding(crate::specs::Hubs::is_active))]
+    pub fn is_active(&self, hub: HubKey) -> Result<Out<bool>, Refusal>
+        ensures { DoesWithoutMemory self.now self.now result (call.is_active hub) }
+    {
+        let Some(held) = self.hub_at(hub) else {
+            return Err(Refusal::Stale);
+        };
+        let Some(key) = held.stack.top.client else {
+            return Ok(self.out(false));
+        };
+        let Some(client) = self.client_at(key) else {
+            return Ok(self.out(false));
+        };
+        let is_enabled = client.options.get().plain.dsn.is_some() && client.occupied;
+        Ok(self.out(is_enabled))
+    }
+
+    /// A copy of the top scope.
+    ///
+    /// `Stale`: the hub isn't held. `OutOfMemory`.
+    #[tactic(auto, unfolding(crate::specs::Hubs::scope))]
+    pub fn scope(&self, hub: HubKey) -> Result<Out<Boxed<Scope<P>>>, Refusal>
+        ensures { Does self.now self.now result (call.scope hub) }
+    {
+        let Some(held) = self.hub_at(hub) else {
+            return Err(Refusal::Stale);
+        };
+        let scope = Boxed::new(self.alloc, held.stack.top.scope.clone()?)?;
+        Ok(self.out(scope))
+    }
+}
+
+impl<P: EventCallback + Drop, C: Callbacks> Engine<P, C> {
     // Captures the event that is there; none is left. It is lent, since a function that owns an event makes room for
     // one at each of its ends.
     #[tactic(auto, unfolding(crate::specs::Hubs::capture_event))]
@@ -349,17 +409,6 @@ impl<P: EventCallback + Drop, C: Callbacks> Engine<P, C> {
         ensures { Does self.old self.new result (call.capture_event P.gives C.meanings hub event fresh) }
     {
         self.capture(hub, &mut Some(event), fresh)
-    }
-
-    // The refusal of a call on a hub for which there is no memory.
-    fn hub_refusal(&self, hub: HubKey) -> Refusal
-        ensures { (world : World P C) → Stands self.now world →
-            result ≡ if is_some (hub_at world hub) then Refusal.OutOfMemory else Refusal.Stale }
-    {
-        if self.hub_at(hub).is_some() {
-            return Refusal::OutOfMemory;
-        }
-        Refusal::Stale
     }
 
     // The same as `capture_message`, of a text that needs no copy.
@@ -415,52 +464,5 @@ impl<P: EventCallback + Drop, C: Callbacks> Engine<P, C> {
             Ok(event) => self.capture(hub, &mut Some(event), fresh),
             Err(_) => Err(self.hub_refusal(hub)),
         }
-    }
-
-    /// The client of the top layer, if it has one.
-    ///
-    /// `Stale`: the hub isn't held.
-    #[tactic(auto, unfolding(crate::specs::Hubs::client))]
-    pub fn client(&self, hub: HubKey) -> Result<Out<Option<ClientKey>>, Refusal>
-        ensures { DoesWithoutMemory self.now self.now result (call.client hub) }
-    {
-        let Some(held) = self.hub_at(hub) else {
-            return Err(Refusal::Stale);
-        };
-        Ok(self.out(held.stack.top.client))
-    }
-
-    /// Whether the top layer has a client that is enabled.
-    ///
-    /// `Stale`: the hub isn't held.
-    #[tactic(auto, unfolding(crate::specs::Hubs::is_active))]
-    pub fn is_active(&self, hub: HubKey) -> Result<Out<bool>, Refusal>
-        ensures { DoesWithoutMemory self.now self.now result (call.is_active hub) }
-    {
-        let Some(held) = self.hub_at(hub) else {
-            return Err(Refusal::Stale);
-        };
-        let Some(key) = held.stack.top.client else {
-            return Ok(self.out(false));
-        };
-        let Some(client) = self.client_at(key) else {
-            return Ok(self.out(false));
-        };
-        let is_enabled = client.options.get().plain.dsn.is_some() && client.occupied;
-        Ok(self.out(is_enabled))
-    }
-
-    /// A copy of the top scope.
-    ///
-    /// `Stale`: the hub isn't held. `OutOfMemory`.
-    #[tactic(auto, unfolding(crate::specs::Hubs::scope))]
-    pub fn scope(&self, hub: HubKey) -> Result<Out<Boxed<Scope<P>>>, Refusal>
-        ensures { Does self.now self.now result (call.scope hub) }
-    {
-        let Some(held) = self.hub_at(hub) else {
-            return Err(Refusal::Stale);
-        };
-        let scope = Boxed::new(self.alloc, held.stack.top.scope.clone()?)?;
-        Ok(self.out(scope))
     }
 }

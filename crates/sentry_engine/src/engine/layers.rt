@@ -10,7 +10,6 @@ ghost use Rattle.sentry_engine.specs.Layers as call;
 
 use crate::engine::{Engine, Hub, Out};
 use sentry_base::protocol::{ClientKey, HubKey, Refusal};
-use sentry_state::callbacks::EventCallback;
 use sentry_state::clientoptions::Callbacks;
 use sentry_state::scope::Stack;
 use std::alloc::AllocError;
@@ -42,7 +41,7 @@ impl ScopeGuard {
     }
 }
 
-impl<P: EventCallback + Drop, C: Callbacks> Engine<P, C> {
+impl<P: Drop, C: Callbacks> Engine<P, C> {
     // Pushes a copy of the top layer of a hub that is held, and returns the depth after it. If out of memory, nothing
     // has changed.
     #[tactic(auto, using(crate::proofs::Keeping::changed_same))]

@@ -15,7 +15,6 @@ use sentry_base::protocol::{
     ClientKey, ClientReport, Envelope, EnvelopeHeaders, EnvelopeItem, Label, Log, Metric,
 };
 use sentry_plain::Items;
-use sentry_state::callbacks::EventCallback;
 use sentry_state::clientoptions::Callbacks;
 use std::alloc::{AllocError, Global};
 
@@ -136,7 +135,7 @@ impl Mail {
     }
 }
 
-impl<P: EventCallback + Drop, C: Callbacks> Engine<P, C> {
+impl<P: Drop, C: Callbacks> Engine<P, C> {
     // The report that goes along with the first envelope of a label, if these are not the first.
     fn report_left(
         &self,

@@ -8,7 +8,6 @@ use crate::engine::Engine;
 use crate::engine::captures::add_report;
 use sentry_base::protocol::{ClientKey, ClientReport, Envelope, Label};
 use sentry_plain::Items;
-use sentry_state::callbacks::EventCallback;
 use sentry_state::clientoptions::Callbacks;
 use std::alloc::{AllocError, Global};
 
@@ -29,7 +28,7 @@ fn address(
     Ok(sent)
 }
 
-impl<P: EventCallback + Drop, C: Callbacks> Engine<P, C> {
+impl<P: Drop, C: Callbacks> Engine<P, C> {
     // What leaves a client whose slot is occupied or not: the envelopes, the first with the pending report.
     pub(super) fn envelopes_from(
         &self,

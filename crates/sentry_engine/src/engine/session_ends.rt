@@ -11,7 +11,6 @@ ghost use Rattle.sentry_engine.specs.SessionEnds.{with_session, with_client_entr
 use crate::engine::{Engine, Hub};
 use sentry_base::protocol::{ClientKey, Envelope, SessionKey, SessionStatus, SessionUpdate};
 use sentry_plain::{Items, Table};
-use sentry_state::callbacks::EventCallback;
 use sentry_state::clientoptions::Callbacks;
 use std::alloc::AllocError;
 
@@ -27,7 +26,7 @@ fn is_session_named<P>(hubs: &Table<Hub<P>>, session: SessionKey) -> bool
     false
 }
 
-impl<P: EventCallback + Drop, C: Callbacks> Engine<P, C> {
+impl<P: Drop, C: Callbacks> Engine<P, C> {
     // Puts the last update of a session into the queue of a client that is held. If out of memory, nothing has changed.
     #[tactic(auto, using(crate::proofs::Keeping::changed_same))]
     fn enqueue_update(&mut self, number: u64, update: SessionUpdate) -> Result<(), AllocError>

@@ -17,11 +17,10 @@ use sentry_base::protocol::{
 };
 use sentry_parts::session::Session;
 use sentry_plain::Items;
-use sentry_state::callbacks::EventCallback;
 use sentry_state::clientoptions::Callbacks;
 use std::alloc::AllocError;
 
-impl<P: EventCallback + Drop, C: Callbacks> Engine<P, C> {
+impl<P: Drop, C: Callbacks> Engine<P, C> {
     // Whether a number is left for a session.
     #[tactic(auto, using(crate::proofs::Keeping::has_session_in_world))]
     fn has_session_number(&self) -> bool

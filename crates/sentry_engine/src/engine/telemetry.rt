@@ -19,7 +19,6 @@ use sentry_parts::pipeline::{
     default_log_attributes, default_metric_attributes, prepare_log, prepare_metric,
 };
 use sentry_plain::Items;
-use sentry_state::callbacks::EventCallback;
 use sentry_state::clientoptions::Callbacks;
 use sentry_state::scope::Scope;
 use std::alloc::{AllocError, Global};
@@ -74,7 +73,7 @@ impl<C> Client<C> {
     }
 }
 
-impl<P: EventCallback + Drop, C: Callbacks> Engine<P, C> {
+impl<P: Drop, C: Callbacks> Engine<P, C> {
     // Records that the callback dropped an item of this category.
     #[tactic(auto, using(crate::proofs::Keeping::entry_absent, crate::proofs::Keeping::entry_present))]
     fn record_dropped(&mut self, label: Label, category: Category)

@@ -1,0 +1,3 @@
+pub mod TraceTexts
+pub mod HeaderLists
+pub mod TraceHeaders
