@@ -10,7 +10,7 @@ use Rattle.sentry_base.specs.declared.protocol.envelope.EnvelopeItem.TheVariants
 use Rattle.sentry_base.specs.declared.protocol.session.SessionUpdate.{SessionUpdate}
 use Rattle.sentry_state.specs.declared.clientoptions.choices.SessionMode.{SessionMode}
 use Rattle.sentry_parts.specs.SessionLaws.{QueueIsShort}
-use Rattle.sentry_parts.specs.SessionQueues.{QueueEntry, enqueued, flushed, aggregate_cmp, counts_of, is_aggregated, aggregated, individual, is_full, since_flush, oldest, Waiting, what_waits, queue_of, envelopes_of, envelopes_on}
+use Rattle.sentry_parts.specs.SessionQueues.{QueueEntry, enqueued, flushed, aggregate_cmp, counts_of, is_aggregated, aggregated_updates, individual, is_full, since_flush, oldest, Waiting, what_waits, queue_of, envelopes_of, envelopes_on}
 use Rattle.sentry_parts.specs.QueueSteps.{aggregate, append, nothing, clear, is_last, append_or_clear, envelopes_on_append, enqueue, envelopes_on_enqueue}
 use Rattle.sentry_parts.specs.declared.session.aggregates.AggregateCounts.{AggregateCounts}
 use Rattle.sentry_parts.specs.declared.session.aggregates.TheConstants.{MAX_INDIVIDUAL}
@@ -59,13 +59,13 @@ append_from mode u counted others = λ i. record {
 }
 
 module _ (mode : SessionMode) (u : SessionUpdate) (us : List SessionUpdate) where
-  counted_more : is_aggregated mode u ≡ true → aggregated mode (u ∷ us) ≡ u ∷ aggregated mode us
+  counted_more : is_aggregated mode u ≡ true → aggregated_updates mode (u ∷ us) ≡ u ∷ aggregated_updates mode us
   counted_more h = rw h refl
 
   others_stay : is_aggregated mode u ≡ true → individual mode (u ∷ us) ≡ individual mode us
   others_stay h = rw h refl
 
-  counted_stay : is_aggregated mode u ≡ false → aggregated mode (u ∷ us) ≡ aggregated mode us
+  counted_stay : is_aggregated mode u ≡ false → aggregated_updates mode (u ∷ us) ≡ aggregated_updates mode us
   counted_stay h = rw h refl
 
   others_more : is_aggregated mode u ≡ false → individual mode (u ∷ us) ≡ u ∷ individual mode us
@@ -74,16 +74,16 @@ module _ (mode : SessionMode) (u : SessionUpdate) (us : List SessionUpdate) wher
   aggregate_is : is_aggregated mode u ≡ true → what_waits mode (u ∷ us) ≡ aggregate u (what_waits mode us)
   unfolding what_waits
   aggregate_is h =
-      let split : what_waits mode (u ∷ us) ≡ waiting_from mode (u ∷ aggregated mode us) (individual mode us) =
+      let split : what_waits mode (u ∷ us) ≡ waiting_from mode (u ∷ aggregated_updates mode us) (individual mode us) =
       λ i. waiting_from mode (counted_more h i) (others_stay h i) in
-      split ∙ aggregate_from mode u (aggregated mode us) (individual mode us)
+      split ∙ aggregate_from mode u (aggregated_updates mode us) (individual mode us)
 
   append_is : is_aggregated mode u ≡ false → what_waits mode (u ∷ us) ≡ append u (what_waits mode us)
   unfolding what_waits
   append_is h =
-      let split : what_waits mode (u ∷ us) ≡ waiting_from mode (aggregated mode us) (u ∷ individual mode us) =
+      let split : what_waits mode (u ∷ us) ≡ waiting_from mode (aggregated_updates mode us) (u ∷ individual mode us) =
       λ i. waiting_from mode (counted_stay h i) (others_more h i) in
-      split ∙ append_from mode u (aggregated mode us) (individual mode us)
+      split ∙ append_from mode u (aggregated_updates mode us) (individual mode us)
 
 -- ---- the hundredth
 

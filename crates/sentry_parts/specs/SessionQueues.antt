@@ -88,8 +88,8 @@ is_aggregated session_mode.Application update = false
 is_aggregated session_mode.Request update = update.init
 
 -- the updates that are counted
-abbrev pub aggregated : SessionMode → List SessionUpdate → List SessionUpdate
-aggregated mode updates = filter (is_aggregated mode) updates
+abbrev pub aggregated_updates : SessionMode → List SessionUpdate → List SessionUpdate
+aggregated_updates mode updates = filter (is_aggregated mode) updates
 
 -- the updates that are sent one by one
 abbrev pub individual : SessionMode → List SessionUpdate → List SessionUpdate
@@ -121,8 +121,8 @@ pub record Waiting : Type 0 where
 unfoldable pub what_waits : SessionMode → List SessionUpdate → Waiting
 what_waits mode updates = record {
   mode = mode;
-  counts = entries (counts_of (aggregated mode updates));
-  attributes = option_map (λ update. update.attributes) (oldest (aggregated mode updates));
+  counts = entries (counts_of (aggregated_updates mode updates));
+  attributes = option_map (λ update. update.attributes) (oldest (aggregated_updates mode updates));
   individual = map item.SessionUpdate (reverse (individual mode updates));
 }
 
