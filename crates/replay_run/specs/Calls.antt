@@ -11,10 +11,10 @@ use Rattle.sentry_base.specs.declared.protocol.keys.HubKey.{HubKey}
 use Rattle.sentry_base.specs.declared.protocol.log.Log.{Log}
 use Rattle.sentry_base.specs.declared.protocol.log.LogLevel.TheVariants.{Info}
 use Rattle.sentry_base.specs.declared.protocol.session.SessionStatus.TheVariants.{Exited}
-use Rattle.sentry_state.specs.Options.{default_plain_options, default_options_with}
-use Rattle.sentry_state.specs.declared.clientoptions.ClientOptions.{ClientOptions}
-use Rattle.sentry_state.specs.Scopes.{new_scope}
-use Rattle.sentry_state.specs.declared.scope.edit.ScopeEdit.TheVariants.{SetTag}
+use Rattle.sentry_options.specs.Options.{default_plain_options, default_options_with}
+use Rattle.sentry_options.specs.declared.clientoptions.ClientOptions.{ClientOptions}
+use Rattle.sentry_scope.specs.Scopes.{new_scope}
+use Rattle.sentry_scope.specs.declared.scope.edit.ScopeEdit.TheVariants.{SetTag}
 use Rattle.sentry_engine.specs.declared.call.Call.TheVariants.{AddClient, NewHub, Configure, CaptureMessage, SendEnvelope, ReleaseHub, StartSession, EndSessionWithStatus, Flush, CaptureLog, Close}
 use Rattle.replay_run.specs.declared.engine.NoCallbacks.{NoCallbacks}
 use Rattle.replay_run.specs.declared.command.Command.{Command}

@@ -1,7 +1,8 @@
 -- The engine of this program: its scopes have no processors, and its clients have no callbacks.
 use Rattle.std.specs.Prelude.{Some, None, [], Result}
 use Rattle.sentry_base.specs.declared.protocol.refusal.Refusal.{Refusal}
-use Rattle.sentry_state.specs.Callbacks.{Partial, Meanings}
+use Rattle.sentry_base.specs.Callbacks.{Partial}
+use Rattle.sentry_options.specs.Meanings.{Meanings}
 use Rattle.sentry_engine.specs.declared.engine.Engine.{Engine}
 use Rattle.sentry_engine.specs.declared.engine.Out.{Out}
 use Rattle.sentry_engine.specs.declared.call.Call.{Call}

@@ -12,9 +12,9 @@ use sentry_base::protocol::{
     Uuid,
 };
 use sentry_engine::call::Call;
+use sentry_options::clientoptions::{ClientOptions, PlainOptions, TracesSamplingStrategy};
 use sentry_plain::{Boxed, Items, Text, TextMap};
-use sentry_state::clientoptions::{ClientOptions, PlainOptions, TracesSamplingStrategy};
-use sentry_state::scope::{Scope, ScopeEdit};
+use sentry_scope::scope::{Scope, ScopeEdit};
 use std::alloc::{AllocError, Global};
 
 /// The tag of the engine, which all of its keys carry.

@@ -1,12 +1,12 @@
 //! The engine of this program: its scopes have no processors, and its clients have no callbacks.
 ghost use Rattle.replay_run.specs.Engines.{same_event, no_callbacks};
 
+use sentry_base::callbacks::EventCallback;
 use sentry_base::protocol::{Breadcrumb, Event, Log, Metric};
 use sentry_engine::call::{Answer, Call};
 use sentry_engine::engine::Engine;
+use sentry_options::clientoptions::{Callbacks, PlainOptions};
 use sentry_plain::{Items, Text};
-use sentry_state::callbacks::EventCallback;
-use sentry_state::clientoptions::{Callbacks, PlainOptions};
 use std::alloc::{AllocError, Global};
 
 pub type ReplayEngine = Engine<NoProcessor, NoCallbacks>;

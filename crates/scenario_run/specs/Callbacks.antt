@@ -8,7 +8,8 @@ use Rattle.sentry_base.specs.declared.protocol.event.Event.{Event}
 use Rattle.sentry_base.specs.declared.protocol.log.Log.{Log}
 use Rattle.sentry_base.specs.declared.protocol.metric.Metric.{Metric}
 use Rattle.sentry_base.specs.declared.protocol.context.Context.TheVariants as context
-use Rattle.sentry_state.specs.Callbacks.{Partial, PartialOnBreadcrumbs, PartialOnLogs, PartialOnMetrics, IntegrationMeaning}
+use Rattle.sentry_base.specs.Callbacks.{Partial, PartialOnBreadcrumbs, PartialOnLogs, PartialOnMetrics}
+use Rattle.sentry_options.specs.Meanings.{IntegrationMeaning}
 use Rattle.scenario_run.specs.declared.callbacks.Handler.{Handler}
 use Rattle.scenario_run.specs.declared.callbacks.Handler.TheVariants as handler
 use Rattle.scenario_run.specs.declared.callbacks.BreadcrumbFilter.{BreadcrumbFilter}

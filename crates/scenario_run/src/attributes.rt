@@ -3,7 +3,7 @@ use crate::callbacks::Handler;
 use crate::scenario::Scenario;
 use sentry_base::protocol::{LogAttribute, Value};
 use sentry_plain::{Text, TextMap};
-use sentry_state::scope::Scope;
+use sentry_scope::scope::Scope;
 use std::alloc::{AllocError, Global};
 
 /// Who captures it, by number.

@@ -3,12 +3,11 @@ ghost use Rattle.std.specs.Prelude.{◌≡◌, IfOk};
 ghost use Rattle.scenario_run.specs.Callbacks.{handle, extend, keep_or_drop, keep_or_drop_log, keep_or_drop_metric};
 ghost use Rattle.scenario_run.specs.Callbacks.{drop_if_begins, text_or_empty, begins_with, set_tag, add_os};
 
+use sentry_base::callbacks::{BreadcrumbCallback, EventCallback, LogCallback, MetricCallback};
 use sentry_base::protocol::{Breadcrumb, Context, Event, Log, Metric};
+use sentry_options::clientoptions::{ClientCallbacks, PlainOptions};
+use sentry_options::integration::Integration;
 use sentry_plain::Text;
-use sentry_state::callbacks::{
-    BreadcrumbCallback, EventCallback, Integration, LogCallback, MetricCallback,
-};
-use sentry_state::clientoptions::{ClientCallbacks, PlainOptions};
 use std::alloc::{AllocError, Global};
 
 /// The callbacks of a client.

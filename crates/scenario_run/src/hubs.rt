@@ -4,7 +4,7 @@ use crate::callbacks::Handler;
 use crate::fault::Failure;
 use crate::scenario::{Scenario, client_key, hub_key};
 use crate::words::Words;
-use sentry_state::scope::Scope;
+use sentry_scope::scope::Scope;
 
 /// What a line asks of a hub.
 #[derive(Clone, Copy)]

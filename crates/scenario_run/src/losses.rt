@@ -7,8 +7,8 @@ use crate::quantities::losses_of_words;
 use crate::scenario::{Scenario, client_key};
 use crate::words::Words;
 use sentry_base::protocol::{Category, Envelope, LossSource, Losses, Reason};
+use sentry_client_reports::client_reports::{LossWords, TransportLossReason};
 use sentry_engine::call::Call;
-use sentry_parts::client_reports::{LossWords, TransportLossReason};
 use sentry_plain::Boxed;
 
 /// What a line loses of a client, reports of it or sends.

@@ -2,8 +2,8 @@
 use crate::callbacks::{BreadcrumbFilter, Callbacks, Extension, Handler, LogFilter, MetricFilter};
 use crate::words::{number, small};
 use sentry_base::protocol::{OrganizationId, Refusal, SampleRate};
+use sentry_options::clientoptions::{ClientOptions, SessionMode};
 use sentry_plain::Text;
-use sentry_state::clientoptions::{ClientOptions, SessionMode};
 use std::alloc::{AllocError, Global};
 
 /// Where the events of a client go, unless an option says otherwise.

@@ -6,7 +6,7 @@ use crate::scenario::{Scenario, hub_key};
 use crate::words::Words;
 use sentry_base::protocol::{Attachment, Context, Fresh, Level, User, Value, ValueMap};
 use sentry_plain::{Items, Text};
-use sentry_state::scope::ScopeEdit;
+use sentry_scope::scope::ScopeEdit;
 use std::alloc::{AllocError, Global};
 
 /// What a line does to the scope of a hub.

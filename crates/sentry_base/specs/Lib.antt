@@ -10,3 +10,4 @@ pub mod Losses
 pub mod RecordLosses
 pub mod ErrorEvents
 pub mod Metrics
+pub mod Callbacks

@@ -1,11 +1,11 @@
 //! The types that users configure, over boxed callbacks.
-use sentry_state::callbacks::{
-    BoxedBreadcrumbCallback, BoxedEventCallback, BoxedIntegration, BoxedLogCallback,
-    BoxedMetricCallback,
+use sentry_base::callbacks::{
+    BoxedBreadcrumbCallback, BoxedEventCallback, BoxedLogCallback, BoxedMetricCallback,
 };
+use sentry_options::integration::BoxedIntegration;
 
 /// The callbacks of a client.
-pub type ClientCallbacks = sentry_state::clientoptions::ClientCallbacks<
+pub type ClientCallbacks = sentry_options::clientoptions::ClientCallbacks<
     BoxedEventCallback,
     BoxedIntegration,
     BoxedBreadcrumbCallback,
@@ -14,16 +14,16 @@ pub type ClientCallbacks = sentry_state::clientoptions::ClientCallbacks<
 >;
 
 /// The options of a client.
-pub type ClientOptions = sentry_state::clientoptions::ClientOptions<ClientCallbacks>;
+pub type ClientOptions = sentry_options::clientoptions::ClientOptions<ClientCallbacks>;
 
 /// A scope.
-pub type Scope = sentry_state::scope::Scope<BoxedEventCallback>;
+pub type Scope = sentry_scope::scope::Scope<BoxedEventCallback>;
 
 /// The call of one setter of a scope.
-pub type ScopeEdit = sentry_state::scope::ScopeEdit<BoxedEventCallback>;
+pub type ScopeEdit = sentry_scope::scope::ScopeEdit<BoxedEventCallback>;
 
 /// The layers of a hub.
-pub type Stack = sentry_state::scope::Stack<BoxedEventCallback>;
+pub type Stack = sentry_scope::scope::Stack<BoxedEventCallback>;
 
 /// A client, or none, and a scope.
-pub type StackLayer = sentry_state::scope::StackLayer<BoxedEventCallback>;
+pub type StackLayer = sentry_scope::scope::StackLayer<BoxedEventCallback>;

@@ -1,7 +1,7 @@
 //! The engine over boxed callbacks.
 use crate::boxed::ClientCallbacks;
+use sentry_base::callbacks::BoxedEventCallback;
 pub use sentry_engine::engine::Out;
-use sentry_state::callbacks::BoxedEventCallback;
 
 /// An engine.
 pub type Engine = sentry_engine::engine::Engine<BoxedEventCallback, ClientCallbacks>;

@@ -9,22 +9,22 @@ pub mod types;
 pub mod utils;
 
 pub use boxed::{ClientCallbacks, ClientOptions, Scope, ScopeEdit, Stack, StackLayer};
+pub use sentry_base::callbacks::{
+    BoxedBreadcrumbCallback, BoxedEventCallback, BoxedLogCallback, BoxedMetricCallback,
+    BreadcrumbCallback, EventCallback, LogCallback, MetricCallback,
+};
 pub use sentry_base::dsn::IntoDsn;
 pub use sentry_base::protocol;
 pub use sentry_base::protocol::{Breadcrumb, Envelope, Level, User};
 pub use sentry_base::utils::{event_from_error, parse_type_from_debug};
 pub use sentry_engine::engine::ScopeGuard;
-pub use sentry_parts::metrics;
-pub use sentry_plain::{Boxed, Items, Shared, Text, TextMap};
-pub use sentry_state::callbacks::{
-    BoxedBreadcrumbCallback, BoxedEventCallback, BoxedIntegration, BoxedLogCallback,
-    BoxedMetricCallback, BreadcrumbCallback, EventCallback, Integration, LogCallback,
-    MetricCallback,
-};
-pub use sentry_state::clientoptions::{
+pub use sentry_options::clientoptions::{
     EventSamplingStrategy, MaxRequestBodySize, PlainOptions, SessionMode, TracesSamplingStrategy,
     UserAgent,
 };
+pub use sentry_options::integration::{BoxedIntegration, Integration};
+pub use sentry_parts::metrics;
+pub use sentry_plain::{Boxed, Items, Shared, Text, TextMap};
 pub use sentry_trace::headers::{
     HeaderParseError, SentryTrace, TraceHeader, TraceHeadersIter, TracePropagationContext,
     parse_headers,

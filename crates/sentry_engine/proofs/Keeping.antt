@@ -12,14 +12,14 @@ use Rattle.std.specs.Ordering.{is_eq}
 use Rattle.sentry_plain.specs.Tables.{value_at, put, replace_at, without}
 use Rattle.sentry_base.specs.declared.protocol.keys.ClientKey.{ClientKey}
 use Rattle.sentry_base.specs.declared.protocol.keys.Label.{Label}
-use Rattle.sentry_parts.specs.LossBooks.{Book, LossEntry, book_of, pending_losses, report_items, report_of}
+use Rattle.sentry_client_reports.specs.LossBooks.{Book, LossEntry, book_of, pending_losses, report_items, report_of}
 use Rattle.sentry_engine.specs.Books.{with_book, is_label, has_client_of, without_unused_book, pending_report}
 use Rattle.sentry_parts.specs.Sessions.{session_of}
 use Rattle.sentry_parts.specs.declared.session.record.Session.{Session}
 use Rattle.sentry_parts.specs.declared.session.record.SessionStart.{SessionStart}
-use Rattle.sentry_state.specs.Stacks.{stack_of_any, pop, depth, is_client}
-use Rattle.sentry_state.specs.declared.scope.stack.Stack.{Stack}
-use Rattle.sentry_state.specs.declared.scope.stack.StackLayer.{StackLayer}
+use Rattle.sentry_scope.specs.Stacks.{stack_of_any, pop, depth, is_client}
+use Rattle.sentry_scope.specs.declared.scope.stack.Stack.{Stack}
+use Rattle.sentry_scope.specs.declared.scope.stack.StackLayer.{StackLayer}
 use Rattle.sentry_engine.specs.Clients.{has_session_of}
 use Rattle.sentry_engine.specs.Sessions.{with_new_session}
 use Rattle.sentry_engine.specs.declared.engine.Hub.{Hub}

@@ -7,7 +7,8 @@ use Rattle.sentry_engine.specs.declared.engine.Out.{Out}
 use Rattle.sentry_engine.specs.declared.engine.Engine.{Engine}
 use Rattle.sentry_engine.specs.declared.call.Call.{Call}
 use Rattle.sentry_engine.specs.declared.call.Reply.{Reply}
-use Rattle.sentry_state.specs.Callbacks.{Partial, Meanings}
+use Rattle.sentry_base.specs.Callbacks.{Partial}
+use Rattle.sentry_options.specs.Meanings.{Meanings}
 use Rattle.sentry_engine.specs.Worlds.{World, Stands}
 use Rattle.sentry_engine.specs.Outcomes.{DoesWith}
 use Rattle.sentry_engine.specs.Runs.{step, takes_no_memory, May, Run}

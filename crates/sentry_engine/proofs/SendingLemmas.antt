@@ -17,11 +17,11 @@ use Rattle.sentry_plain.specs.Tables.{without, put}
 use Rattle.sentry_parts.specs.SessionQueues.{enqueued, envelopes_on}
 use Rattle.sentry_parts.specs.Sessions.{closed, session_of, pending_update, update_of, start_of}
 use Rattle.sentry_parts.specs.declared.session.record.SessionStart.{SessionStart}
-use Rattle.sentry_state.specs.Callbacks.{Meanings}
-use Rattle.sentry_state.specs.Scopes.{edit_all}
-use Rattle.sentry_state.specs.declared.clientoptions.ClientOptions.{ClientOptions}
-use Rattle.sentry_state.specs.Stacks.{depth, pop}
-use Rattle.sentry_state.specs.declared.scope.edit.ScopeEdit.{ScopeEdit}
+use Rattle.sentry_options.specs.Meanings.{Meanings}
+use Rattle.sentry_scope.specs.Scopes.{edit_all}
+use Rattle.sentry_options.specs.declared.clientoptions.ClientOptions.{ClientOptions}
+use Rattle.sentry_scope.specs.Stacks.{depth, pop}
+use Rattle.sentry_scope.specs.declared.scope.edit.ScopeEdit.{ScopeEdit}
 use Rattle.sentry_base.specs.declared.protocol.keys.Label.{Label}
 use Rattle.sentry_engine.specs.Books.{without_unused_book, with_book}
 use Rattle.sentry_engine.specs.Clients.{add_client, new_client, drop_client, is_client_named, has_session_of}

@@ -8,7 +8,7 @@ use Rattle.sentry_base.specs.declared.protocol.client_report.ClientReport.{Clien
 use Rattle.sentry_base.specs.declared.protocol.envelope.Envelope.{Envelope}
 use Rattle.sentry_base.specs.declared.protocol.envelope.EnvelopeItem.TheVariants as item
 use Rattle.sentry_base.specs.declared.protocol.keys.Label.{Label}
-use Rattle.sentry_parts.specs.LossBooks.{LossEntry, pending_losses, report_items, report_of}
+use Rattle.sentry_client_reports.specs.LossBooks.{LossEntry, pending_losses, report_items, report_of}
 use Rattle.sentry_engine.specs.Worlds.{World, ClientState}
 
 -- the envelope with a report as its last item, if there is one

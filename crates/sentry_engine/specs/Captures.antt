@@ -17,11 +17,12 @@ use Rattle.sentry_base.specs.declared.protocol.losses.Reason.{Reason}
 use Rattle.sentry_base.specs.declared.protocol.keys.SessionKey.{SessionKey}
 use Rattle.sentry_base.specs.declared.protocol.session.SessionUpdate.{SessionUpdate}
 use Rattle.sentry_plain.specs.Tables.{replace_at}
-use Rattle.sentry_state.specs.declared.scope.Scope.{Scope}
-use Rattle.sentry_state.specs.Callbacks.{Partial, Meanings}
-use Rattle.sentry_state.specs.declared.clientoptions.choices.SessionMode.{SessionMode}
-use Rattle.sentry_state.specs.declared.clientoptions.choices.SessionMode.TheVariants.{Application, Request}
-use Rattle.sentry_parts.specs.LossBooks.{LossEntry, engine_losses, report_point}
+use Rattle.sentry_scope.specs.declared.scope.Scope.{Scope}
+use Rattle.sentry_base.specs.Callbacks.{Partial}
+use Rattle.sentry_options.specs.Meanings.{Meanings}
+use Rattle.sentry_options.specs.declared.clientoptions.choices.SessionMode.{SessionMode}
+use Rattle.sentry_options.specs.declared.clientoptions.choices.SessionMode.TheVariants.{Application, Request}
+use Rattle.sentry_client_reports.specs.LossBooks.{LossEntry, engine_losses, report_point}
 use Rattle.sentry_parts.specs.Pipeline.{Prepared, prepare_event, loss_reason}
 use Rattle.sentry_parts.specs.declared.pipeline.Preparation.{Preparation}
 use Rattle.sentry_parts.specs.declared.pipeline.Preparation.TheVariants.{Kept, SampledOut, Dropped}

@@ -7,16 +7,17 @@ use Rattle.sentry_base.specs.DsnParts.{DsnParts}
 use Rattle.sentry_base.specs.declared.protocol.keys.ClientKey.{ClientKey}
 use Rattle.sentry_base.specs.declared.protocol.keys.Label.{Label}
 use Rattle.sentry_base.specs.declared.protocol.refusal.Refusal.TheVariants.{Stale, StillNamed, ForeignLosses, Full}
-use Rattle.sentry_state.specs.declared.clientoptions.ClientOptions.{ClientOptions}
-use Rattle.sentry_state.specs.Callbacks.{Partial, Meanings, set_up_all}
-use Rattle.sentry_state.specs.Stacks.{is_client, names_client}
+use Rattle.sentry_options.specs.declared.clientoptions.ClientOptions.{ClientOptions}
+use Rattle.sentry_base.specs.Callbacks.{Partial}
+use Rattle.sentry_options.specs.Meanings.{Meanings, set_up_all}
+use Rattle.sentry_scope.specs.Stacks.{is_client, names_client}
 use Rattle.sentry_engine.specs.declared.engine.Client.{Client}
 use Rattle.sentry_engine.specs.declared.engine.Hub.{Hub}
 use Rattle.sentry_base.specs.declared.protocol.event.Event.{Event}
 use Rattle.sentry_base.specs.declared.protocol.envelope.Envelope.{Envelope}
 use Rattle.sentry_base.specs.declared.protocol.fresh.Fresh.{Fresh}
-use Rattle.sentry_state.specs.declared.scope.Scope.{Scope}
-use Rattle.sentry_parts.specs.LossBooks.{report_point}
+use Rattle.sentry_scope.specs.declared.scope.Scope.{Scope}
+use Rattle.sentry_client_reports.specs.LossBooks.{report_point}
 use Rattle.sentry_parts.specs.OsAttributes.{os_attributes}
 use Rattle.sentry_parts.specs.Pipeline.{loss_reason}
 use Rattle.sentry_parts.specs.Pipeline as pipeline

@@ -7,7 +7,7 @@ use Rattle.sentry_base.specs.declared.protocol.envelope.EnvelopeItem.TheVariants
 use Rattle.sentry_base.specs.declared.protocol.keys.ClientKey.{ClientKey}
 use Rattle.sentry_base.specs.declared.protocol.log.Log.{Log}
 use Rattle.sentry_base.specs.declared.protocol.metric.Metric.{Metric}
-use Rattle.sentry_state.specs.declared.clientoptions.choices.SessionMode.{SessionMode}
+use Rattle.sentry_options.specs.declared.clientoptions.choices.SessionMode.{SessionMode}
 use Rattle.sentry_parts.specs.Batches.{tick_history, batch_on_tick}
 use Rattle.sentry_parts.specs.declared.batcher.TheConstants.{BATCH_INTERVAL}
 use Rattle.sentry_parts.specs.SessionQueues.{QueueEntry, Waiting, flushed, queue_of, envelopes_of, envelope_of}

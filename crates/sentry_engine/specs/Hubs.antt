@@ -13,13 +13,14 @@ use Rattle.sentry_base.specs.declared.protocol.event.Event.{Event}
 use Rattle.sentry_base.specs.declared.protocol.level.Level.{Level}
 use Rattle.sentry_base.specs.declared.protocol.fresh.Fresh.{Fresh}
 use Rattle.sentry_base.specs.declared.protocol.refusal.Refusal.TheVariants.{Stale, Full}
-use Rattle.sentry_state.specs.declared.scope.Scope.{Scope}
-use Rattle.sentry_state.specs.declared.scope.stack.Stack.{Stack}
-use Rattle.sentry_state.specs.declared.scope.edit.ScopeEdit.{ScopeEdit}
-use Rattle.sentry_state.specs.declared.scope.edit.ScopeEdit.TheVariants.{Clear}
-use Rattle.sentry_state.specs.Scopes.{edit_all, breadcrumb_trail}
-use Rattle.sentry_state.specs.Stacks.{one_layer}
-use Rattle.sentry_state.specs.Callbacks.{Partial, Meanings, call_on_each}
+use Rattle.sentry_scope.specs.declared.scope.Scope.{Scope}
+use Rattle.sentry_scope.specs.declared.scope.stack.Stack.{Stack}
+use Rattle.sentry_scope.specs.declared.scope.edit.ScopeEdit.{ScopeEdit}
+use Rattle.sentry_scope.specs.declared.scope.edit.ScopeEdit.TheVariants.{Clear}
+use Rattle.sentry_scope.specs.Scopes.{edit_all, breadcrumb_trail}
+use Rattle.sentry_scope.specs.Stacks.{one_layer}
+use Rattle.sentry_base.specs.Callbacks.{Partial}
+use Rattle.sentry_options.specs.Meanings.{Meanings, call_on_each}
 use Rattle.sentry_engine.specs.Books.{pending_report, with_entry_if_any}
 use Rattle.sentry_engine.specs.Captures.{capture, captured_id, captured_envelopes, message_event}
 use Rattle.sentry_engine.specs.Captures.{capture_named_session, update_along, with_captured_session}

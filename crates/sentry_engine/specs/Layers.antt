@@ -4,7 +4,7 @@ use Rattle.sentry_plain.specs.Tables.{without}
 use Rattle.sentry_base.specs.declared.protocol.keys.ClientKey.{ClientKey}
 use Rattle.sentry_base.specs.declared.protocol.keys.HubKey.{HubKey}
 use Rattle.sentry_base.specs.declared.protocol.refusal.Refusal.TheVariants.{Stale, OutOfOrder, ScopesOpen}
-use Rattle.sentry_state.specs.Stacks.{depth, push, pop, top_alone}
+use Rattle.sentry_scope.specs.Stacks.{depth, push, pop, top_alone}
 use Rattle.sentry_engine.specs.Hubs.{add_hub}
 use Rattle.sentry_engine.specs.SessionEnds.{release_session}
 use Rattle.sentry_engine.specs.Worlds.{World}

@@ -3,7 +3,7 @@ use Rattle.std.specs.Prelude.{ℕ, Option, List, []}
 use Rattle.sentry_base.specs.declared.protocol.client_report.ClientReport.{ClientReport}
 use Rattle.sentry_base.specs.declared.protocol.keys.Label.{Label}
 use Rattle.sentry_base.specs.declared.protocol.refusal.Refusal.TheVariants.{ForeignLosses}
-use Rattle.sentry_parts.specs.LossBooks.{drained_losses, report_point}
+use Rattle.sentry_client_reports.specs.LossBooks.{drained_losses, report_point}
 use Rattle.sentry_engine.specs.Worlds.{World}
 use Rattle.sentry_engine.specs.Outcomes.{Outcome, require, reply_with}
 use Rattle.sentry_engine.specs.Books.{has_book, pending_report, with_entry}

@@ -1,7 +1,8 @@
 -- One call, and a list of calls.
 use Rattle.std.specs.Prelude.{◌≡◌, Bool, true, false, Result, Ok, Err, List, [], ◌∷◌}
 use Rattle.sentry_base.specs.declared.protocol.refusal.Refusal.{Refusal}
-use Rattle.sentry_state.specs.Callbacks.{Partial, Meanings}
+use Rattle.sentry_base.specs.Callbacks.{Partial}
+use Rattle.sentry_options.specs.Meanings.{Meanings}
 use Rattle.sentry_engine.specs.declared.engine.Out.{Out}
 use Rattle.sentry_engine.specs.declared.call.Call.{Call}
 use Rattle.sentry_engine.specs.declared.call.Call.TheVariants.{AddClient, Options, Dsn, IsEnabled, SampleShouldSend, PrepareEvent, ClientCaptureEvent, SendEnvelope, DropClient, TakeReport, Absorb, NewHub, Configure, AddBreadcrumbs, CaptureEvent, CaptureMessage, CaptureError, LastEventId, Client, IsActive, Scope, PushScope, PopScope, NewHubFromTop, ReleaseHub, BindClient, StartSession, EndSessionWithStatus, Flush, ClientCaptureLog, ClientCaptureMetric, Tick, Close, CloneClient, CaptureLog, CaptureMetric}

@@ -4,7 +4,7 @@ use Rattle.sentry_base.specs.declared.protocol.client_report.ClientReport.{Clien
 use Rattle.sentry_base.specs.declared.protocol.envelope.Envelope.{Envelope}
 use Rattle.sentry_base.specs.declared.protocol.keys.ClientKey.{ClientKey}
 use Rattle.sentry_base.specs.declared.protocol.keys.Label.{Label}
-use Rattle.sentry_parts.specs.LossBooks.{report_point}
+use Rattle.sentry_client_reports.specs.LossBooks.{report_point}
 use Rattle.sentry_engine.specs.Books.{pending_report, with_report, with_entry}
 use Rattle.sentry_engine.specs.Outcomes.{Outcome, reply_with}
 use Rattle.sentry_engine.specs.Worlds.{World, ClientState}

@@ -7,7 +7,7 @@ use Rattle.sentry_base.specs.declared.protocol.keys.ClientKey.{ClientKey}
 use Rattle.sentry_base.specs.declared.protocol.keys.SessionKey.{SessionKey}
 use Rattle.sentry_base.specs.declared.protocol.session.SessionStatus.{SessionStatus}
 use Rattle.sentry_base.specs.declared.protocol.session.SessionUpdate.{SessionUpdate}
-use Rattle.sentry_state.specs.Stacks.{names_session}
+use Rattle.sentry_scope.specs.Stacks.{names_session}
 use Rattle.sentry_parts.specs.SessionQueues.{QueueEntry, enqueued, envelopes_on}
 use Rattle.sentry_parts.specs.Sessions.{SessionEntry, closed, session_of, pending_update}
 use Rattle.sentry_engine.specs.declared.engine.Hub.{Hub}

@@ -12,11 +12,11 @@ use Rattle.sentry_base.specs.declared.protocol.losses.Reason.TheVariants as reas
 use Rattle.sentry_base.specs.declared.protocol.metric.Metric.{Metric}
 use Rattle.sentry_base.specs.declared.protocol.metric.MetricDraft.{MetricDraft}
 use Rattle.sentry_base.specs.declared.protocol.refusal.Refusal.TheVariants.{Stale}
-use Rattle.sentry_state.specs.Callbacks.{Meanings}
-use Rattle.sentry_state.specs.declared.scope.Scope.{Scope}
+use Rattle.sentry_options.specs.Meanings.{Meanings}
+use Rattle.sentry_scope.specs.declared.scope.Scope.{Scope}
 use Rattle.sentry_parts.specs.Batches.{BatchEntry, accept, batch_on}
 use Rattle.sentry_parts.specs.DefaultAttributes.{default_log_attributes, default_metric_attributes}
-use Rattle.sentry_parts.specs.LossBooks.{LossEntry, engine_losses}
+use Rattle.sentry_client_reports.specs.LossBooks.{LossEntry, engine_losses}
 use Rattle.sentry_parts.specs.Telemetry.{prepare_log, prepare_metric}
 use Rattle.sentry_engine.specs.declared.engine.Client.{Client}
 use Rattle.sentry_engine.specs.Books.{with_entry}

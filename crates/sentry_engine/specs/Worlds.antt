@@ -3,11 +3,11 @@ use Rattle.std.specs.Prelude.{◌≡◌, ℕ, Bool, List, [], map}
 use Rattle.sentry_base.specs.declared.protocol.keys.Label.{Label}
 use Rattle.sentry_base.specs.declared.protocol.log.Log.{Log}
 use Rattle.sentry_base.specs.declared.protocol.metric.Metric.{Metric}
-use Rattle.sentry_state.specs.declared.clientoptions.ClientOptions.{ClientOptions}
-use Rattle.sentry_state.specs.declared.clientoptions.choices.SessionMode.{SessionMode}
+use Rattle.sentry_options.specs.declared.clientoptions.ClientOptions.{ClientOptions}
+use Rattle.sentry_options.specs.declared.clientoptions.choices.SessionMode.{SessionMode}
 use Rattle.sentry_parts.specs.Batches.{BatchEntry}
 use Rattle.sentry_parts.specs.Batches as batch
-use Rattle.sentry_parts.specs.LossBooks.{LossEntry, book_of}
+use Rattle.sentry_client_reports.specs.LossBooks.{LossEntry, book_of}
 use Rattle.sentry_parts.specs.SessionQueues.{QueueEntry, queue_of}
 use Rattle.sentry_parts.specs.Sessions.{SessionEntry, session_of}
 use Rattle.sentry_parts.specs.declared.os_attributes.OsAttributes.{OsAttributes}

@@ -11,15 +11,15 @@ mod boxed;
 mod replies;
 
 use crate::engine::{Engine, Out};
+use sentry_base::callbacks::EventCallback;
 use sentry_base::dsn::Dsn;
 use sentry_base::protocol::{
     Breadcrumb, ClientKey, ClientReport, Draw, Envelope, ErrorLink, Event, Fresh, HubKey, Label,
     Level, Log, Losses, MetricDraft, Refusal, SampleRate, SessionStatus, Uuid,
 };
+use sentry_options::clientoptions::{Callbacks, ClientOptions};
 use sentry_plain::{Boxed, Items, Shared, Text};
-use sentry_state::callbacks::EventCallback;
-use sentry_state::clientoptions::{Callbacks, ClientOptions};
-use sentry_state::scope::{Scope, ScopeEdit};
+use sentry_scope::scope::{Scope, ScopeEdit};
 use std::alloc::Global;
 
 /// A call of an engine, with its arguments: each variant stands for the method of its name. Large arguments are in

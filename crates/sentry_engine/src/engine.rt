@@ -21,14 +21,14 @@ mod telemetry;
 
 pub use layers::ScopeGuard;
 use sentry_base::protocol::{ClientKey, Envelope, HubKey, Label, Log, Metric, SessionKey, Uuid};
+use sentry_client_reports::client_reports::LossBook;
+use sentry_options::clientoptions::{Callbacks, ClientOptions};
 use sentry_parts::batcher::Batch;
-use sentry_parts::client_reports::LossBook;
 use sentry_parts::os_attributes::OsAttributes;
 use sentry_parts::session::{Session, SessionQueue};
 use sentry_parts::tick::LastTick;
 use sentry_plain::{Items, Shared, Table};
-use sentry_state::clientoptions::{Callbacks, ClientOptions};
-use sentry_state::scope::{Scope, Stack};
+use sentry_scope::scope::{Scope, Stack};
 use std::alloc::{AllocError, Global};
 
 /// The reply of a call, and the envelopes that it hands out, each with the client whose transport is to send it.

@@ -8,7 +8,7 @@ use Rattle.std.specs.Option.{option_or}
 use Rattle.std.specs.Prelude.{nat_le, option_map}
 use Rattle.sentry_base.specs.declared.protocol.envelope.EnvelopeItem.TheVariants as item
 use Rattle.sentry_base.specs.declared.protocol.session.SessionUpdate.{SessionUpdate}
-use Rattle.sentry_state.specs.declared.clientoptions.choices.SessionMode.{SessionMode}
+use Rattle.sentry_options.specs.declared.clientoptions.choices.SessionMode.{SessionMode}
 use Rattle.sentry_parts.specs.SessionLaws.{QueueIsShort}
 use Rattle.sentry_parts.specs.SessionQueues.{QueueEntry, enqueued, flushed, aggregate_cmp, counts_of, is_aggregated, aggregated_updates, individual, is_full, since_flush, oldest, Waiting, what_waits, queue_of, envelopes_of, envelopes_on}
 use Rattle.sentry_parts.specs.QueueSteps.{aggregate, append, nothing, clear, is_last, append_or_clear, envelopes_on_append, enqueue, envelopes_on_enqueue}

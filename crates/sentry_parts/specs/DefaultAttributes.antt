@@ -2,9 +2,9 @@
 use Rattle.std.specs.Prelude.{Option, Some, None, List, [], ◌∷◌, ◌++◌, codes}
 use Rattle.sentry_plain.specs.Defaults.{with_default}
 use Rattle.sentry_plain.specs.Texts.{Bytes}
-use Rattle.sentry_state.specs.Constants.{sdk_name, sdk_version}
-use Rattle.sentry_state.specs.Fills.{Attributes, text_attribute}
-use Rattle.sentry_state.specs.declared.clientoptions.plain.PlainOptions.{PlainOptions}
+use Rattle.sentry_options.specs.Constants.{sdk_name, sdk_version}
+use Rattle.sentry_scope.specs.Fills.{Attributes, text_attribute}
+use Rattle.sentry_options.specs.declared.clientoptions.plain.PlainOptions.{PlainOptions}
 use Rattle.sentry_parts.specs.declared.os_attributes.OsAttributes.{OsAttributes}
 use Rattle.sentry_parts.specs.declared.pipeline.attributes.DefaultAttribute.{DefaultAttribute}
 

@@ -1,12 +1,5 @@
 pub mod Pipeline
 pub mod OsAttributes
-pub mod Reasons
-pub mod LossViews
-pub mod LossWords
-pub mod LossMachine
-pub mod WrongSteps
-pub mod WrittenRun
-pub mod LossBooks
 pub mod Ticks
 pub mod Batches
 pub mod DefaultAttributes

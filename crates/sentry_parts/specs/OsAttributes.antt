@@ -5,8 +5,8 @@ use Rattle.sentry_base.specs.Events.{new_event, nil_id}
 use Rattle.sentry_base.specs.declared.protocol.context.Context.{Context}
 use Rattle.sentry_base.specs.declared.protocol.context.Context.TheVariants.{Os}
 use Rattle.sentry_base.specs.declared.protocol.event.Event.{Event}
-use Rattle.sentry_state.specs.declared.clientoptions.ClientOptions.{ClientOptions}
-use Rattle.sentry_state.specs.Callbacks.{Meanings, enrich_by_all}
+use Rattle.sentry_options.specs.declared.clientoptions.ClientOptions.{ClientOptions}
+use Rattle.sentry_options.specs.Meanings.{Meanings, enrich_by_all}
 use Rattle.sentry_parts.specs.declared.os_attributes.OsAttributes.{OsAttributes}
 
 -- what a context says of the operating system

@@ -5,14 +5,16 @@ use Rattle.std.specs.Str.{bytes_eq}
 use Rattle.sentry_base.specs.Events.{is_nil}
 use Rattle.sentry_base.specs.declared.protocol.event.Event.{Event}
 use Rattle.sentry_base.specs.declared.protocol.sdk.ClientSdkInfo.{ClientSdkInfo}
-use Rattle.sentry_state.specs.declared.scope.Scope.{Scope}
-use Rattle.sentry_state.specs.declared.clientoptions.plain.PlainOptions.{PlainOptions}
-use Rattle.sentry_state.specs.declared.clientoptions.ClientOptions.{ClientOptions}
-use Rattle.sentry_state.specs.Constants.{sdk_name, sdk_version, sdk_package_name}
-use Rattle.sentry_state.specs.Callbacks.{Partial, Meanings, process_all, process_by_all, call_if_any}
-use Rattle.sentry_state.specs.Scopes.{fill}
-use Rattle.sentry_state.specs.declared.clientoptions.choices.EventSamplingStrategy.{EventSamplingStrategy}
-use Rattle.sentry_state.specs.declared.clientoptions.choices.EventSamplingStrategy.TheVariants.{FixedRate}
+use Rattle.sentry_scope.specs.declared.scope.Scope.{Scope}
+use Rattle.sentry_options.specs.declared.clientoptions.plain.PlainOptions.{PlainOptions}
+use Rattle.sentry_options.specs.declared.clientoptions.ClientOptions.{ClientOptions}
+use Rattle.sentry_options.specs.Constants.{sdk_name, sdk_version, sdk_package_name}
+use Rattle.sentry_base.specs.Callbacks.{Partial}
+use Rattle.sentry_scope.specs.Scopes.{process_all}
+use Rattle.sentry_options.specs.Meanings.{Meanings, process_by_all, call_if_any}
+use Rattle.sentry_scope.specs.Scopes.{fill}
+use Rattle.sentry_options.specs.declared.clientoptions.choices.EventSamplingStrategy.{EventSamplingStrategy}
+use Rattle.sentry_options.specs.declared.clientoptions.choices.EventSamplingStrategy.TheVariants.{FixedRate}
 use Rattle.sentry_base.specs.declared.protocol.fresh.Fresh.{Fresh}
 use Rattle.sentry_base.specs.declared.protocol.losses.Reason.{Reason}
 use Rattle.sentry_base.specs.declared.protocol.losses.Reason.TheVariants as reason

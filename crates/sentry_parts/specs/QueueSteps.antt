@@ -6,7 +6,7 @@ use Rattle.std.specs.Map.{lookup}
 use Rattle.sentry_base.specs.declared.protocol.envelope.Envelope.{Envelope}
 use Rattle.sentry_base.specs.declared.protocol.envelope.EnvelopeItem.TheVariants as item
 use Rattle.sentry_base.specs.declared.protocol.session.SessionUpdate.{SessionUpdate}
-use Rattle.sentry_state.specs.declared.clientoptions.choices.SessionMode.{SessionMode}
+use Rattle.sentry_options.specs.declared.clientoptions.choices.SessionMode.{SessionMode}
 use Rattle.sentry_parts.specs.SessionQueues.{Waiting, aggregate_cmp, key_of, has_exited, has_errored, was_abnormal, has_crashed, is_aggregated, envelopes_of}
 use Rattle.sentry_parts.specs.declared.session.aggregates.AggregateCounts.{AggregateCounts}
 use Rattle.sentry_parts.specs.declared.session.aggregates.AggregateKey.{AggregateKey}

@@ -2,7 +2,7 @@
 use Rattle.std.specs.Prelude.{◌≡◌, ◌≢◌, ◌<◌, List, ◌++◌, length}
 use Rattle.sentry_base.specs.declared.protocol.session.SessionStatus.TheVariants as session_status
 use Rattle.sentry_parts.specs.declared.session.record.SessionStart.{SessionStart}
-use Rattle.sentry_state.specs.declared.clientoptions.choices.SessionMode.{SessionMode}
+use Rattle.sentry_options.specs.declared.clientoptions.choices.SessionMode.{SessionMode}
 use Rattle.sentry_parts.specs.Sessions.{SessionEntry, session_of}
 use Rattle.sentry_parts.specs.SessionQueues.{QueueEntry, queue_of}
 use Rattle.sentry_parts.specs.declared.session.aggregates.TheConstants.{MAX_INDIVIDUAL}

@@ -15,8 +15,8 @@ use Rattle.sentry_base.specs.declared.protocol.session.SessionAttributes.{Sessio
 use Rattle.sentry_base.specs.declared.protocol.session.SessionStatus.{SessionStatus}
 use Rattle.sentry_base.specs.declared.protocol.session.SessionStatus.TheVariants as session_status
 use Rattle.sentry_base.specs.declared.protocol.session.SessionUpdate.{SessionUpdate}
-use Rattle.sentry_state.specs.declared.clientoptions.choices.SessionMode.{SessionMode}
-use Rattle.sentry_state.specs.declared.clientoptions.choices.SessionMode.TheVariants as session_mode
+use Rattle.sentry_options.specs.declared.clientoptions.choices.SessionMode.{SessionMode}
+use Rattle.sentry_options.specs.declared.clientoptions.choices.SessionMode.TheVariants as session_mode
 use Rattle.sentry_parts.specs.AggregateOrder.{minute_cmp}
 use Rattle.sentry_parts.specs.declared.session.aggregates.AggregateCounts.{AggregateCounts}
 use Rattle.sentry_parts.specs.declared.session.aggregates.AggregateKey.{AggregateKey}

@@ -12,7 +12,7 @@ use Rattle.sentry_base.specs.declared.protocol.session.SessionStatus.TheVariants
 use Rattle.sentry_base.specs.declared.protocol.session.SessionUpdate.{SessionUpdate}
 use Rattle.sentry_base.specs.declared.protocol.user.User.{User}
 use Rattle.sentry_plain.specs.Texts.{Bytes}
-use Rattle.sentry_state.specs.declared.clientoptions.plain.PlainOptions.{PlainOptions}
+use Rattle.sentry_options.specs.declared.clientoptions.plain.PlainOptions.{PlainOptions}
 use Rattle.sentry_parts.specs.declared.session.record.Session.{Session}
 use Rattle.sentry_parts.specs.declared.session.record.SessionStart.{SessionStart}
 

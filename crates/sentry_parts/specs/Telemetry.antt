@@ -2,10 +2,10 @@
 use Rattle.std.specs.Prelude.{Bool, Option, List}
 use Rattle.sentry_base.specs.declared.protocol.log.Log.{Log}
 use Rattle.sentry_base.specs.declared.protocol.metric.Metric.{Metric}
-use Rattle.sentry_state.specs.declared.clientoptions.ClientOptions.{ClientOptions}
-use Rattle.sentry_state.specs.declared.scope.Scope.{Scope}
-use Rattle.sentry_state.specs.Callbacks.{Meanings, call_on_item}
-use Rattle.sentry_state.specs.Fills.{fill_log, fill_metric}
+use Rattle.sentry_options.specs.declared.clientoptions.ClientOptions.{ClientOptions}
+use Rattle.sentry_scope.specs.declared.scope.Scope.{Scope}
+use Rattle.sentry_options.specs.Meanings.{Meanings, call_on_item}
+use Rattle.sentry_scope.specs.Fills.{fill_log, fill_metric}
 use Rattle.sentry_parts.specs.DefaultAttributes.{fill_defaults}
 use Rattle.sentry_parts.specs.declared.pipeline.attributes.DefaultAttribute.{DefaultAttribute}
 

@@ -2,7 +2,6 @@
 #![tactic(auto)]
 
 pub mod batcher;
-pub mod client_reports;
 pub mod metrics;
 pub mod os_attributes;
 pub mod pipeline;

@@ -3,8 +3,8 @@ ghost use Rattle.std.specs.Prelude.{◌≡◌, IfOk, option_copied};
 ghost use Rattle.sentry_parts.specs.OsAttributes.{os_of, enriched_event, os_attributes};
 
 use sentry_base::protocol::{Context, Event, Uuid};
+use sentry_options::clientoptions::{Callbacks, ClientOptions};
 use sentry_plain::Text;
-use sentry_state::clientoptions::{Callbacks, ClientOptions};
 use std::alloc::{AllocError, Global};
 
 /// The name and the version of the operating system, as far as they are known.

@@ -8,12 +8,14 @@ mod attributes;
 mod telemetry;
 
 pub use attributes::{DefaultAttribute, default_log_attributes, default_metric_attributes};
+use sentry_base::callbacks::EventCallback;
 use sentry_base::protocol::{ClientSdkInfo, ClientSdkPackage, Draw, Event, Fresh, Reason, Uuid};
+use sentry_options::clientoptions::{
+    Callbacks, ClientOptions, EventSamplingStrategy, PlainOptions,
+};
+use sentry_options::constants::{PACKAGE_NAME, SDK_NAME, VERSION};
 use sentry_plain::{Items, Text};
-use sentry_state::callbacks::EventCallback;
-use sentry_state::clientoptions::{Callbacks, ClientOptions, EventSamplingStrategy, PlainOptions};
-use sentry_state::constants::{PACKAGE_NAME, SDK_NAME, VERSION};
-use sentry_state::scope::Scope;
+use sentry_scope::scope::Scope;
 use std::alloc::{AllocError, Global};
 pub use telemetry::{prepare_log, prepare_metric};
 

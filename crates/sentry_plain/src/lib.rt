@@ -9,6 +9,7 @@ mod shared;
 mod table;
 mod text;
 mod text_map;
+mod texts;
 mod value;
 
 pub use boxed::Boxed;
@@ -18,4 +19,5 @@ pub use shared::Shared;
 pub use table::Table;
 pub use text::Text;
 pub use text_map::TextMap;
+pub use texts::copy_texts;
 pub use value::{Value, ValueMap, Values};

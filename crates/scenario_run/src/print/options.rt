@@ -2,7 +2,7 @@
 use crate::callbacks::Callbacks;
 use crate::print::Shown;
 use crate::print::lists::{NONE, push_labeled};
-use sentry_state::clientoptions::{
+use sentry_options::clientoptions::{
     ClientOptions, EventSamplingStrategy, SessionMode, TracesSamplingStrategy,
 };
 use std::alloc::AllocError;

@@ -3,9 +3,9 @@ use crate::call::Reply;
 use crate::engine::ScopeGuard;
 use sentry_base::dsn::Dsn;
 use sentry_base::protocol::{ClientKey, ClientReport, Event, HubKey, Uuid};
+use sentry_options::clientoptions::ClientOptions;
 use sentry_plain::{Boxed, Shared};
-use sentry_state::clientoptions::ClientOptions;
-use sentry_state::scope::Scope;
+use sentry_scope::scope::Scope;
 
 impl<P, C> From<ClientKey> for Reply<P, C> {
     ghost use Rattle.std.specs.Prelude.{◌≡◌};

@@ -1,6 +1,6 @@
 //! The losses of labels, and the calls on them.
 ghost use Rattle.std.specs.Prelude.{◌≡◌, IfOk, IfErr, OnOk, OnErr, Ok};
-ghost use Rattle.sentry_parts.specs.LossBooks.{drained_losses, report_point};
+ghost use Rattle.sentry_client_reports.specs.LossBooks.{drained_losses, report_point};
 ghost use Rattle.sentry_engine.specs.Worlds.{World, Stands};
 ghost use Rattle.sentry_engine.specs.Outcomes.{Does, DoesWithoutMemory};
 ghost use Rattle.sentry_engine.specs.Books.{has_book, pending_report, with_entry};
@@ -10,8 +10,8 @@ ghost use Rattle.sentry_engine.specs.Losses as call;
 
 use crate::engine::{Engine, Out};
 use sentry_base::protocol::{Category, ClientReport, Label, Losses, Reason, Refusal};
-use sentry_parts::client_reports::{Drained, LossBook};
-use sentry_state::clientoptions::Callbacks;
+use sentry_client_reports::client_reports::{Drained, LossBook};
+use sentry_options::clientoptions::Callbacks;
 use std::alloc::AllocError;
 
 impl<P: Drop, C: Callbacks> Engine<P, C> {

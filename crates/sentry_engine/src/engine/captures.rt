@@ -15,16 +15,16 @@ ghost use Rattle.sentry_base.specs.Envelopes.{empty_envelope, with_item};
 ghost use Rattle.sentry_base.specs.declared.protocol.envelope.EnvelopeItem.TheVariants as item;
 
 use crate::engine::{Client, Engine};
+use sentry_base::callbacks::EventCallback;
 use sentry_base::protocol::{
     Attachment, ClientKey, ClientReport, Envelope, EnvelopeHeaders, EnvelopeItem, Event, Fresh,
     Label, SessionKey, SessionUpdate, Uuid,
 };
+use sentry_options::clientoptions::{Callbacks, SessionMode};
 use sentry_parts::pipeline::{Preparation, prepare_event};
 use sentry_parts::session::Session;
 use sentry_plain::{Boxed, Items};
-use sentry_state::callbacks::EventCallback;
-use sentry_state::clientoptions::{Callbacks, SessionMode};
-use sentry_state::scope::Scope;
+use sentry_scope::scope::Scope;
 use std::alloc::{AllocError, Global};
 
 // Runs a captured event through the pipeline, in place: the event that came through all callbacks is left, or `None`.

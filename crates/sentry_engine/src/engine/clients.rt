@@ -2,7 +2,7 @@
 ghost use Rattle.std.specs.List.{list_any};
 ghost use Rattle.std.specs.Prelude.{◌≡◌, IfOk, OnOk, OnErr, Ok, Some, [], nat_lt};
 ghost use Rattle.sentry_plain.specs.Tables.{value_at, put, replace_at, without};
-ghost use Rattle.sentry_state.specs.Stacks.{is_client};
+ghost use Rattle.sentry_scope.specs.Stacks.{is_client};
 ghost use Rattle.sentry_engine.specs.Worlds.{World, ClientState, Stands, plain_client, plain_queues};
 ghost use Rattle.sentry_engine.specs.Books.{with_book, is_label, without_unused_book};
 ghost use Rattle.sentry_engine.specs.Outcomes.{Does, DoesWithoutMemory, client_at};
@@ -13,20 +13,20 @@ ghost use Rattle.sentry_engine.specs.Clients as call;
 use crate::engine::captures::{add_report, capture, captured_id, drop_unsent, into_box};
 use crate::engine::flushes::Flush;
 use crate::engine::{Client, Engine, Hub, Out, Queues};
+use sentry_base::callbacks::EventCallback;
 use sentry_base::dsn::Dsn;
 use sentry_base::protocol::{
     ClientKey, Draw, Envelope, Event, Fresh, Label, Refusal, SampleRate, Uuid,
 };
+use sentry_client_reports::client_reports::LossBook;
+use sentry_options::clientoptions::{Callbacks, ClientOptions, SessionMode};
 use sentry_parts::batcher::Batch;
-use sentry_parts::client_reports::LossBook;
 use sentry_parts::os_attributes::os_attributes;
 use sentry_parts::pipeline::prepare_event;
 use sentry_parts::session::{Session, SessionQueue};
 use sentry_parts::tick::LastTick;
 use sentry_plain::{Boxed, Items, Shared, Table};
-use sentry_state::callbacks::EventCallback;
-use sentry_state::clientoptions::{Callbacks, ClientOptions, SessionMode};
-use sentry_state::scope::Scope;
+use sentry_scope::scope::Scope;
 use std::alloc::{AllocError, Global};
 
 // A share of the options, after the `setup` of their integrations.

@@ -2,7 +2,7 @@
 ghost use Rattle.std.specs.Prelude.{◌≡◌, false, IfOk, OnErr, Some, None};
 ghost use Rattle.sentry_engine.specs.declared.engine.flushes.Flush.{Flush};
 ghost use Rattle.sentry_plain.specs.Tables.{value_at, replace_at};
-ghost use Rattle.sentry_state.specs.declared.clientoptions.choices.SessionMode.{SessionMode};
+ghost use Rattle.sentry_options.specs.declared.clientoptions.choices.SessionMode.{SessionMode};
 ghost use Rattle.sentry_engine.specs.Clients as call;
 ghost use Rattle.sentry_engine.specs.declared.engine.flushes.Flush.TheVariants.{All, Due};
 ghost use Rattle.sentry_engine.specs.Flushes.{is_flushed, is_closing, session_envelopes, flushed_logs, flushed_metrics};
@@ -13,9 +13,9 @@ ghost use Rattle.sentry_engine.specs.Worlds.{World, ClientState, QueueHistories,
 use crate::engine::flushes::{Batches, Flush, SESSION_INTERVAL};
 use crate::engine::{Client, Engine, Out, Queues};
 use sentry_base::protocol::{ClientKey, Envelope, Log, Metric, Refusal};
+use sentry_options::clientoptions::Callbacks;
 use sentry_parts::tick::LastTick;
 use sentry_plain::Items;
-use sentry_state::clientoptions::Callbacks;
 use std::alloc::{AllocError, Global};
 
 impl Flush {

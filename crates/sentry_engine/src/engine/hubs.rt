@@ -2,7 +2,7 @@
 ghost use Rattle.std.specs.Prelude.{◌≡◌, ◌<◌, ℕ, true, false, ◌-◌, ◌^◌, nat_lt, IfOk, IfErr, OnOk, OnErr, Some, [], ◌∷◌, is_some, if◌then◌else◌};
 ghost use Rattle.std.specs.Bool.{OnTrue};
 ghost use Rattle.sentry_plain.specs.Tables.{value_at, replace_at};
-ghost use Rattle.sentry_state.specs.Scopes.{edit};
+ghost use Rattle.sentry_scope.specs.Scopes.{edit};
 ghost use Rattle.sentry_engine.specs.declared.engine.Hub.{Hub};
 ghost use Rattle.sentry_engine.specs.Worlds.{World, Stands};
 ghost use Rattle.sentry_engine.specs.Outcomes.{Does, DoesWithoutMemory, hub_at, with_scope};
@@ -14,14 +14,14 @@ ghost use Rattle.sentry_engine.specs.Hubs as call;
 
 use crate::engine::captures::{capture, captured_id, drop_unsent, takes_update};
 use crate::engine::{Engine, Hub, Out};
+use sentry_base::callbacks::EventCallback;
 use sentry_base::protocol::{
     Breadcrumb, ClientKey, ErrorLink, Event, Fresh, HubKey, Level, Refusal, Uuid,
 };
 use sentry_base::utils::event_from_error;
+use sentry_options::clientoptions::Callbacks;
 use sentry_plain::{Boxed, Items, Text};
-use sentry_state::callbacks::EventCallback;
-use sentry_state::clientoptions::Callbacks;
-use sentry_state::scope::{Scope, ScopeEdit, Stack};
+use sentry_scope::scope::{Scope, ScopeEdit, Stack};
 use std::alloc::{AllocError, Global};
 
 // The event of a message, as an event that is to be captured.

@@ -1,7 +1,7 @@
 //! The calls on the layers of hubs.
 ghost use Rattle.std.specs.Prelude.{◌≡◌, IfOk, IfErr, OnErr, Some};
 ghost use Rattle.sentry_plain.specs.Tables.{value_at, replace_at};
-ghost use Rattle.sentry_state.specs.Stacks.{depth, push, pop};
+ghost use Rattle.sentry_scope.specs.Stacks.{depth, push, pop};
 ghost use Rattle.sentry_engine.specs.declared.engine.Hub.{Hub};
 ghost use Rattle.sentry_engine.specs.Worlds.{World, Stands};
 ghost use Rattle.sentry_engine.specs.Outcomes.{Does, DoesWithoutMemory, with_stack, with_client};
@@ -10,8 +10,8 @@ ghost use Rattle.sentry_engine.specs.Layers as call;
 
 use crate::engine::{Engine, Hub, Out};
 use sentry_base::protocol::{ClientKey, HubKey, Refusal};
-use sentry_state::clientoptions::Callbacks;
-use sentry_state::scope::Stack;
+use sentry_options::clientoptions::Callbacks;
+use sentry_scope::scope::Stack;
 use std::alloc::AllocError;
 use std::marker::Model;
 

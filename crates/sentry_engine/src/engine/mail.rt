@@ -14,8 +14,8 @@ use crate::engine::flushes::Batches;
 use sentry_base::protocol::{
     ClientKey, ClientReport, Envelope, EnvelopeHeaders, EnvelopeItem, Label, Log, Metric,
 };
+use sentry_options::clientoptions::Callbacks;
 use sentry_plain::Items;
-use sentry_state::clientoptions::Callbacks;
 use std::alloc::{AllocError, Global};
 
 // Envelopes of a client, with room for one of logs and for one of metrics, which takes no more memory.

@@ -7,8 +7,8 @@ ghost use Rattle.sentry_engine.specs.Sending.{address, envelopes_from, after_sen
 use crate::engine::Engine;
 use crate::engine::captures::add_report;
 use sentry_base::protocol::{ClientKey, ClientReport, Envelope, Label};
+use sentry_options::clientoptions::Callbacks;
 use sentry_plain::Items;
-use sentry_state::clientoptions::Callbacks;
 use std::alloc::{AllocError, Global};
 
 // Gives the envelopes the client that is to send them, and the first of them the report.

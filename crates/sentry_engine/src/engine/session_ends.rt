@@ -10,8 +10,8 @@ ghost use Rattle.sentry_engine.specs.SessionEnds.{with_session, with_client_entr
 
 use crate::engine::{Engine, Hub};
 use sentry_base::protocol::{ClientKey, Envelope, SessionKey, SessionStatus, SessionUpdate};
+use sentry_options::clientoptions::Callbacks;
 use sentry_plain::{Items, Table};
-use sentry_state::clientoptions::Callbacks;
 use std::alloc::AllocError;
 
 // Whether a layer of a hub names the session.

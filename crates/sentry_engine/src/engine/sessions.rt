@@ -15,9 +15,9 @@ use crate::engine::{Engine, Out};
 use sentry_base::protocol::{
     ClientKey, Envelope, Fresh, HubKey, Refusal, SessionKey, SessionStatus,
 };
+use sentry_options::clientoptions::Callbacks;
 use sentry_parts::session::Session;
 use sentry_plain::Items;
-use sentry_state::clientoptions::Callbacks;
 use std::alloc::AllocError;
 
 impl<P: Drop, C: Callbacks> Engine<P, C> {

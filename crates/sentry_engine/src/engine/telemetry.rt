@@ -14,13 +14,13 @@ use crate::engine::{Client, Engine, Out};
 use sentry_base::protocol::{
     Category, ClientKey, Envelope, HubKey, Label, Log, Losses, Metric, MetricDraft, Reason, Refusal,
 };
+use sentry_options::clientoptions::Callbacks;
 use sentry_parts::batcher::BATCH_ITEMS;
 use sentry_parts::pipeline::{
     default_log_attributes, default_metric_attributes, prepare_log, prepare_metric,
 };
 use sentry_plain::Items;
-use sentry_state::clientoptions::Callbacks;
-use sentry_state::scope::Scope;
+use sentry_scope::scope::Scope;
 use std::alloc::{AllocError, Global};
 
 // The log as a client would send it, or `None` if its callback drops it.

@@ -1,14 +1,14 @@
 //! The attributes that a client gives to each log and metric that lacks them.
 ghost use Rattle.std.specs.Prelude.{◌≡◌, ◌++◌, ◌∷◌, [], IfOk, OnOk};
-ghost use Rattle.sentry_state.specs.Fills.{KeepsOwn};
+ghost use Rattle.sentry_scope.specs.Fills.{KeepsOwn};
 ghost use Rattle.sentry_parts.specs.DefaultAttributes.{default_of, default_if_any, default_metric_attributes, default_log_attributes, fill_defaults};
 
 use crate::os_attributes::OsAttributes;
 use sentry_base::protocol::LogAttribute;
+use sentry_options::clientoptions::PlainOptions;
+use sentry_options::constants::{SDK_NAME, VERSION};
 use sentry_plain::{Items, Text, TextMap};
-use sentry_state::attributes::put_if_absent;
-use sentry_state::clientoptions::PlainOptions;
-use sentry_state::constants::{SDK_NAME, VERSION};
+use sentry_scope::attributes::put_if_absent;
 use std::alloc::{AllocError, Global};
 
 /// A text that a client gives to each log or metric that has no attribute of this key.

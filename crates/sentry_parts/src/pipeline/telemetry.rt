@@ -4,9 +4,9 @@ ghost use Rattle.sentry_parts.specs.Telemetry.{prepare_log, prepare_metric};
 
 use crate::pipeline::attributes::{DefaultAttribute, fill_defaults};
 use sentry_base::protocol::{Log, Metric};
+use sentry_options::clientoptions::{Callbacks, ClientOptions};
 use sentry_plain::Items;
-use sentry_state::clientoptions::{Callbacks, ClientOptions};
-use sentry_state::scope::Scope;
+use sentry_scope::scope::Scope;
 use std::alloc::{AllocError, Global};
 
 /// Prepares a log for sending: it goes under the scope, gets the default attributes that it lacks, and goes through

@@ -12,8 +12,8 @@ use crate::session::record::{Session, SessionStart};
 use sentry_base::protocol::{
     ClientKey, Event, SessionAttributes, SessionStatus, SessionUpdate, User, Uuid,
 };
+use sentry_options::clientoptions::PlainOptions;
 use sentry_plain::{Shared, Text};
-use sentry_state::clientoptions::PlainOptions;
 use std::alloc::{AllocError, Global};
 
 // The first of the texts that is there.

@@ -1,7 +1,7 @@
 //! The ended sessions of a client that wait to be sent.
 ghost use Rattle.std.specs.Prelude.{◌≡◌, ◌∷◌, ◌++◌, [], List, IfOk, OnOk, OnErr, option_map};
 ghost use Rattle.sentry_base.specs.declared.protocol.envelope.EnvelopeItem.{EnvelopeItem};
-ghost use Rattle.sentry_state.specs.declared.clientoptions.choices.SessionMode.{SessionMode};
+ghost use Rattle.sentry_options.specs.declared.clientoptions.choices.SessionMode.{SessionMode};
 ghost use Rattle.sentry_parts.specs.SessionQueues.{Waiting, QueueEntry, enqueued, flushed, queue_of, is_aggregated};
 ghost use Rattle.sentry_parts.specs.SessionQueues.{aggregates_of, aggregates_items, envelope_if_any};
 ghost use Rattle.sentry_parts.specs.SessionQueues.{envelopes_of, envelopes_on};
@@ -12,8 +12,8 @@ use crate::session::counting::{aggregate_items, count};
 use sentry_base::protocol::{
     Envelope, EnvelopeItem, SessionAggregates, SessionAttributes, SessionUpdate,
 };
+use sentry_options::clientoptions::SessionMode;
 use sentry_plain::Items;
-use sentry_state::clientoptions::SessionMode;
 use std::alloc::{AllocError, Global};
 use std::collections::BTreeMap;
 use std::marker::Model;

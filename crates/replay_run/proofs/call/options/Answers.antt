@@ -1,5 +1,5 @@
 use Rattle.std.proofs.Common.{Some}
-use Rattle.sentry_state.specs.Options.{default_options_with}
+use Rattle.sentry_options.specs.Options.{default_options_with}
 use Rattle.replay_run.proofs.call.options.Goals as goal
 
 pub returns : goal.returns

@@ -1,6 +1,6 @@
 use Rattle.std.proofs.Common.{◌≡◌, ◌∙◌, ap, refl, sym, subst, Some, None}
 use Rattle.sentry_plain.specs.Tables.{value_at}
-use Rattle.sentry_state.specs.Scopes.{edit_all}
+use Rattle.sentry_scope.specs.Scopes.{edit_all}
 use Rattle.sentry_engine.specs.Outcomes.{hub_at, with_hub, with_scope}
 use Rattle.sentry_engine.specs.SessionEnds.{release_session, with_session}
 use Rattle.sentry_engine.specs.Worlds.{World, Stands}

@@ -1,7 +1,7 @@
 use Rattle.std.proofs.Common.{◌≡◌, ◌∙◌, ap, refl, sym, subst, Some, None, true, rules}
 use Rattle.std.specs.Prelude.{nat_lt, ◌==◌}
 use Rattle.sentry_plain.specs.Tables.{value_at}
-use Rattle.sentry_state.specs.Stacks.{depth}
+use Rattle.sentry_scope.specs.Stacks.{depth}
 use Rattle.sentry_engine.specs.Outcomes.{hub_at, with_hub, with_stack}
 use Rattle.sentry_engine.specs.SessionEnds.{release_session, with_session}
 use Rattle.sentry_engine.specs.Worlds.{World, Stands}

@@ -1,5 +1,5 @@
 use Rattle.std.proofs.Common.{sym, ap, ◌∙◌, ◌∷◌}
-use Rattle.sentry_parts.specs.LossBooks.{book_of, engine_losses}
+use Rattle.sentry_client_reports.specs.LossBooks.{book_of, engine_losses}
 use Rattle.sentry_engine.proofs.Keeping.{entry_present}
 use Rattle.sentry_engine.proofs.engine.Engine.record_dropped.Goals as goal
 

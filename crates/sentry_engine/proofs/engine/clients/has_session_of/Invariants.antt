@@ -1,6 +1,6 @@
 use Rattle.std.proofs.Common.{◌≡◌, Some}
 use Rattle.std.specs.List.{list_any}
-use Rattle.sentry_state.specs.Stacks.{is_client}
+use Rattle.sentry_scope.specs.Stacks.{is_client}
 use Rattle.sentry_engine.proofs.engine.clients.has_session_of.Given as goal
 
 -- the sessions that are left decide

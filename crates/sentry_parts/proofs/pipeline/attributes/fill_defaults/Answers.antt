@@ -2,7 +2,7 @@ use Rattle.std.proofs.Common.{◌≡◌, ◌<◌, ◌+◌, ◌∙◌, ℕ, List,
 use Rattle.std.proofs.lemmas.List.{at_drop_more}
 use Rattle.sentry_plain.specs.Defaults.{with_default}
 use Rattle.sentry_plain.specs.Texts.{Bytes}
-use Rattle.sentry_state.specs.Fills.{Attributes, text_attribute}
+use Rattle.sentry_scope.specs.Fills.{Attributes, text_attribute}
 use Rattle.sentry_parts.specs.DefaultAttributes.{fill_defaults}
 use Rattle.sentry_parts.specs.declared.pipeline.attributes.DefaultAttribute.{DefaultAttribute}
 use Rattle.sentry_parts.proofs.pipeline.attributes.fill_defaults.Goals as goal

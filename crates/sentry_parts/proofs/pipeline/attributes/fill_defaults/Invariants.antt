@@ -1,5 +1,5 @@
 use Rattle.std.proofs.Common.{◌≡◌, drop}
-use Rattle.sentry_state.specs.Fills.{KeepsOwn}
+use Rattle.sentry_scope.specs.Fills.{KeepsOwn}
 use Rattle.sentry_parts.specs.DefaultAttributes.{fill_defaults}
 use Rattle.sentry_parts.proofs.pipeline.attributes.fill_defaults.Given as goal
 
