@@ -29,7 +29,7 @@ const LISTS: [Headers; 2] = [
 ];
 
 /// How many of the calls find the organization.
-pub fn read(calls: u32) -> u32 {
+pub fn read(calls: u64) -> u32 {
     let mut found = 0u32;
     for call in 0..calls {
         let headers = if call % 2 == 0 { &LISTS[0] } else { &LISTS[1] };
@@ -49,7 +49,7 @@ fn names_organization(context: Option<TracePropagationContext>) -> bool {
 }
 
 /// In how many of the calls a scan of the same bytes finds one byte, which is another in each call.
-pub fn scan(calls: u32) -> u32 {
+pub fn scan(calls: u64) -> u32 {
     let mut found = 0u32;
     for call in 0..calls {
         let headers = if call % 2 == 0 { &LISTS[0] } else { &LISTS[1] };

@@ -20,29 +20,26 @@ fn word_at(words: &[String], place: usize) -> &str {
     words.get(place).map_or("", |word| word.as_str())
 }
 
-/// The losses that threads record, with or without a drainer beside them.
-fn run_losses(rt: HostRuntime, words: &[String]) -> io::Result<()> {
-    let threads = number_at(words, 2);
-    let times = number_at(words, 3);
-    match count_losses(&rt, rt.alloc(), threads, times, number_at(words, 4)) {
-        Ok(Some(counted)) => println!(rt; "{threads} x {times} losses: {counted}"),
-        Ok(None) => println!(rt; "the words could not be closed"),
-        Err(Refusal::OutOfMemory) => println!(rt; "out of memory"),
-        Err(_) => println!(rt; "refused"),
-    }
-}
-
 fn main(rt: HostRuntime) -> io::Result<()> {
     let mut arguments = Vec::new(rt.alloc());
     for word in env::args(&rt)? {
         arguments.push(word)?;
     }
     let words = arguments.as_slice();
-    let calls = number_at(words, 2) as u32;
+    let number = number_at(words, 2);
     match word_at(words, 1) {
-        "read" => println!(rt; "{calls} calls, {} found", headers::read(calls)),
-        "scan" => println!(rt; "{calls} calls, {} found", headers::scan(calls)),
-        "losses" => run_losses(rt, words),
+        "read" => println!(rt; "{number} calls, {} found", headers::read(number)),
+        "scan" => println!(rt; "{number} calls, {} found", headers::scan(number)),
+        "losses" => {
+            let times = number_at(words, 3);
+            let drains = number_at(words, 4);
+            match count_losses(&rt, rt.alloc(), number, times, drains) {
+                Ok(Some(counted)) => println!(rt; "{number} x {times} losses: {counted}"),
+                Ok(None) => println!(rt; "the words could not be closed"),
+                Err(Refusal::OutOfMemory) => println!(rt; "out of memory"),
+                Err(_) => println!(rt; "refused"),
+            }
+        }
         other => println!(rt; "no such loop: {other}"),
     }
 }

@@ -9,7 +9,8 @@ use Rattle.sentry_plain.specs.Texts.{Bytes}
 use Rattle.sentry_base.specs.declared.protocol.level.Level.{Level}
 use Rattle.replay_run.specs.declared.command.Command.{Command}
 use Rattle.replay_run.specs.declared.command.Command.TheVariants.{Client, Hub, Tag, Message, Empty, Release, Session, End, Flush, Log, Close}
-use Rattle.replay_run.specs.Commands.{IsWord, IsNumber, IsRelease, HasForm, level_word}
+use Rattle.replay_print.specs.Printing.{level_word}
+use Rattle.replay_run.specs.Commands.{IsWord, IsNumber, IsRelease, HasForm}
 use Rattle.replay_run.specs.Reading.{◌>>=◌, cut, is_word, number_of, level_of, client_of, hub_of, tag_of, message_of, empty_of, release_of, session_of, end_of, flush_of, log_of, close_of, form_of, command_of}
 use Rattle.replay_run.proofs.ReadingLemmas.{cut-solid, cut_some, number_some, number-is, number_solid, level_some, level-is, level_solid, is_word_some, is_word-is}
 

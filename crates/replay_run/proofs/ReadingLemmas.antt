@@ -16,7 +16,8 @@ use Rattle.sentry_plain.specs.Texts.{Bytes}
 use Rattle.sentry_base.specs.declared.protocol.level.Level.{Level}
 use Rattle.sentry_base.specs.declared.protocol.level.Level.TheVariants.{Debug, Info, Warning, Error, Fatal}
 use Rattle.replay_run.specs.Reading.{cut, is_word, number_of, level_of}
-use Rattle.replay_run.specs.Commands.{IsWord, IsNumber, level_word}
+use Rattle.replay_print.specs.Printing.{level_word}
+use Rattle.replay_run.specs.Commands.{IsWord, IsNumber}
 
 -- no space
 abbrev pub Solid : Bytes → Type 0

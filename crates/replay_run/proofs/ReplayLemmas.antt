@@ -13,7 +13,7 @@ use Rattle.replay_run.specs.Commands.{Spells}
 use Rattle.replay_run.specs.Engines.{ReplayEngine, ReplayWorld, ReplayAnswer}
 use Rattle.replay_run.specs.Faults.{ReplayEnd}
 use Rattle.replay_run.specs.Lines.{lines_of, TakesLine}
-use Rattle.replay_run.specs.Printing.{answer_text}
+use Rattle.replay_run.specs.Answers.{answer_text}
 use Rattle.replay_run.specs.Replays.{next_number, MayAnswer, Prints, Replays, at_end, after_line, at_bad_line, out_of_memory, ExecutesLine, Writes}
 
 -- the number of the line after so many

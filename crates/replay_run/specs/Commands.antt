@@ -4,8 +4,7 @@ use Rattle.std.specs.List.{AllByRecursion}
 use Rattle.std.specs.Str.{IsUtf8}
 use Rattle.std.specs.Str.Parse.{IsNumeral, digits_value}
 use Rattle.sentry_plain.specs.Texts.{Bytes}
-use Rattle.sentry_base.specs.declared.protocol.level.Level.{Level}
-use Rattle.sentry_base.specs.declared.protocol.level.Level.TheVariants.{Debug, Info, Warning, Error, Fatal}
+use Rattle.replay_print.specs.Printing.{level_word}
 use Rattle.replay_run.specs.declared.command.Command.{Command}
 use Rattle.replay_run.specs.declared.command.Command.TheVariants.{Client, Hub, Tag, Message, Empty, Release, Session, End, Flush, Log, Close}
 
@@ -19,14 +18,6 @@ pub record IsNumber (text : Bytes) (n : ℕ) : Type 0 where
   pub digits : IsNumeral 10 text
   pub value : digits_value 10 text ≡ n
   pub fits : n < 2 ^ 64
-
--- the word for a level
-abbrev pub level_word : Level → Bytes
-level_word Debug = codes "debug"
-level_word Info = codes "info"
-level_word Warning = codes "warning"
-level_word Error = codes "error"
-level_word Fatal = codes "fatal"
 
 -- a release is a word, and `-` stands for no release
 abbrev pub IsRelease : Bytes → Option Bytes → Type 0

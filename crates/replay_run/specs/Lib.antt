@@ -1,8 +1,8 @@
 pub mod Calls
 pub mod Commands
 pub mod Engines
+pub mod Answers
 pub mod Faults
 pub mod Lines
-pub mod Printing
 pub mod Reading
 pub mod Replays

@@ -6,7 +6,7 @@ use Rattle.std.specs.Str.Parse.{digits_value}
 use Rattle.sentry_plain.specs.Texts.{Bytes}
 use Rattle.sentry_base.specs.declared.protocol.level.Level.{Level}
 use Rattle.sentry_base.specs.declared.protocol.level.Level.TheVariants.{Debug, Info, Warning, Error, Fatal}
-use Rattle.replay_run.specs.Commands.{level_word}
+use Rattle.replay_print.specs.Printing.{level_word}
 use Rattle.replay_run.specs.declared.command.Command.{Command}
 use Rattle.replay_run.specs.declared.command.Command.TheVariants.{Client, Hub, Tag, Message, Empty, Release, Session, End, Flush, Log, Close}
 

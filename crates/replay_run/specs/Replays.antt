@@ -12,7 +12,7 @@ use Rattle.replay_run.specs.Commands.{Spells}
 use Rattle.replay_run.specs.Engines.{same_event, no_callbacks, ReplayEngine, ReplayWorld, ReplayCall, ReplayAnswer}
 use Rattle.replay_run.specs.Faults.{ReplayEnd}
 use Rattle.replay_run.specs.Lines.{lines_of}
-use Rattle.replay_run.specs.Printing.{answer_text}
+use Rattle.replay_run.specs.Answers.{answer_text}
 
 -- the number of the next line, which stops at 2^64-1
 abbrev pub next_number : ℕ → ℕ

@@ -10,7 +10,7 @@ use crate::command::{Command, parse_command};
 use crate::engine::{ReplayAnswer, ReplayEngine};
 use crate::fault::ReplayFault;
 use crate::lines::next_line;
-use crate::print::Print;
+use crate::print::print_answer;
 use sentry_base::protocol::Refusal;
 use sentry_engine::engine::Engine;
 use std::alloc::{AllocError, Global};
@@ -63,7 +63,7 @@ fn execute_line<W: Write>(
     };
     let answer = execute(alloc, engine, number, command)?;
     text.clear();
-    answer.print(text)?;
+    print_answer(&answer, text)?;
     match writer.write_all(text.as_bytes()) {
         Ok(()) => Ok(()),
         Err(_) => Err(ReplayFault::InputOutput),

@@ -5,7 +5,7 @@ use Rattle.std.proofs.lemmas.Bool.{eqb-false}
 use Rattle.sentry_plain.specs.Texts.{Bytes}
 use Rattle.replay_run.specs.declared.command.Command.{Command}
 use Rattle.replay_run.specs.Commands.{Spells}
-use Rattle.replay_run.specs.Printing.{answer_text}
+use Rattle.replay_run.specs.Answers.{answer_text}
 use Rattle.replay_run.proofs.ReplayLemmas.{prints}
 use Rattle.replay_run.proofs.run.execute_line.Goals as goal
 
@@ -14,7 +14,7 @@ returns-in-Ok g c = λ world stands.
     let some : c.args.line.now ≢ [] = λ e. eqb-false (length c.args.line.now) 0 (sym c.is_empty.ensures ∙ c.if-is_empty.false) (ap length e) in
     let spells : Spells c.args.line.now c.in-Some.command = subst (λ (found : Option Command). IfSome found (λ command. Spells c.args.line.now command)) c.in-Some.is c.in_ok-command.ensures.found in
     let written : c.as_bytes.result.now ≡ answer_text c.in_ok-answer.answer =
-    c.as_bytes.ensures.value ∙ c.in_ok-print.ensures ∙ ap (λ (before : Bytes). before ++ answer_text c.in_ok-answer.answer) c.clear.ensures.bytes in
+    c.as_bytes.ensures.value ∙ c.in_ok-print_answer.ensures ∙ ap (λ (before : Bytes). before ++ answer_text c.in_ok-answer.answer) c.clear.ensures.bytes in
     let done = c.in_ok-answer.ensures world stands in (
       answer_text c.in_ok-answer.answer,
       done.0,

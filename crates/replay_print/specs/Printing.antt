@@ -1,10 +1,9 @@
--- What is printed of envelopes and of answers.
-use Rattle.std.specs.Prelude.{ℕ, ◌++◌, Bool, true, false, Ok, Err, List, [], ◌∷◌, codes, unwrap_or, flat_map, length}
+-- What is printed of envelopes.
+use Rattle.std.specs.Prelude.{ℕ, ◌++◌, Bool, true, false, List, [], ◌∷◌, codes, unwrap_or, length}
 use Rattle.std.specs.List.{join_by}
 use Rattle.std.specs.Fmt.{decimal}
 use Rattle.uuid.specs.Text.{simple_text, lower}
 use Rattle.sentry_plain.specs.Texts.{Bytes}
-use Rattle.sentry_base.specs.Refusals.{refusal_number}
 use Rattle.sentry_base.specs.declared.protocol.event.Event.{Event}
 use Rattle.sentry_base.specs.declared.protocol.attachment.Attachment.{Attachment}
 use Rattle.sentry_base.specs.Losses.{category_name, reason_name}
@@ -14,12 +13,20 @@ use Rattle.sentry_base.specs.declared.protocol.envelope.Envelope.{Envelope}
 use Rattle.sentry_base.specs.declared.protocol.envelope.EnvelopeItem.{EnvelopeItem}
 use Rattle.sentry_base.specs.declared.protocol.envelope.EnvelopeItem.TheVariants as item
 use Rattle.sentry_base.specs.declared.protocol.keys.ClientKey.{ClientKey}
+use Rattle.sentry_base.specs.declared.protocol.level.Level.{Level}
+use Rattle.sentry_base.specs.declared.protocol.level.Level.TheVariants.{Debug, Info, Warning, Error, Fatal}
 use Rattle.sentry_base.specs.declared.protocol.session.SessionAggregates.{SessionAggregates}
 use Rattle.sentry_base.specs.declared.protocol.session.SessionStatus.{SessionStatus}
 use Rattle.sentry_base.specs.declared.protocol.session.SessionStatus.TheVariants as session_status
 use Rattle.sentry_base.specs.declared.protocol.session.SessionUpdate.{SessionUpdate}
-use Rattle.replay_run.specs.Commands.{level_word}
-use Rattle.replay_run.specs.Engines.{ReplayAnswer}
+
+-- the word for a level
+abbrev pub level_word : Level → Bytes
+level_word Debug = codes "debug"
+level_word Info = codes "info"
+level_word Warning = codes "warning"
+level_word Error = codes "error"
+level_word Fatal = codes "fatal"
 
 abbrev pub tag_text : Bytes × Bytes → Bytes
 tag_text tag = tag.0 ++ codes "=" ++ tag.1
@@ -86,8 +93,3 @@ abbrev pub envelope_line : ClientKey × Envelope → Bytes
 envelope_line sent =
     codes "envelope " ++ decimal sent.0.number ++ codes " "
     ++ join_by item_text (codes " | ") sent.1.items ++ 10 ∷ []
-
--- one line for each envelope that is to be sent, or one for the refusal
-abbrev pub answer_text : ReplayAnswer → Bytes
-answer_text (Ok out) = flat_map envelope_line out.sent
-answer_text (Err refusal) = codes "refused E" ++ decimal (refusal_number refusal) ++ 10 ∷ []

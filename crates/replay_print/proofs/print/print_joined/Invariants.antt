@@ -1,6 +1,6 @@
 use Rattle.std.proofs.Common.{◌≡◌, ◌++◌, drop}
 use Rattle.std.specs.Prelude.{string_bytes, flat_map}
-use Rattle.replay_run.proofs.print.print_joined.Given as goal
+use Rattle.replay_print.proofs.print.print_joined.Given as goal
 
 -- the items that are left complete the text
 abbrev pub invariant-loop-item : goal.invariant-loop-item

@@ -1,7 +1,7 @@
 use Rattle.std.proofs.Common.{◌≡◌, ◌++◌, drop}
 use Rattle.std.specs.Prelude.{string_bytes, flat_map}
-use Rattle.replay_run.specs.Printing.{envelope_line}
-use Rattle.replay_run.proofs.print.ReplayAnswerPrint.print.Given as goal
+use Rattle.replay_print.specs.Printing.{envelope_line}
+use Rattle.replay_run.proofs.print.print_answer.Given as goal
 
 -- the envelopes that are left complete the text
 abbrev pub invariant-loop-envelope : goal.invariant-loop-envelope

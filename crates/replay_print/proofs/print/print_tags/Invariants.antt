@@ -1,8 +1,8 @@
 use Rattle.std.proofs.Common.{◌≡◌, ◌++◌}
 use Rattle.std.specs.Prelude.{codes, string_bytes, flat_map}
 use Rattle.sentry_plain.specs.Texts.{by_bytes}
-use Rattle.replay_run.specs.Printing.{tag_text}
-use Rattle.replay_run.proofs.print.print_tags.Given as goal
+use Rattle.replay_print.specs.Printing.{tag_text}
+use Rattle.replay_print.proofs.print.print_tags.Given as goal
 
 -- the tags that are left complete the text
 abbrev pub invariant-loop-key : goal.invariant-loop-key

@@ -1,0 +1,4 @@
+//! How `replay` prints envelopes: one line each.
+#![tactic(auto)]
+
+pub mod print;
