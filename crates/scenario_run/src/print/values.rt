@@ -23,7 +23,7 @@ impl Shown for ValueMap {
 fn push_json(text: &mut String, value: &Value) -> Result<(), AllocError> {
     match value {
         Value::Null => text.push_str("null"),
-        Value::Bool(truth) => write!(text, "{truth}"),
+        Value::Bool(truth) => truth.push_to(text),
         Value::Int(number) => write!(text, "{number}"),
         Value::Text(value) => push_quoted(text, value.as_str()),
         Value::List(values) => push_json_list(text, values),
@@ -34,13 +34,11 @@ fn push_json(text: &mut String, value: &Value) -> Result<(), AllocError> {
 #[cycle(json)]
 fn push_json_list(text: &mut String, values: &Values) -> Result<(), AllocError> {
     text.push_str("[")?;
-    let mut is_first = true;
+    let mut before = "";
     for value in values.as_slice() {
-        if !is_first {
-            text.push_str(",")?;
-        }
+        text.push_str(before)?;
         push_json(text, value)?;
-        is_first = false;
+        before = ",";
     }
     text.push_str("]")
 }
@@ -48,17 +46,19 @@ fn push_json_list(text: &mut String, values: &Values) -> Result<(), AllocError> 
 #[cycle(json)]
 fn push_json_map(text: &mut String, map: &ValueMap) -> Result<(), AllocError> {
     text.push_str("{")?;
-    let mut is_first = true;
+    let mut before = "";
     for (key, value) in map.iter() {
-        if !is_first {
-            text.push_str(",")?;
-        }
-        push_quoted(text, key.as_str())?;
-        text.push_str(":")?;
+        push_key(text, before, key.as_str())?;
         push_json(text, value)?;
-        is_first = false;
+        before = ",";
     }
     text.push_str("}")
+}
+
+fn push_key(text: &mut String, before: &str, key: &str) -> Result<(), AllocError> {
+    text.push_str(before)?;
+    push_quoted(text, key)?;
+    text.push_str(":")
 }
 
 fn push_quoted(text: &mut String, value: &str) -> Result<(), AllocError> {
