@@ -90,8 +90,7 @@ impl<T: Shown> Shown for Boxed<T> {
 
 impl Shown for ClientKey {
     fn push_to(&self, text: &mut String) -> Result<(), AllocError> {
-        let number = self.number;
-        write!(text, "{number}")
+        self.number.push_to(text)
     }
 }
 
@@ -123,8 +122,7 @@ fn push_last_event(text: &mut String, hub: u64, id: Option<Uuid>) -> Result<(), 
 
 impl Shown for OrganizationId {
     fn push_to(&self, text: &mut String) -> Result<(), AllocError> {
-        let number = self.0;
-        write!(text, "{number}")
+        self.0.push_to(text)
     }
 }
 
