@@ -45,7 +45,7 @@ fn read_with_attribute(words: Words<'_>) -> Option<LogCommand<'_>> {
     let mut words = words;
     Some(LogCommand {
         capturer: Capturer::Hub(words.number()?),
-        level: read_level(words.word()?)?,
+        level: read_level(&mut words)?,
         attribute: Some(AttributeWords {
             key: words.word()?,
             value: words.word()?,
@@ -59,14 +59,14 @@ fn read_of_client(words: Words<'_>) -> Option<LogCommand<'_>> {
     let mut words = words;
     Some(LogCommand {
         capturer: Capturer::Client(words.number()?),
-        level: read_level(words.word()?)?,
+        level: read_level(&mut words)?,
         attribute: None,
         body: words.rest()?,
     })
 }
 
-fn read_level(word: &str) -> Option<LogLevel> {
-    match word {
+fn read_level(words: &mut Words<'_>) -> Option<LogLevel> {
+    match words.word()? {
         "trace" => Some(LogLevel::Trace),
         "debug" => Some(LogLevel::Debug),
         "info" => Some(LogLevel::Info),
