@@ -34,11 +34,11 @@ fn push_json(text: &mut String, value: &Value) -> Result<(), AllocError> {
 #[cycle(json)]
 fn push_json_list(text: &mut String, values: &Values) -> Result<(), AllocError> {
     text.push_str("[")?;
-    let mut before = "";
+    let mut is_first = true;
     for value in values.as_slice() {
-        text.push_str(before)?;
+        push_comma(text, is_first)?;
         push_json(text, value)?;
-        before = ",";
+        is_first = false;
     }
     text.push_str("]")
 }
@@ -46,17 +46,25 @@ fn push_json_list(text: &mut String, values: &Values) -> Result<(), AllocError> 
 #[cycle(json)]
 fn push_json_map(text: &mut String, map: &ValueMap) -> Result<(), AllocError> {
     text.push_str("{")?;
-    let mut before = "";
+    let mut is_first = true;
     for (key, value) in map.iter() {
-        push_key(text, before, key.as_str())?;
+        push_comma(text, is_first)?;
+        push_key(text, key.as_str())?;
         push_json(text, value)?;
-        before = ",";
+        is_first = false;
     }
     text.push_str("}")
 }
 
-fn push_key(text: &mut String, before: &str, key: &str) -> Result<(), AllocError> {
-    text.push_str(before)?;
+// Nothing stands before the first value.
+fn push_comma(text: &mut String, is_first: bool) -> Result<(), AllocError> {
+    if is_first {
+        return Ok(());
+    }
+    text.push_str(",")
+}
+
+fn push_key(text: &mut String, key: &str) -> Result<(), AllocError> {
     push_quoted(text, key)?;
     text.push_str(":")
 }
