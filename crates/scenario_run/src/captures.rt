@@ -18,10 +18,7 @@ pub struct CaptureCommand<'a> {
 #[derive(Clone, Copy)]
 enum Capture<'a> {
     /// `message H LEVEL REST`
-    Message {
-        level: Level,
-        message: &'a str,
-    },
+    Message(Message<'a>),
     /// `exception H LEVEL HANDLED REST`
     Exception {
         level: Level,
@@ -31,10 +28,14 @@ enum Capture<'a> {
     /// `error H REST`
     Error(&'a str),
     /// `rich H LEVEL REST`
-    Rich {
-        level: Level,
-        message: &'a str,
-    },
+    Rich(Message<'a>),
+}
+
+/// A message at a level.
+#[derive(Clone, Copy)]
+struct Message<'a> {
+    level: Level,
+    text: &'a str,
 }
 
 impl<'a> CaptureCommand<'a> {
@@ -42,25 +43,34 @@ impl<'a> CaptureCommand<'a> {
     pub fn read(name: &str, words: Words<'a>) -> Option<CaptureCommand<'a>> {
         let mut words = words;
         let hub = words.number()?;
-        let capture = match name {
-            "message" => Capture::Message {
-                level: words.level()?,
-                message: words.rest()?,
-            },
-            "exception" => Capture::Exception {
-                level: words.level()?,
-                handled: handled(words.word()?)?,
-                value: words.rest()?,
-            },
-            "error" => Capture::Error(words.rest()?),
-            "rich" => Capture::Rich {
-                level: words.level()?,
-                message: words.rest()?,
-            },
-            _ => return None,
-        };
+        let capture = read_capture(name, &mut words)?;
         Some(CaptureCommand { hub, capture })
     }
+}
+
+fn read_capture<'a>(name: &str, words: &mut Words<'a>) -> Option<Capture<'a>> {
+    match name {
+        "message" => read_message(words).map(Capture::Message),
+        "exception" => read_exception(words),
+        "error" => words.rest().map(Capture::Error),
+        "rich" => read_message(words).map(Capture::Rich),
+        _ => None,
+    }
+}
+
+fn read_message<'a>(words: &mut Words<'a>) -> Option<Message<'a>> {
+    Some(Message {
+        level: words.level()?,
+        text: words.rest()?,
+    })
+}
+
+fn read_exception<'a>(words: &mut Words<'a>) -> Option<Capture<'a>> {
+    Some(Capture::Exception {
+        level: words.level()?,
+        handled: handled(words.word()?)?,
+        value: words.rest()?,
+    })
 }
 
 fn handled(word: &str) -> Option<Option<bool>> {
@@ -126,8 +136,8 @@ impl Scenario {
         let hub = hub_key(command.hub);
         let fresh = self.fresh();
         let event = match command.capture {
-            Capture::Message { level, message } => {
-                let out = self.engine.capture_message(hub, message, level, fresh)?;
+            Capture::Message(Message { level, text }) => {
+                let out = self.engine.capture_message(hub, text, level, fresh)?;
                 return Ok(Answer::of_sent(out));
             }
             Capture::Exception {
@@ -140,7 +150,7 @@ impl Scenario {
                 let out = self.engine.capture_error(hub, &links, fresh)?;
                 return Ok(Answer::of_sent(out));
             }
-            Capture::Rich { level, message } => rich_event(self.alloc, level, message, fresh)?,
+            Capture::Rich(Message { level, text }) => rich_event(self.alloc, level, text, fresh)?,
         };
         Ok(Answer::of_sent(self.engine.capture_event(hub, event, fresh)?))
     }

@@ -40,45 +40,55 @@ impl<'a> Command<'a> {
     pub fn read(line: &'a str) -> Option<Command<'a>> {
         let mut words = Words::new(line);
         let name = words.word()?;
-        if let Some(setting) = Setting::read(name, words) {
-            return Some(Command::Setting(setting));
+        match read_of_hub(name, words) {
+            Some(command) => Some(command),
+            None => read_of_client(name, words),
         }
-        if let Some(command) = ClientCommand::read(name, words) {
-            return Some(Command::Client(command));
-        }
-        if let Some(command) = ClientEventCommand::read(name, words) {
-            return Some(Command::ClientEvent(command));
-        }
-        if let Some(command) = LossCommand::read(name, words) {
-            return Some(Command::Loss(command));
-        }
-        if let Some(command) = HubCommand::read(name, words) {
-            return Some(Command::Hub(command));
-        }
-        if let Some(command) = LayerCommand::read(name, words) {
-            return Some(Command::Layer(command));
-        }
-        if let Some(command) = ScopeCommand::read(name, words) {
-            return Some(Command::Scope(command));
-        }
-        if let Some(command) = BreadcrumbCommand::read(name, words) {
-            return Some(Command::Breadcrumb(command));
-        }
-        if let Some(command) = CaptureCommand::read(name, words) {
-            return Some(Command::Capture(command));
-        }
-        if let Some(command) = SessionCommand::read(name, words) {
-            return Some(Command::Session(command));
-        }
-        if let Some(command) = LogCommand::read(name, words) {
-            return Some(Command::Log(command));
-        }
-        if let Some(command) = MetricCommand::read(name, words) {
-            return Some(Command::Metric(command));
-        }
-        if let Some(command) = HeaderCommand::read(name, words) {
-            return Some(Command::Header(command));
-        }
-        TextCommand::read(name, words).map(Command::Text)
     }
+}
+
+// The groups of forms on hubs, and on what they capture.
+fn read_of_hub<'a>(name: &str, words: Words<'a>) -> Option<Command<'a>> {
+    if let Some(command) = HubCommand::read(name, words) {
+        return Some(Command::Hub(command));
+    }
+    if let Some(command) = LayerCommand::read(name, words) {
+        return Some(Command::Layer(command));
+    }
+    if let Some(command) = ScopeCommand::read(name, words) {
+        return Some(Command::Scope(command));
+    }
+    if let Some(command) = BreadcrumbCommand::read(name, words) {
+        return Some(Command::Breadcrumb(command));
+    }
+    if let Some(command) = CaptureCommand::read(name, words) {
+        return Some(Command::Capture(command));
+    }
+    if let Some(command) = SessionCommand::read(name, words) {
+        return Some(Command::Session(command));
+    }
+    if let Some(command) = LogCommand::read(name, words) {
+        return Some(Command::Log(command));
+    }
+    MetricCommand::read(name, words).map(Command::Metric)
+}
+
+// The groups of forms on clients alone, and on no part of the engine.
+fn read_of_client<'a>(name: &str, words: Words<'a>) -> Option<Command<'a>> {
+    if let Some(setting) = Setting::read(name, words) {
+        return Some(Command::Setting(setting));
+    }
+    if let Some(command) = ClientCommand::read(name, words) {
+        return Some(Command::Client(command));
+    }
+    if let Some(command) = ClientEventCommand::read(name, words) {
+        return Some(Command::ClientEvent(command));
+    }
+    if let Some(command) = LossCommand::read(name, words) {
+        return Some(Command::Loss(command));
+    }
+    if let Some(command) = HeaderCommand::read(name, words) {
+        return Some(Command::Header(command));
+    }
+    TextCommand::read(name, words).map(Command::Text)
 }

@@ -1,12 +1,14 @@
 //! Lines on headers: `header`, `parse` and `headers`.
 use crate::answer::{Answer, Reply};
+use crate::callbacks::Handler;
 use crate::fault::Failure;
 use crate::scenario::{Scenario, hub_key};
 use crate::words::Words;
 use sentry_base::protocol::Refusal;
 use sentry_plain::{Items, Text};
+use sentry_state::scope::Scope;
 use sentry_trace::headers::TracePropagationContext;
-use std::alloc::AllocError;
+use std::alloc::{AllocError, Global};
 
 /// A header that is kept for a later line, or printed.
 #[derive(Drop)]
@@ -80,12 +82,17 @@ impl Scenario {
     // The headers that pass on the trace of a hub's top scope.
     fn headers_of_hub<'a>(&self, hub: u64) -> Result<Reply<'a>, Refusal> {
         let scope = self.engine.scope(hub_key(hub))?.reply;
-        let mut headers = Items::new(self.alloc);
-        for (name, value) in scope.iter_trace_propagation_headers()? {
-            let name = Text::new(self.alloc, name)?;
-            let value = Text::from_string(value);
-            headers.push(Header { name, value })?;
-        }
+        let headers = headers_of_scope(self.alloc, &scope)?;
         Ok(Reply::HubHeaders { hub, headers })
     }
+}
+
+fn headers_of_scope(alloc: Global, scope: &Scope<Handler>) -> Result<Items<Header>, AllocError> {
+    let mut headers = Items::new(alloc);
+    for (name, value) in scope.iter_trace_propagation_headers()? {
+        let name = Text::new(alloc, name)?;
+        let value = Text::from_string(value);
+        headers.push(Header { name, value })?;
+    }
+    Ok(headers)
 }

@@ -20,39 +20,53 @@ pub struct LogCommand<'a> {
 impl<'a> LogCommand<'a> {
     /// The command of this name, read from the words that follow it.
     pub fn read(name: &str, words: Words<'a>) -> Option<LogCommand<'a>> {
-        let mut words = words;
         match name {
-            // `log H REST`
-            "log" => Some(LogCommand {
-                capturer: Capturer::Hub(words.number()?),
-                level: LogLevel::Info,
-                attribute: None,
-                body: words.rest()?,
-            }),
-            // `logkey H LOGLEVEL KEY VALUE REST`
-            "logkey" => Some(LogCommand {
-                capturer: Capturer::Hub(words.number()?),
-                level: read_level(words.word()?)?,
-                attribute: Some(AttributeWords {
-                    key: words.word()?,
-                    value: words.word()?,
-                }),
-                body: words.rest()?,
-            }),
-            // `sendlog C LOGLEVEL REST`
-            "sendlog" => Some(LogCommand {
-                capturer: Capturer::Client(words.number()?),
-                level: read_level(words.word()?)?,
-                attribute: None,
-                body: words.rest()?,
-            }),
+            "log" => read_of_hub(words),
+            "logkey" => read_with_attribute(words),
+            "sendlog" => read_of_client(words),
             _ => None,
         }
     }
 }
 
-fn read_level(word: &str) -> Option<LogLevel> {
-    match word {
+// `log H REST`
+fn read_of_hub(words: Words<'_>) -> Option<LogCommand<'_>> {
+    let mut words = words;
+    Some(LogCommand {
+        capturer: Capturer::Hub(words.number()?),
+        level: LogLevel::Info,
+        attribute: None,
+        body: words.rest()?,
+    })
+}
+
+// `logkey H LOGLEVEL KEY VALUE REST`
+fn read_with_attribute(words: Words<'_>) -> Option<LogCommand<'_>> {
+    let mut words = words;
+    Some(LogCommand {
+        capturer: Capturer::Hub(words.number()?),
+        level: read_level(&mut words)?,
+        attribute: Some(AttributeWords {
+            key: words.word()?,
+            value: words.word()?,
+        }),
+        body: words.rest()?,
+    })
+}
+
+// `sendlog C LOGLEVEL REST`
+fn read_of_client(words: Words<'_>) -> Option<LogCommand<'_>> {
+    let mut words = words;
+    Some(LogCommand {
+        capturer: Capturer::Client(words.number()?),
+        level: read_level(&mut words)?,
+        attribute: None,
+        body: words.rest()?,
+    })
+}
+
+fn read_level(words: &mut Words<'_>) -> Option<LogLevel> {
+    match words.word()? {
         "trace" => Some(LogLevel::Trace),
         "debug" => Some(LogLevel::Debug),
         "info" => Some(LogLevel::Info),

@@ -50,8 +50,8 @@ impl<'a> LossCommand<'a> {
         let command = match name {
             "lose" => LossCommand::Lose {
                 client: words.number()?,
-                kind: read_kind(words.word()?)?,
-                reason: read_reason(words.word()?)?,
+                kind: read_kind(&mut words)?,
+                reason: read_reason(&mut words)?,
             },
             "absorb" => LossCommand::Absorb {
                 client: words.number()?,
@@ -66,8 +66,8 @@ impl<'a> LossCommand<'a> {
     }
 }
 
-fn read_kind(word: &str) -> Option<Kind> {
-    match word {
+fn read_kind(words: &mut Words<'_>) -> Option<Kind> {
+    match words.word()? {
         "event" => Some(Kind::Event),
         "transaction" => Some(Kind::Transaction),
         "logs" => Some(Kind::Logs),
@@ -77,8 +77,8 @@ fn read_kind(word: &str) -> Option<Kind> {
     }
 }
 
-fn read_reason(word: &str) -> Option<TransportLossReason> {
-    match word {
+fn read_reason(words: &mut Words<'_>) -> Option<TransportLossReason> {
+    match words.word()? {
         "send_error" => Some(TransportLossReason::SendError),
         "internal_sdk_error" => Some(TransportLossReason::InternalError),
         "network_error" => Some(TransportLossReason::NetworkError),

@@ -24,18 +24,14 @@ impl<'a> MetricCommand<'a> {
     /// `sendmetric C TYPE NAME VALUE UNIT`, and perhaps ` KEY REST`.
     pub fn read(name: &str, words: Words<'a>) -> Option<MetricCommand<'a>> {
         let mut words = words;
-        let capturer = match name {
-            "metric" => Capturer::Hub(words.number()?),
-            "sendmetric" => Capturer::Client(words.number()?),
-            _ => return None,
-        };
-        let metric_type = read_type(words.word()?)?;
+        let capturer = read_capturer(name, &mut words)?;
+        let metric_type = read_type(&mut words)?;
         let command = MetricCommand {
             capturer,
             metric_type,
             name: words.word()?,
             value: words.integer()?,
-            unit: unit_of_type(metric_type, words.word_or_none()?)?,
+            unit: read_unit(metric_type, &mut words)?,
             attribute: words.attribute_if_any()?,
         };
         words.end()?;
@@ -43,8 +39,16 @@ impl<'a> MetricCommand<'a> {
     }
 }
 
-fn read_type(word: &str) -> Option<MetricType> {
-    match word {
+fn read_capturer(name: &str, words: &mut Words<'_>) -> Option<Capturer> {
+    match name {
+        "metric" => words.number().map(Capturer::Hub),
+        "sendmetric" => words.number().map(Capturer::Client),
+        _ => None,
+    }
+}
+
+fn read_type(words: &mut Words<'_>) -> Option<MetricType> {
+    match words.word()? {
         "counter" => Some(MetricType::Counter),
         "gauge" => Some(MetricType::Gauge),
         "distribution" => Some(MetricType::Distribution),
@@ -53,8 +57,8 @@ fn read_type(word: &str) -> Option<MetricType> {
 }
 
 // The unit of a metric of this type: that of a counter is none.
-fn unit_of_type(metric_type: MetricType, unit: Option<&str>) -> Option<Option<&str>> {
-    match (metric_type, unit) {
+fn read_unit<'a>(metric_type: MetricType, words: &mut Words<'a>) -> Option<Option<&'a str>> {
+    match (metric_type, words.word_or_none()?) {
         (MetricType::Counter, Some(_)) => None,
         (_, unit) => Some(unit),
     }

@@ -4,7 +4,7 @@ use crate::words::{number, small};
 use sentry_base::protocol::{OrganizationId, Refusal, SampleRate};
 use sentry_options::clientoptions::{ClientOptions, SessionMode};
 use sentry_plain::Text;
-use std::alloc::{AllocError, Global};
+use std::alloc::Global;
 
 /// Where the events of a client go, unless an option says otherwise.
 const DSN: &str = "https://public@sentry.invalid/1";
@@ -14,6 +14,19 @@ const DSN: &str = "https://public@sentry.invalid/1";
 pub enum ClientOption<'a> {
     Environment(&'a str),
     ServerName(&'a str),
+    Plain(PlainOption),
+    /// Drops what begins with this.
+    Filter(Filter, &'a str),
+    /// An integration that adds a context `os`.
+    OsIntegration,
+    Transport(bool),
+    Dsn(&'a str),
+    NoDsn,
+}
+
+/// An option that holds no text.
+#[derive(Clone, Copy)]
+pub enum PlainOption {
     SampleRate(u32),
     TracesSampleRate(u32),
     StrictTraceContinuation(bool),
@@ -21,21 +34,21 @@ pub enum ClientOption<'a> {
     Organization(u64),
     SessionMode(SessionMode),
     MaxBreadcrumbs(u64),
-    /// Drops events whose message begins with this.
-    BeforeSend(&'a str),
-    /// Drops breadcrumbs whose message begins with this.
-    BeforeBreadcrumb(&'a str),
-    /// Drops logs whose body begins with this.
-    BeforeSendLog(&'a str),
-    /// Drops metrics whose name begins with this.
-    BeforeSendMetric(&'a str),
-    /// An integration that adds a context `os`.
-    OsIntegration,
-    /// An integration that drops events whose message begins with this.
-    DropIntegration(&'a str),
-    Transport(bool),
-    Dsn(&'a str),
-    NoDsn,
+}
+
+/// What drops by the beginning of a text.
+#[derive(Clone, Copy)]
+pub enum Filter {
+    /// Drops events by their message.
+    BeforeSend,
+    /// Drops breadcrumbs by their message.
+    BeforeBreadcrumb,
+    /// Drops logs by their body.
+    BeforeSendLog,
+    /// Drops metrics by their name.
+    BeforeSendMetric,
+    /// An integration that drops events by their message.
+    Integration,
 }
 
 impl<'a> ClientOption<'a> {
@@ -45,20 +58,29 @@ impl<'a> ClientOption<'a> {
         match name {
             "environment" => Some(ClientOption::Environment(value)),
             "server" => Some(ClientOption::ServerName(value)),
-            "rate" => Some(ClientOption::SampleRate(rate(value)?)),
-            "traces" => Some(ClientOption::TracesSampleRate(rate(value)?)),
-            "strict" => Some(ClientOption::StrictTraceContinuation(flag(value)?)),
-            "pii" => Some(ClientOption::SendDefaultPii(flag(value)?)),
-            "org" => Some(ClientOption::Organization(number(value)?)),
-            "mode" => Some(ClientOption::SessionMode(mode(value)?)),
-            "crumbs" => Some(ClientOption::MaxBreadcrumbs(number(value)?)),
-            "before_send" => Some(ClientOption::BeforeSend(value)),
-            "before_crumb" => Some(ClientOption::BeforeBreadcrumb(value)),
-            "before_log" => Some(ClientOption::BeforeSendLog(value)),
-            "before_metric" => Some(ClientOption::BeforeSendMetric(value)),
+            "before_send" => Some(ClientOption::Filter(Filter::BeforeSend, value)),
+            "before_crumb" => Some(ClientOption::Filter(Filter::BeforeBreadcrumb, value)),
+            "before_log" => Some(ClientOption::Filter(Filter::BeforeSendLog, value)),
+            "before_metric" => Some(ClientOption::Filter(Filter::BeforeSendMetric, value)),
             "integration" => integration(value),
             "transport" => Some(ClientOption::Transport(flag(value)?)),
             "dsn" => Some(dsn(value)),
+            _ => Some(ClientOption::Plain(PlainOption::read(name, value)?)),
+        }
+    }
+}
+
+impl PlainOption {
+    /// The option of this name.
+    fn read(name: &str, value: &str) -> Option<PlainOption> {
+        match name {
+            "rate" => rate(value).map(PlainOption::SampleRate),
+            "traces" => rate(value).map(PlainOption::TracesSampleRate),
+            "strict" => flag(value).map(PlainOption::StrictTraceContinuation),
+            "pii" => flag(value).map(PlainOption::SendDefaultPii),
+            "org" => number(value).map(PlainOption::Organization),
+            "mode" => mode(value).map(PlainOption::SessionMode),
+            "crumbs" => number(value).map(PlainOption::MaxBreadcrumbs),
             _ => None,
         }
     }
@@ -91,7 +113,7 @@ fn mode(value: &str) -> Option<SessionMode> {
 fn integration(value: &str) -> Option<ClientOption<'_>> {
     match value {
         "os" => Some(ClientOption::OsIntegration),
-        _ => Some(ClientOption::DropIntegration(value.strip_prefix("drop:")?)),
+        _ => Some(ClientOption::Filter(Filter::Integration, value.strip_prefix("drop:")?)),
     }
 }
 
@@ -171,35 +193,44 @@ fn set_option(
     match option {
         ClientOption::Environment(text) => options.environment(text),
         ClientOption::ServerName(text) => options.server_name(text),
-        ClientOption::SampleRate(rate) => options.sample_rate(rate),
-        ClientOption::TracesSampleRate(rate) => options.traces_sample_rate(rate),
-        ClientOption::StrictTraceContinuation(strict) => {
-            Ok(options.strict_trace_continuation(strict))
-        }
-        ClientOption::SendDefaultPii(pii) => Ok(options.send_default_pii(pii)),
-        ClientOption::Organization(number) => Ok(options.org_id(OrganizationId(number))),
-        ClientOption::SessionMode(mode) => Ok(options.session_mode(mode)),
-        ClientOption::MaxBreadcrumbs(count) => Ok(options.max_breadcrumbs(count as usize)),
-        ClientOption::BeforeSend(prefix) => options.before_send(dropper(alloc, prefix)?),
-        ClientOption::BeforeBreadcrumb(prefix) => {
-            options.before_breadcrumb(BreadcrumbFilter(Text::new(alloc, prefix)?))
-        }
-        ClientOption::BeforeSendLog(prefix) => {
-            options.before_send_log(LogFilter(Text::new(alloc, prefix)?))
-        }
-        ClientOption::BeforeSendMetric(prefix) => {
-            options.before_send_metric(MetricFilter(Text::new(alloc, prefix)?))
+        ClientOption::Plain(option) => set_plain(options, option),
+        ClientOption::Filter(filter, prefix) => {
+            set_filter(options, filter, Text::new(alloc, prefix)?)
         }
         ClientOption::OsIntegration => options.add_integration(Extension::Os),
-        ClientOption::DropIntegration(prefix) => {
-            options.add_integration(Extension::Drop(Text::new(alloc, prefix)?))
-        }
         ClientOption::Transport(_) => Ok(options),
         ClientOption::Dsn(text) => options.with_dsn(text),
         ClientOption::NoDsn => options.with_dsn(()),
     }
 }
 
-fn dropper(alloc: Global, prefix: &str) -> Result<Handler, AllocError> {
-    Ok(Handler::Drop(Text::new(alloc, prefix)?))
+fn set_plain(
+    options: ClientOptions<Callbacks>,
+    option: PlainOption,
+) -> Result<ClientOptions<Callbacks>, Refusal> {
+    match option {
+        PlainOption::SampleRate(rate) => options.sample_rate(rate),
+        PlainOption::TracesSampleRate(rate) => options.traces_sample_rate(rate),
+        PlainOption::StrictTraceContinuation(strict) => {
+            Ok(options.strict_trace_continuation(strict))
+        }
+        PlainOption::SendDefaultPii(pii) => Ok(options.send_default_pii(pii)),
+        PlainOption::Organization(number) => Ok(options.org_id(OrganizationId(number))),
+        PlainOption::SessionMode(mode) => Ok(options.session_mode(mode)),
+        PlainOption::MaxBreadcrumbs(count) => Ok(options.max_breadcrumbs(count as usize)),
+    }
+}
+
+fn set_filter(
+    options: ClientOptions<Callbacks>,
+    filter: Filter,
+    prefix: Text,
+) -> Result<ClientOptions<Callbacks>, Refusal> {
+    match filter {
+        Filter::BeforeSend => options.before_send(Handler::Drop(prefix)),
+        Filter::BeforeBreadcrumb => options.before_breadcrumb(BreadcrumbFilter(prefix)),
+        Filter::BeforeSendLog => options.before_send_log(LogFilter(prefix)),
+        Filter::BeforeSendMetric => options.before_send_metric(MetricFilter(prefix)),
+        Filter::Integration => options.add_integration(Extension::Drop(prefix)),
+    }
 }

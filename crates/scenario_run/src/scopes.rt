@@ -28,16 +28,11 @@ enum ScopeChange<'a> {
     SetTransaction(Option<&'a str>),
     /// `user H ID EMAIL USERNAME` or `nouser H`
     SetUser(Option<Identity<'a>>),
-    /// `tag H KEY REST`
-    SetTag(Entry<'a>),
+    SetEntry(Role, Entry<'a>),
     /// `untag H KEY`
     RemoveTag(&'a str),
-    /// `extra H KEY REST`
-    SetExtra(Entry<'a>),
     /// `unextra H KEY`
     RemoveExtra(&'a str),
-    /// `context H KEY REST`
-    SetContext(Entry<'a>),
     /// `uncontext H KEY`
     RemoveContext(&'a str),
     /// `nocrumbs H`
@@ -48,8 +43,19 @@ enum ScopeChange<'a> {
     ClearAttachments,
     /// `dropper H REST`: a processor that drops messages which begin so.
     AddDropper(&'a str),
+}
+
+/// What a key and a text are set as.
+#[derive(Clone, Copy)]
+enum Role {
+    /// `tag H KEY REST`
+    Tag,
+    /// `extra H KEY REST`
+    Extra,
+    /// `context H KEY REST`
+    Context,
     /// `tagger H KEY REST`: a processor that sets a tag.
-    AddTagger(Entry<'a>),
+    Tagger,
 }
 
 /// A key, and a text at it.
@@ -80,15 +86,15 @@ impl<'a> ScopeCommand<'a> {
 
 fn read_change<'a>(name: &str, words: &mut Words<'a>) -> Option<ScopeChange<'a>> {
     match name {
-        "tag" => read_entry(words).map(ScopeChange::SetTag),
+        "tag" => read_set_entry(Role::Tag, words),
         "untag" => words.word().map(ScopeChange::RemoveTag),
-        "extra" => read_entry(words).map(ScopeChange::SetExtra),
+        "extra" => read_set_entry(Role::Extra, words),
         "unextra" => words.word().map(ScopeChange::RemoveExtra),
-        "context" => read_entry(words).map(ScopeChange::SetContext),
+        "context" => read_set_entry(Role::Context, words),
         "uncontext" => words.word().map(ScopeChange::RemoveContext),
         "attach" => read_entry(words).map(ScopeChange::AddAttachment),
         "dropper" => words.rest().map(ScopeChange::AddDropper),
-        "tagger" => read_entry(words).map(ScopeChange::AddTagger),
+        "tagger" => read_set_entry(Role::Tagger, words),
         _ => read_other_change(name, words),
     }
 }
@@ -107,6 +113,11 @@ fn read_other_change<'a>(name: &str, words: &mut Words<'a>) -> Option<ScopeChang
         "noattach" => Some(ScopeChange::ClearAttachments),
         _ => None,
     }
+}
+
+fn read_set_entry<'a>(role: Role, words: &mut Words<'a>) -> Option<ScopeChange<'a>> {
+    let entry = read_entry(words)?;
+    Some(ScopeChange::SetEntry(role, entry))
 }
 
 fn read_entry<'a>(words: &mut Words<'a>) -> Option<Entry<'a>> {
@@ -164,10 +175,9 @@ fn user(alloc: Global, identity: Option<Identity<'_>>) -> Result<Option<User>, A
 }
 
 /// A context that is a map of `value` to a text.
-fn context(alloc: Global, value: &str) -> Result<Context, AllocError> {
+fn context(alloc: Global, value: Text) -> Result<Context, AllocError> {
     let mut map = ValueMap::new(alloc);
-    let value = Value::Text(Text::new(alloc, value)?);
-    map.insert(Text::new(alloc, "value")?, value)?;
+    map.insert(Text::new(alloc, "value")?, Value::Text(value))?;
     Ok(Context::Other(map))
 }
 
@@ -180,11 +190,19 @@ fn attachment(alloc: Global, file: Entry<'_>) -> Result<Attachment, AllocError> 
     })
 }
 
-fn handler(alloc: Global, entry: Entry<'_>) -> Result<Handler, AllocError> {
-    Ok(Handler::SetTag {
-        key: Text::new(alloc, entry.key)?,
-        value: Text::new(alloc, entry.value)?,
-    })
+fn set_entry(
+    alloc: Global,
+    role: Role,
+    entry: Entry<'_>,
+) -> Result<ScopeEdit<Handler>, AllocError> {
+    let key = Text::new(alloc, entry.key)?;
+    let value = Text::new(alloc, entry.value)?;
+    match role {
+        Role::Tag => Ok(ScopeEdit::SetTag(key, value)),
+        Role::Extra => Ok(ScopeEdit::SetExtra(key, Value::Text(value))),
+        Role::Context => Ok(ScopeEdit::SetContext(key, context(alloc, value)?)),
+        Role::Tagger => Ok(ScopeEdit::AddEventProcessor(Handler::SetTag { key, value })),
+    }
 }
 
 fn edit(
@@ -192,36 +210,30 @@ fn edit(
     fresh: Fresh,
     change: &ScopeChange<'_>,
 ) -> Result<ScopeEdit<Handler>, AllocError> {
-    Ok(match change {
-        ScopeChange::Clear => ScopeEdit::Clear(fresh.trace_id, fresh.span_id),
-        ScopeChange::SetLevel(level) => ScopeEdit::SetLevel(*level),
-        ScopeChange::SetFingerprint(text) => ScopeEdit::SetFingerprint(fingerprint(alloc, *text)?),
+    match change {
+        ScopeChange::Clear => Ok(ScopeEdit::Clear(fresh.trace_id, fresh.span_id)),
+        ScopeChange::SetLevel(level) => Ok(ScopeEdit::SetLevel(*level)),
+        ScopeChange::SetFingerprint(text) => {
+            fingerprint(alloc, *text).map(ScopeEdit::SetFingerprint)
+        }
         ScopeChange::SetTransaction(name) => {
-            ScopeEdit::SetTransaction(text_or_none(alloc, *name)?)
+            text_or_none(alloc, *name).map(ScopeEdit::SetTransaction)
         }
-        ScopeChange::SetUser(identity) => ScopeEdit::SetUser(user(alloc, *identity)?),
-        ScopeChange::SetTag(entry) => {
-            ScopeEdit::SetTag(Text::new(alloc, entry.key)?, Text::new(alloc, entry.value)?)
+        ScopeChange::SetUser(identity) => user(alloc, *identity).map(ScopeEdit::SetUser),
+        ScopeChange::SetEntry(role, entry) => set_entry(alloc, *role, *entry),
+        ScopeChange::RemoveTag(key) => Text::new(alloc, key).map(ScopeEdit::RemoveTag),
+        ScopeChange::RemoveExtra(key) => Text::new(alloc, key).map(ScopeEdit::RemoveExtra),
+        ScopeChange::RemoveContext(key) => Text::new(alloc, key).map(ScopeEdit::RemoveContext),
+        ScopeChange::ClearBreadcrumbs => Ok(ScopeEdit::ClearBreadcrumbs),
+        ScopeChange::AddAttachment(file) => {
+            attachment(alloc, *file).map(ScopeEdit::AddAttachment)
         }
-        ScopeChange::RemoveTag(key) => ScopeEdit::RemoveTag(Text::new(alloc, key)?),
-        ScopeChange::SetExtra(entry) => {
-            let value = Value::Text(Text::new(alloc, entry.value)?);
-            ScopeEdit::SetExtra(Text::new(alloc, entry.key)?, value)
-        }
-        ScopeChange::RemoveExtra(key) => ScopeEdit::RemoveExtra(Text::new(alloc, key)?),
-        ScopeChange::SetContext(entry) => {
-            let context = context(alloc, entry.value)?;
-            ScopeEdit::SetContext(Text::new(alloc, entry.key)?, context)
-        }
-        ScopeChange::RemoveContext(key) => ScopeEdit::RemoveContext(Text::new(alloc, key)?),
-        ScopeChange::ClearBreadcrumbs => ScopeEdit::ClearBreadcrumbs,
-        ScopeChange::AddAttachment(file) => ScopeEdit::AddAttachment(attachment(alloc, *file)?),
-        ScopeChange::ClearAttachments => ScopeEdit::ClearAttachments,
+        ScopeChange::ClearAttachments => Ok(ScopeEdit::ClearAttachments),
         ScopeChange::AddDropper(prefix) => {
-            ScopeEdit::AddEventProcessor(Handler::Drop(Text::new(alloc, prefix)?))
+            let text = Text::new(alloc, prefix);
+            text.map(Handler::Drop).map(ScopeEdit::AddEventProcessor)
         }
-        ScopeChange::AddTagger(entry) => ScopeEdit::AddEventProcessor(handler(alloc, *entry)?),
-    })
+    }
 }
 
 impl Scenario {

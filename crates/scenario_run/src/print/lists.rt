@@ -1,4 +1,4 @@
-//! Lists, maps, and what may be absent.
+//! Lists, maps, what may be absent, and plain texts and numbers.
 use crate::print::Shown;
 use sentry_plain::{Items, Text, TextMap};
 use std::alloc::AllocError;
@@ -10,6 +10,13 @@ pub const NONE: &str = "-";
 impl Shown for Text {
     fn push_to(&self, text: &mut String) -> Result<(), AllocError> {
         text.push_str(self.as_str())
+    }
+}
+
+impl Shown for u64 {
+    fn push_to(&self, text: &mut String) -> Result<(), AllocError> {
+        let number = *self;
+        write!(text, "{number}")
     }
 }
 

@@ -2,9 +2,9 @@
 use crate::answer::Reply;
 use crate::headers::Header;
 use crate::print::Shown;
-use crate::print::lists::{NONE, push_joined, push_labeled};
+use crate::print::lists::{push_joined, push_labeled};
 use sentry_base::dsn::{Dsn, ParseDsnError};
-use sentry_base::protocol::{ClientKey, ClientReport, Event, OrganizationId, Uuid};
+use sentry_base::protocol::{ClientKey, ClientReport, OrganizationId, Refusal, Uuid};
 use sentry_plain::Boxed;
 use sentry_trace::headers::{HeaderParseError, TracePropagationContext};
 use std::alloc::AllocError;
@@ -13,54 +13,84 @@ impl Shown for Reply<'_> {
     fn push_to(&self, text: &mut String) -> Result<(), AllocError> {
         match self {
             Reply::Nothing => Ok(()),
-            Reply::Refused(refusal) => {
-                let number = refusal.number();
-                writeln!(text, "refused E{number}")
-            }
-            Reply::Sample(decision) => writeln!(text, "sample {decision}"),
+            Reply::Refused(refusal) => push_line(text, "refused", refusal),
+            Reply::Sample(decision) => push_line(text, "sample", decision),
             Reply::Options { client, options } => {
-                write!(text, "options {client} ")?;
-                options.get().push_to(text)?;
-                text.push_str("\n")
+                push_line_of(text, "options", *client, options.get())
             }
-            Reply::ClientDsn { client, dsn } => {
-                write!(text, "clientdsn {client} ")?;
-                push_dsn(text, dsn)?;
-                text.push_str("\n")
-            }
+            Reply::ClientDsn { client, dsn } => push_line_if_any(text, "clientdsn", *client, dsn),
             Reply::Enabled { client, is_enabled } => {
-                writeln!(text, "enabled {client} {is_enabled}")
+                push_line_of(text, "enabled", *client, is_enabled)
             }
-            Reply::Prepared { client, event } => push_prepared(text, *client, event),
+            Reply::Prepared { client, event } => push_line_if_any(text, "prepare", *client, event),
             Reply::Report { client, report } => push_report(text, *client, report),
-            Reply::Bound { hub, client } => push_bound(text, *hub, *client),
+            Reply::Bound { hub, client } => push_line_of(text, "bound", *hub, client),
             Reply::LastEvent { hub, id } => push_last_event(text, *hub, *id),
-            Reply::Active { hub, is_active } => writeln!(text, "active {hub} {is_active}"),
+            Reply::Active { hub, is_active } => push_line_of(text, "active", *hub, is_active),
             Reply::Headers(parsed) => push_headers(text, parsed),
             Reply::HubHeaders { hub, headers } => push_hub_headers(text, *hub, headers.as_slice()),
             Reply::Dsn(read) => push_dsn_answer(text, read),
-            Reply::DebugType(name) => writeln!(text, "debugtype {name}"),
-            Reply::Sensitive(is_sensitive) => writeln!(text, "sensitive {is_sensitive}"),
-            Reply::Scrubbed(url) => {
-                let url = url.as_str();
-                writeln!(text, "scrub {url}")
-            }
+            Reply::DebugType(name) => push_line(text, "debugtype", name),
+            Reply::Sensitive(is_sensitive) => push_line(text, "sensitive", is_sensitive),
+            Reply::Scrubbed(url) => push_line(text, "scrub", &url.as_str()),
         }
     }
 }
 
-fn push_prepared(
+/// Puts the line of a reply that has one value at the end of the text.
+fn push_line<T: Shown>(text: &mut String, name: &str, value: &T) -> Result<(), AllocError> {
+    write!(text, "{name} ")?;
+    value.push_to(text)?;
+    text.push_str("\n")
+}
+
+/// The same for the value of the client or the hub of this number.
+fn push_line_of<T: Shown>(
     text: &mut String,
-    client: u64,
-    event: &Option<Boxed<Event>>,
+    name: &str,
+    number: u64,
+    value: &T,
 ) -> Result<(), AllocError> {
-    match event {
-        None => writeln!(text, "prepare {client} none"),
-        Some(event) => {
-            write!(text, "prepare {client} ")?;
-            event.get().push_to(text)?;
-            text.push_str("\n")
-        }
+    write!(text, "{name} {number} ")?;
+    value.push_to(text)?;
+    text.push_str("\n")
+}
+
+/// The same with `none` where there is no value.
+fn push_line_if_any<T: Shown>(
+    text: &mut String,
+    name: &str,
+    number: u64,
+    value: &Option<T>,
+) -> Result<(), AllocError> {
+    match value {
+        Some(value) => push_line_of(text, name, number, value),
+        None => writeln!(text, "{name} {number} none"),
+    }
+}
+
+impl Shown for Refusal {
+    fn push_to(&self, text: &mut String) -> Result<(), AllocError> {
+        let number = self.number();
+        write!(text, "E{number}")
+    }
+}
+
+impl Shown for &str {
+    fn push_to(&self, text: &mut String) -> Result<(), AllocError> {
+        text.push_str(self)
+    }
+}
+
+impl<T: Shown> Shown for Boxed<T> {
+    fn push_to(&self, text: &mut String) -> Result<(), AllocError> {
+        self.get().push_to(text)
+    }
+}
+
+impl Shown for ClientKey {
+    fn push_to(&self, text: &mut String) -> Result<(), AllocError> {
+        self.number.push_to(text)
     }
 }
 
@@ -79,16 +109,6 @@ fn push_report(
     }
 }
 
-fn push_bound(text: &mut String, hub: u64, client: Option<ClientKey>) -> Result<(), AllocError> {
-    match client {
-        None => writeln!(text, "bound {hub} {NONE}"),
-        Some(client) => {
-            let number = client.number;
-            writeln!(text, "bound {hub} {number}")
-        }
-    }
-}
-
 fn push_last_event(text: &mut String, hub: u64, id: Option<Uuid>) -> Result<(), AllocError> {
     match id {
         None => writeln!(text, "last {hub} none"),
@@ -102,8 +122,7 @@ fn push_last_event(text: &mut String, hub: u64, id: Option<Uuid>) -> Result<(), 
 
 impl Shown for OrganizationId {
     fn push_to(&self, text: &mut String) -> Result<(), AllocError> {
-        let number = self.0;
-        write!(text, "{number}")
+        self.0.push_to(text)
     }
 }
 

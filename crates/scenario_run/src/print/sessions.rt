@@ -30,24 +30,15 @@ impl Shown for SessionAttributes {
 impl Shown for SessionUpdate {
     fn push_to(&self, text: &mut String) -> Result<(), AllocError> {
         push_labeled(text, "session ", &self.status)?;
-        let errors = self.errors;
-        write!(text, " errors={errors}")?;
+        push_labeled(text, " errors=", &self.errors)?;
         push_labeled(text, " init=", &self.init)?;
         let id = self.session_id.simple();
         write!(text, " {{id={id}")?;
         push_labeled(text, " distinct=", &self.distinct_id)?;
         push_labeled(text, " ", &self.attributes)?;
-        let started = self.started;
-        write!(text, " started={started} duration=")?;
-        push_duration(text, self.duration)?;
+        push_labeled(text, " started=", &self.started)?;
+        push_labeled(text, " duration=", &self.duration)?;
         text.push_str("}")
-    }
-}
-
-fn push_duration(text: &mut String, duration: Option<u64>) -> Result<(), AllocError> {
-    match duration {
-        Some(duration) => write!(text, "{duration}"),
-        None => text.push_str("-"),
     }
 }
 

@@ -19,9 +19,8 @@ pub fn push_batch<T: Shown>(
 
 impl Shown for Log {
     fn push_to(&self, text: &mut String) -> Result<(), AllocError> {
-        let at = self.timestamp;
-        write!(text, "at={at} ")?;
-        self.level.push_to(text)?;
+        push_labeled(text, "at=", &self.timestamp)?;
+        push_labeled(text, " ", &self.level)?;
         push_labeled(text, " ", &self.body)?;
         push_labeled(text, " trace=", &self.trace_id)?;
         text.push_str(" ")?;
@@ -31,10 +30,9 @@ impl Shown for Log {
 
 impl Shown for Metric {
     fn push_to(&self, text: &mut String) -> Result<(), AllocError> {
-        let at = self.timestamp;
         let value = self.value;
-        write!(text, "at={at} ")?;
-        self.metric_type.push_to(text)?;
+        push_labeled(text, "at=", &self.timestamp)?;
+        push_labeled(text, " ", &self.metric_type)?;
         push_labeled(text, " ", &self.name)?;
         write!(text, " {value}")?;
         push_labeled(text, " ", &self.unit)?;

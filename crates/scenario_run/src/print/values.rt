@@ -23,7 +23,7 @@ impl Shown for ValueMap {
 fn push_json(text: &mut String, value: &Value) -> Result<(), AllocError> {
     match value {
         Value::Null => text.push_str("null"),
-        Value::Bool(truth) => write!(text, "{truth}"),
+        Value::Bool(truth) => truth.push_to(text),
         Value::Int(number) => write!(text, "{number}"),
         Value::Text(value) => push_quoted(text, value.as_str()),
         Value::List(values) => push_json_list(text, values),
@@ -36,9 +36,7 @@ fn push_json_list(text: &mut String, values: &Values) -> Result<(), AllocError> 
     text.push_str("[")?;
     let mut is_first = true;
     for value in values.as_slice() {
-        if !is_first {
-            text.push_str(",")?;
-        }
+        push_comma(text, is_first)?;
         push_json(text, value)?;
         is_first = false;
     }
@@ -50,15 +48,25 @@ fn push_json_map(text: &mut String, map: &ValueMap) -> Result<(), AllocError> {
     text.push_str("{")?;
     let mut is_first = true;
     for (key, value) in map.iter() {
-        if !is_first {
-            text.push_str(",")?;
-        }
-        push_quoted(text, key.as_str())?;
-        text.push_str(":")?;
+        push_comma(text, is_first)?;
+        push_key(text, key.as_str())?;
         push_json(text, value)?;
         is_first = false;
     }
     text.push_str("}")
+}
+
+// Nothing stands before the first value.
+fn push_comma(text: &mut String, is_first: bool) -> Result<(), AllocError> {
+    if is_first {
+        return Ok(());
+    }
+    text.push_str(",")
+}
+
+fn push_key(text: &mut String, key: &str) -> Result<(), AllocError> {
+    push_quoted(text, key)?;
+    text.push_str(":")
 }
 
 fn push_quoted(text: &mut String, value: &str) -> Result<(), AllocError> {
