@@ -6,7 +6,7 @@ use crate::scenario::{Scenario, hub_key};
 use crate::words::Words;
 use sentry_base::protocol::Refusal;
 use sentry_plain::{Items, Text};
-use sentry_state::scope::Scope;
+use sentry_scope::scope::Scope;
 use sentry_trace::headers::TracePropagationContext;
 use std::alloc::{AllocError, Global};
 
