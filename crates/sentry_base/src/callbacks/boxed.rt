@@ -1,5 +1,6 @@
 //! Callbacks in boxes, so that one client or scope can have callbacks of several types. The instances stand beside
-//! their traits, since another crate may not write them. Nothing else below the top crate uses boxes.
+//! their traits, since another crate may not write them. Beside these and `BoxedIntegration`, nothing below the top crate
+//! uses boxes.
 use crate::callbacks::{BreadcrumbCallback, EventCallback, LogCallback, MetricCallback};
 use crate::protocol::{Breadcrumb, Event, Log, Metric};
 use std::alloc::AllocError;
