@@ -4,13 +4,13 @@ use Rattle.std.specs.Prelude.{Option, Some, None, min}
 use Rattle.std.specs.Io.KnownBytes.{Appends, Keeps}
 use Rattle.std.proofs.lemmas.List.{append-nil}
 use Rattle.sentry_plain.specs.Texts.{Bytes}
-use Rattle.sentry_engine.specs.Worlds.{Stands, first_world}
+use Rattle.sentry_state.specs.Worlds.{Stands, first_world}
 use Rattle.replay_run.specs.declared.command.Command.{Command}
 use Rattle.replay_run.specs.declared.fault.ReplayFault.{ReplayFault}
 use Rattle.replay_run.specs.declared.fault.ReplayFault.TheVariants.{BadCommand, OutOfMemory, InputOutput}
 use Rattle.replay_run.specs.Calls.{call_of}
 use Rattle.replay_run.specs.Commands.{Spells}
-use Rattle.replay_run.specs.Engines.{ReplayEngine, ReplayWorld, ReplayAnswer}
+use Rattle.replay_run.specs.Engines.{ReplayState, ReplayWorld, ReplayAnswer}
 use Rattle.replay_run.specs.Faults.{ReplayEnd}
 use Rattle.replay_run.specs.Lines.{lines_of, TakesLine}
 use Rattle.replay_run.specs.Answers.{answer_text}
@@ -27,7 +27,7 @@ pub line_number-next : (index : ℕ) → next_number (line_number index) ≡ lin
 line_number-next index = omega arith
 
 -- what was printed so far; whatever is printed for the lines that are left completes it
-pub record Reached (input : Bytes) (left before after : Option Bytes) (engine : ReplayEngine) (number : ℕ) : Type 0 where
+pub record Reached (input : Bytes) (left before after : Option Bytes) (engine : ReplayState) (number : ℕ) : Type 0 where
   pub world : ReplayWorld
   pub stands : Stands engine world
   pub rest : Bytes
@@ -37,7 +37,7 @@ pub record Reached (input : Bytes) (left before after : Option Bytes) (engine : 
   pub completes : (more : Bytes) (end : ReplayEnd) → Replays world number (lines_of rest) more end → Replays (first_world 0) 1 (lines_of input) (printed ++ more) end
 
 -- the same where the input may be unknown
-abbrev pub Reaches : Option Bytes → Option Bytes → Option Bytes → Option Bytes → ReplayEngine → ℕ → Type 0
+abbrev pub Reaches : Option Bytes → Option Bytes → Option Bytes → Option Bytes → ReplayState → ℕ → Type 0
 Reaches None left before after engine number = Unit {0}
 Reaches (Some input) left before after engine number = Reached input left before after engine number
 
@@ -62,7 +62,7 @@ pub prints : (world next : ReplayWorld) (number : ℕ) (line : Bytes) (command :
 prints world next number [] command answer some spells may = absurd (some refl)
 prints world next number (b ∷ bs) command answer some spells may = (command, answer, spells, may, refl)
 
-pub begins : (input held : Option Bytes) (engine : ReplayEngine) → Stands engine (first_world 0) → Reaches input input held held engine 1
+pub begins : (input held : Option Bytes) (engine : ReplayState) → Stands engine (first_world 0) → Reaches input input held held engine 1
 begins None held engine stands = tt
 begins (Some input) held engine stands = record {
   world = first_world 0;
@@ -78,7 +78,7 @@ begins (Some input) held engine stands = record {
 line_left : (left left' : Option Bytes) (rest line : Bytes) → left ≡ Some rest → TakesLine left left' true line → (rest' : Bytes) × (left' ≡ Some rest') × (lines_of rest ≡ line ∷ lines_of rest')
 line_left left left' rest line known taken = subst (λ (l : Option Bytes). TakesLine l left' true line) known taken
 
-pub goes_on : (input left left' before after after' : Option Bytes) (engine engine' : ReplayEngine) (number : ℕ) (line : Bytes)
+pub goes_on : (input left left' before after after' : Option Bytes) (engine engine' : ReplayState) (number : ℕ) (line : Bytes)
     → Reaches input left before after engine number → TakesLine left left' true line → ExecutesLine engine engine' after after' number line (Ok tt)
     → Reaches input left' before after' engine' (next_number number)
 goes_on None left left' before after after' engine engine' number line reached taken does = tt
@@ -100,7 +100,7 @@ goes_on (Some input) left left' before after after' engine engine' number line r
     }
 
 -- the run ends here, with nothing more printed
-ends : (input : Bytes) (left before after after' : Option Bytes) (engine : ReplayEngine) (number : ℕ) (end : ReplayEnd)
+ends : (input : Bytes) (left before after after' : Option Bytes) (engine : ReplayState) (number : ℕ) (end : ReplayEnd)
     → (reached : Reached input left before after engine number) → Keeps after after' → Replays reached.world number (lines_of reached.rest) [] end
     → (printed : Bytes) × Appends before after' printed × Replays (first_world 0) 1 (lines_of input) printed end
 ends input left before after after' engine number end reached kept run =
@@ -111,7 +111,7 @@ keeps : (known : Option Bytes) → Keeps known known
 keeps None = tt
 keeps (Some bytes) = refl
 
-pub ends_well : (input left left' before after : Option Bytes) (engine : ReplayEngine) (number : ℕ) (line : Bytes)
+pub ends_well : (input left left' before after : Option Bytes) (engine : ReplayState) (number : ℕ) (line : Bytes)
     → Reaches input left before after engine number → TakesLine left left' false line → Writes input before after (Ok tt)
 ends_well None left left' before after engine number line reached taken = tt
 ends_well (Some input) left left' before after engine number line reached taken =
@@ -120,7 +120,7 @@ ends_well (Some input) left left' before after engine number line reached taken 
     ends input left before after after engine number (Ok tt) reached (keeps after) (subst P (sym none) at_end)
 
 -- a line could not be read
-pub ends_unread : (input left before after : Option Bytes) (engine : ReplayEngine) (number : ℕ) (fault : ReplayFault)
+pub ends_unread : (input left before after : Option Bytes) (engine : ReplayState) (number : ℕ) (fault : ReplayFault)
     → Reaches input left before after engine number → ((n : ℕ) → fault ≢ BadCommand n) → Writes input before after (Err fault)
 ends_unread None left before after engine number fault reached other = tt
 ends_unread (Some input) left before after engine number (BadCommand n) reached other = absurd (other n refl)
@@ -128,7 +128,7 @@ ends_unread (Some input) left before after engine number OutOfMemory reached oth
 ends_unread (Some input) left before after engine number InputOutput reached other = tt
 
 -- a line could not be done
-pub ends_undone : (input left left' before after after' : Option Bytes) (engine engine' : ReplayEngine) (number : ℕ) (line : Bytes) (fault : ReplayFault)
+pub ends_undone : (input left left' before after after' : Option Bytes) (engine engine' : ReplayState) (number : ℕ) (line : Bytes) (fault : ReplayFault)
     → Reaches input left before after engine number → TakesLine left left' true line → ExecutesLine engine engine' after after' number line (Err fault)
     → Writes input before after' (Err fault)
 ends_undone None left left' before after after' engine engine' number line fault reached taken does = tt

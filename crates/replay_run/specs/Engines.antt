@@ -3,11 +3,11 @@ use Rattle.std.specs.Prelude.{Some, None, [], Result}
 use Rattle.sentry_base.specs.declared.protocol.refusal.Refusal.{Refusal}
 use Rattle.sentry_base.specs.Callbacks.{Partial}
 use Rattle.sentry_options.specs.Meanings.{Meanings}
-use Rattle.sentry_engine.specs.declared.engine.Engine.{Engine}
-use Rattle.sentry_engine.specs.declared.engine.Out.{Out}
+use Rattle.sentry_state.specs.declared.state.State.{State}
+use Rattle.sentry_state.specs.declared.state.Out.{Out}
 use Rattle.sentry_engine.specs.declared.call.Call.{Call}
 use Rattle.sentry_engine.specs.declared.call.Reply.{Reply}
-use Rattle.sentry_engine.specs.Worlds.{World}
+use Rattle.sentry_state.specs.Worlds.{World}
 use Rattle.replay_run.specs.declared.engine.NoProcessor.{NoProcessor}
 use Rattle.replay_run.specs.declared.engine.NoCallbacks.{NoCallbacks}
 
@@ -25,8 +25,9 @@ no_callbacks callbacks = record {
   before_send_metric = None;
 }
 
-abbrev pub ReplayEngine : Type 0
-ReplayEngine = Engine NoProcessor NoCallbacks
+-- what contracts see of the engine
+abbrev pub ReplayState : Type 0
+ReplayState = State NoProcessor NoCallbacks
 
 -- what the engine stands for
 abbrev pub ReplayWorld : Type 0

@@ -3,13 +3,13 @@ use Rattle.std.specs.Prelude.{◌≡◌, ◌≢◌, ℕ, ◌+◌, ◌-◌, ◌^�
 use Rattle.std.specs.Io.KnownBytes.{Appends, Keeps}
 use Rattle.sentry_plain.specs.Texts.{Bytes}
 use Rattle.sentry_base.specs.declared.protocol.refusal.Refusal.TheVariants as refusal
-use Rattle.sentry_engine.specs.Worlds.{Stands, first_world}
+use Rattle.sentry_state.specs.Worlds.{Stands, first_world}
 use Rattle.sentry_engine.specs.Runs.{May}
 use Rattle.replay_run.specs.declared.command.Command.{Command}
 use Rattle.replay_run.specs.declared.fault.ReplayFault.TheVariants.{BadCommand, OutOfMemory, InputOutput}
 use Rattle.replay_run.specs.Calls.{call_of}
 use Rattle.replay_run.specs.Commands.{Spells}
-use Rattle.replay_run.specs.Engines.{same_event, no_callbacks, ReplayEngine, ReplayWorld, ReplayCall, ReplayAnswer}
+use Rattle.replay_run.specs.Engines.{same_event, no_callbacks, ReplayState, ReplayWorld, ReplayCall, ReplayAnswer}
 use Rattle.replay_run.specs.Faults.{ReplayEnd}
 use Rattle.replay_run.specs.Lines.{lines_of}
 use Rattle.replay_run.specs.Answers.{answer_text}
@@ -62,7 +62,7 @@ pub data Replays : ReplayWorld → ℕ → List Bytes → Bytes → ReplayEnd �
       → Replays world number lines [] (Err OutOfMemory)
 
 -- an engine executed the line of this number, and a writer held these bytes before and after
-abbrev pub ExecutesLine : ReplayEngine → ReplayEngine → Option Bytes → Option Bytes → ℕ → Bytes
+abbrev pub ExecutesLine : ReplayState → ReplayState → Option Bytes → Option Bytes → ℕ → Bytes
     → ReplayEnd → Type 0
 ExecutesLine old new before after number line (Ok done) =
     (world : ReplayWorld) → Stands old world

@@ -1,6 +1,6 @@
 //! A run over a whole input.
 ghost use Rattle.std.specs.Prelude.{◌≡◌, IfOk};
-ghost use Rattle.sentry_engine.specs.Worlds.{Stands};
+ghost use Rattle.sentry_state.specs.Worlds.{Stands};
 ghost use Rattle.replay_run.specs.Calls.{call_of};
 ghost use Rattle.replay_run.specs.Engines.{ReplayWorld};
 ghost use Rattle.replay_run.specs.Replays.{is_out_of_memory, MayAnswer, ExecutesLine, Writes};

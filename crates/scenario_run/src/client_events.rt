@@ -1,6 +1,6 @@
 //! Lines that hand a message to a client itself, without a scope: `prepare` and `send`.
 ghost use Rattle.std.specs.Prelude.{◌≡◌, IfOk};
-ghost use Rattle.sentry_engine.specs.Captures.{message_event};
+ghost use Rattle.sentry_sending.specs.Captures.{message_event};
 
 use crate::answer::{Answer, Reply};
 use crate::fault::Failure;

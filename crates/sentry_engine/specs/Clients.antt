@@ -1,6 +1,5 @@
 -- What the calls on clients answer, hand out and leave.
-use Rattle.std.specs.Prelude.{ℕ, nat_lt, ◌-◌, Bool, false, not, ◌&&◌, Option, Some, None, is_some, List, [], ◌∷◌, ◌+◌, ◌^◌, ◌==◌, if◌then◌else◌}
-use Rattle.std.specs.List.{list_any}
+use Rattle.std.specs.Prelude.{ℕ, nat_lt, ◌-◌, Bool, not, ◌&&◌, Option, None, is_some, List, [], ◌∷◌, ◌+◌, ◌^◌, ◌==◌, if◌then◌else◌}
 use Rattle.std.specs.Option.{option_map}
 use Rattle.sentry_plain.specs.Tables.{put, without}
 use Rattle.sentry_base.specs.DsnParts.{DsnParts}
@@ -9,68 +8,27 @@ use Rattle.sentry_base.specs.declared.protocol.keys.Label.{Label}
 use Rattle.sentry_base.specs.declared.protocol.refusal.Refusal.TheVariants.{Stale, StillNamed, ForeignLosses, Full}
 use Rattle.sentry_options.specs.declared.clientoptions.ClientOptions.{ClientOptions}
 use Rattle.sentry_base.specs.Callbacks.{Partial}
-use Rattle.sentry_options.specs.Meanings.{Meanings, set_up_all}
-use Rattle.sentry_scope.specs.Stacks.{is_client, names_client}
-use Rattle.sentry_engine.specs.declared.engine.Client.{Client}
-use Rattle.sentry_engine.specs.declared.engine.Hub.{Hub}
+use Rattle.sentry_options.specs.Meanings.{Meanings}
+use Rattle.sentry_state.specs.declared.state.Client.{Client}
 use Rattle.sentry_base.specs.declared.protocol.event.Event.{Event}
 use Rattle.sentry_base.specs.declared.protocol.envelope.Envelope.{Envelope}
 use Rattle.sentry_base.specs.declared.protocol.fresh.Fresh.{Fresh}
 use Rattle.sentry_scope.specs.declared.scope.Scope.{Scope}
 use Rattle.sentry_client_reports.specs.LossBooks.{report_point}
-use Rattle.sentry_parts.specs.OsAttributes.{os_attributes}
 use Rattle.sentry_parts.specs.Pipeline.{loss_reason}
 use Rattle.sentry_parts.specs.Pipeline as pipeline
-use Rattle.sentry_engine.specs.Books.{with_book, without_unused_book, with_report, pending_report, with_entry, with_entry_if_any}
-use Rattle.sentry_engine.specs.Captures.{lost_event, event_to_send, capture, captured_id, captured_envelopes, attachments_of}
-use Rattle.sentry_engine.specs.declared.engine.flushes.Flush.TheVariants.{All, Due, Closing}
-use Rattle.sentry_engine.specs.Flushes.{flush_queues}
-use Rattle.sentry_engine.specs.Sending.{reply_sending}
-use Rattle.sentry_engine.specs.Worlds.{World, ClientState, QueueHistories, SessionState}
-use Rattle.sentry_engine.specs.Outcomes.{Outcome, require_some, require, reply_with, client_at, plain_client_at}
+use Rattle.sentry_state.specs.Books.{with_book, without_unused_book, with_report, pending_report, with_entry, with_entry_if_any}
+use Rattle.sentry_sending.specs.Captures.{lost_event, event_to_send, capture, captured_id, captured_envelopes, attachments_of}
+use Rattle.sentry_sending.specs.declared.flushes.Flush.TheVariants.{All, Due, Closing}
+use Rattle.sentry_sending.specs.Flushes.{flush_queues}
+use Rattle.sentry_sending.specs.Sending.{reply_sending}
+use Rattle.sentry_state.specs.Worlds.{World}
+use Rattle.sentry_state.specs.Outcomes.{Outcome, require_some, require, reply_with, client_at, plain_client_at}
+use Rattle.sentry_state.specs.Clients.{is_client_named, has_session_of, new_client, clone_from}
 
 -- a client is enabled where its options have a DSN and its slot is occupied
 abbrev pub is_enabled_client : {C : Type 0} → Client C → Bool
 is_enabled_client client = is_some client.options.plain.dsn && client.occupied
-
--- a layer of a hub names the client
-abbrev pub is_client_named : {P : Type 0} → ClientKey → List (ℕ × Hub P) → Bool
-is_client_named key hubs = list_any (λ entry. names_client key entry.1.stack) hubs
-
--- a session that goes on was started under the client
-abbrev pub has_session_of : ClientKey → List (ℕ × SessionState) → Bool
-has_session_of key sessions = list_any (λ entry. is_client key (Some entry.1.start.client)) sessions
-
--- the options after the `setup` of their integrations
-abbrev pub set_up : {C : Type 0} → (C → Meanings) → ClientOptions C → ClientOptions C
-set_up meanings options = record options { plain = set_up_all (meanings options.callbacks).integrations options.plain }
-
--- the queues of a client that is made at this moment
-abbrev pub queues_from : ℕ → QueueHistories
-queues_from now = record {
-  sessions = [];
-  session_tick = now;
-  logs = [];
-  log_tick = now;
-  metrics = [];
-  metric_tick = now;
-}
-
--- a client after the `setup` of its integrations, with what they then say of the operating system; its slot is occupied
--- where it had a DSN before that, and has a transport
-unfoldable pub new_client : {C : Type 0} → (C → Meanings) → ClientOptions C → Bool → Label → ℕ → ClientState C
-new_client meanings options transport label now = record {
-  options = set_up meanings options;
-  label = label;
-  occupied = is_some options.plain.dsn && transport;
-  os = os_attributes meanings (set_up meanings options) now;
-  closed = false;
-  queues = queues_from now;
-}
-
--- a clone of a client that is made at this moment: nothing waits in its queues, and nothing has closed it
-abbrev pub clone_from : {C : Type 0} → ℕ → ClientState C → ClientState C
-clone_from now client = record client { closed = false; queues = queues_from now }
 
 module _ {P C : Type 0} where
   -- a client, under the next number, and a book for its label

@@ -1,15 +1,11 @@
 -- What the calls on hubs answer, hand out and leave.
-use Rattle.std.specs.Prelude.{nat_lt, ◌==◌, ◌-◌, ℕ, Bool, true, false, Option, Some, None, List, [], length, ◌+◌, ◌^◌, if◌then◌else◌}
+use Rattle.std.specs.Prelude.{nat_lt, ◌-◌, ℕ, Bool, true, false, Option, None, List, [], ◌^◌, if◌then◌else◌}
 use Rattle.std.specs.List.{list_any}
 use Rattle.sentry_plain.specs.Texts.{Bytes}
-use Rattle.sentry_plain.specs.Tables.{put}
-use Rattle.sentry_base.specs.Events.{nil_id}
 use Rattle.sentry_base.specs.ErrorEvents.{error_event}
 use Rattle.sentry_base.specs.declared.protocol.error_link.ErrorLink.{ErrorLink}
-use Rattle.sentry_base.specs.declared.protocol.breadcrumb.Breadcrumb.{Breadcrumb}
 use Rattle.sentry_base.specs.declared.protocol.keys.ClientKey.{ClientKey}
 use Rattle.sentry_base.specs.declared.protocol.keys.HubKey.{HubKey}
-use Rattle.sentry_base.specs.declared.protocol.event.Event.{Event}
 use Rattle.sentry_base.specs.declared.protocol.level.Level.{Level}
 use Rattle.sentry_base.specs.declared.protocol.fresh.Fresh.{Fresh}
 use Rattle.sentry_base.specs.declared.protocol.refusal.Refusal.TheVariants.{Stale, Full}
@@ -17,25 +13,16 @@ use Rattle.sentry_scope.specs.declared.scope.Scope.{Scope}
 use Rattle.sentry_scope.specs.declared.scope.stack.Stack.{Stack}
 use Rattle.sentry_scope.specs.declared.scope.edit.ScopeEdit.{ScopeEdit}
 use Rattle.sentry_scope.specs.declared.scope.edit.ScopeEdit.TheVariants.{Clear}
-use Rattle.sentry_scope.specs.Scopes.{edit_all, breadcrumb_trail}
+use Rattle.sentry_scope.specs.Scopes.{edit_all}
 use Rattle.sentry_scope.specs.Stacks.{one_layer}
 use Rattle.sentry_base.specs.Callbacks.{Partial}
-use Rattle.sentry_options.specs.Meanings.{Meanings, call_on_each}
-use Rattle.sentry_engine.specs.Books.{pending_report, with_entry_if_any}
-use Rattle.sentry_engine.specs.Captures.{capture, captured_id, captured_envelopes, message_event}
-use Rattle.sentry_engine.specs.Captures.{capture_named_session, update_along, with_captured_session}
-use Rattle.sentry_engine.specs.SessionEnds.{release_session, with_session}
+use Rattle.sentry_options.specs.Meanings.{Meanings}
+use Rattle.sentry_sending.specs.Captures.{message_event, capture_event}
+use Rattle.sentry_sending.specs.SessionEnds.{release_session}
+use Rattle.sentry_state.specs.Changes.{with_session, next_hub_key, with_new_hub}
 use Rattle.sentry_engine.specs.Clients.{is_enabled_client}
-use Rattle.sentry_engine.specs.Worlds.{World}
-use Rattle.sentry_engine.specs.Outcomes.{Outcome, require_some, let_some, require, reply_with, hub_at, plain_client_at, is_held_or_none, with_hub, with_scope}
-use Rattle.sentry_engine.specs.declared.engine.Hub.{Hub}
-
--- the hub whose top scope has the last n of its breadcrumbs followed by the added ones
-abbrev pub with_breadcrumbs : {P : Type 0} → Hub P → ℕ → List Breadcrumb → Hub P
-with_breadcrumbs hub n added =
-    with_scope hub (record hub.stack.top.scope {
-      breadcrumbs = breadcrumb_trail n hub.stack.top.scope.breadcrumbs added;
-    })
+use Rattle.sentry_state.specs.Worlds.{World}
+use Rattle.sentry_state.specs.Outcomes.{Outcome, require_some, let_some, require, reply_with, hub_at, plain_client_at, is_held_or_none, with_hub, with_scope}
 
 -- the edit gives the top layer a default scope, and no session
 abbrev pub is_clear : {P : Type 0} → ScopeEdit P → Bool
@@ -43,17 +30,6 @@ is_clear (Clear trace_id span_id) = true
 is_clear edit = false
 
 module _ {P C : Type 0} where
-  -- the key of the next hub
-  abbrev pub next_hub_key : World P C → HubKey
-  next_hub_key world = record { tag = world.tag; number = world.next.hub }
-
-  -- the world with a hub of these layers under the next number
-  abbrev pub with_new_hub : Stack P → World P C → World P C
-  with_new_hub stack world = record world {
-    next = record world.next { hub = world.next.hub + 1 };
-    hubs = put world.hubs world.next.hub (record { stack = stack; last_event_id = None });
-  }
-
   -- a hub of these layers, if a number is left
   abbrev pub add_hub : Stack P → World P C → Outcome P C HubKey
   add_hub stack world =
@@ -75,37 +51,9 @@ module _ {P C : Type 0} where
       then reply_with tt released.sent (with_hub released.after key (with_scope (with_session hub None) scope))
       else reply_with tt [] (with_hub world key (with_scope hub scope)))
 
-  -- breadcrumbs for the top scope, under the client of its layer: those that its callback keeps are added, and the
-  -- last ones stay, as many as its options say; with no client, or no breadcrumb, nothing changes
-  unfoldable pub add_breadcrumbs : (C → Meanings) → HubKey → List Breadcrumb → World P C → Outcome P C (Unit {0})
-  add_breadcrumbs meanings key breadcrumbs world =
-      require_some Stale world (hub_at world key) (λ hub.
-      if length breadcrumbs == 0 then reply_with tt [] world else
-      let_some hub.stack.top.client (reply_with tt [] world) (λ client_key.
-      let_some (plain_client_at world client_key) (reply_with tt [] world) (λ client.
-      reply_with tt [] (with_hub world key (with_breadcrumbs hub client.options.plain.max_breadcrumbs
-      (call_on_each (meanings client.options.callbacks).before_breadcrumb breadcrumbs))))))
-
   -- the last event id of a hub
   unfoldable pub last_event_id : HubKey → World P C → Outcome P C (Option (List ℕ))
   last_event_id key world = require_some Stale world (hub_at world key) (λ hub. reply_with hub.last_event_id [] world)
-
-  -- an event on a hub, under the client of its top layer: without one nothing happens, and with one the id of what is
-  -- sent becomes the last event id
-  unfoldable pub capture_event : (P → Partial) → (C → Meanings) → HubKey → Event → Fresh → World P C
-      → Outcome P C (List ℕ)
-  capture_event gives meanings key event fresh world =
-      require_some Stale world (hub_at world key) (λ hub.
-      let_some hub.stack.top.client (reply_with nil_id [] world) (λ client_key.
-      let_some (plain_client_at world client_key) (reply_with nil_id [] world) (λ client.
-      let made = capture gives meanings client (Some hub.stack.top.scope) fresh event in
-      let id = captured_id made.event in
-      let session = capture_named_session world hub.stack.top.session client made in
-      reply_with id
-      (captured_envelopes client_key (update_along session) hub.stack.top.scope.attachments
-      (pending_report world client.label) made.event)
-      (with_hub (with_captured_session (with_entry_if_any world client.label made.entry) hub.stack.top.session session)
-      key (record hub { last_event_id = Some id })))))
 
   -- a message on a hub
   unfoldable pub capture_message : (P → Partial) → (C → Meanings) → HubKey → Bytes → Level → Fresh → World P C

@@ -1,14 +1,14 @@
 -- What the calls on the layers of hubs answer, hand out and leave.
-use Rattle.std.specs.Prelude.{ℕ, nat_lt, ◌==◌, Option, []}
+use Rattle.std.specs.Prelude.{ℕ, nat_lt, ◌==◌, ◌&&◌, Option, []}
 use Rattle.sentry_plain.specs.Tables.{without}
 use Rattle.sentry_base.specs.declared.protocol.keys.ClientKey.{ClientKey}
 use Rattle.sentry_base.specs.declared.protocol.keys.HubKey.{HubKey}
 use Rattle.sentry_base.specs.declared.protocol.refusal.Refusal.TheVariants.{Stale, OutOfOrder, ScopesOpen}
 use Rattle.sentry_scope.specs.Stacks.{depth, push, pop, top_alone}
 use Rattle.sentry_engine.specs.Hubs.{add_hub}
-use Rattle.sentry_engine.specs.SessionEnds.{release_session}
-use Rattle.sentry_engine.specs.Worlds.{World}
-use Rattle.sentry_engine.specs.Outcomes.{Outcome, require_some, require, reply_with, hub_at, is_held_or_none, with_hub, with_stack, with_client}
+use Rattle.sentry_sending.specs.SessionEnds.{release_session}
+use Rattle.sentry_state.specs.Worlds.{World}
+use Rattle.sentry_state.specs.Outcomes.{Outcome, require_some, require, reply_with, hub_at, is_held_or_none, with_hub, with_stack, with_client}
 
 module _ {P C : Type 0} where
   -- a copy of the top layer stands on the others; the reply is the hub and the depth of the copy
@@ -21,10 +21,9 @@ module _ {P C : Type 0} where
   unfoldable pub pop_scope : HubKey → ℕ → ℕ → World P C → Outcome P C (Unit {0})
   pop_scope key pushed now world =
       require_some Stale world (hub_at world key) (λ hub.
-      require OutOfOrder world (depth hub.stack == pushed)
-      (require OutOfOrder world (nat_lt 0 pushed)
+      require OutOfOrder world (depth hub.stack == pushed && nat_lt 0 pushed)
       (let released = release_session key.number hub now world in
-      reply_with tt released.sent (with_hub released.after key (with_stack hub (pop hub.stack))))))
+      reply_with tt released.sent (with_hub released.after key (with_stack hub (pop hub.stack)))))
 
   -- a hub with a copy of another one's top layer
   unfoldable pub new_hub_from_top : HubKey → World P C → Outcome P C HubKey

@@ -1,12 +1,5 @@
-pub mod Worlds
-pub mod Books
-pub mod Captures
 pub mod Losses
-pub mod Outcomes
-pub mod Sending
-pub mod SessionEnds
 pub mod Replies
-pub mod Flushes
 pub mod Clients
 pub mod Hubs
 pub mod Layers

@@ -4,9 +4,9 @@ use Rattle.sentry_base.specs.declared.protocol.client_report.ClientReport.{Clien
 use Rattle.sentry_base.specs.declared.protocol.keys.Label.{Label}
 use Rattle.sentry_base.specs.declared.protocol.refusal.Refusal.TheVariants.{ForeignLosses}
 use Rattle.sentry_client_reports.specs.LossBooks.{drained_losses, report_point}
-use Rattle.sentry_engine.specs.Worlds.{World}
-use Rattle.sentry_engine.specs.Outcomes.{Outcome, require, reply_with}
-use Rattle.sentry_engine.specs.Books.{has_book, pending_report, with_entry}
+use Rattle.sentry_state.specs.Worlds.{World}
+use Rattle.sentry_state.specs.Outcomes.{Outcome, require, reply_with}
+use Rattle.sentry_state.specs.Books.{has_book, pending_report, with_entry}
 
 module _ {P C : Type 0} where
   -- the pending report of a label, which then counts as reported

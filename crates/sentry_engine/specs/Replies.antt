@@ -1,7 +1,7 @@
 -- Answers in other forms.
 use Rattle.std.specs.Prelude.{◌≡◌, Result, Ok, Err}
 use Rattle.sentry_base.specs.declared.protocol.refusal.Refusal.{Refusal}
-use Rattle.sentry_engine.specs.declared.engine.Out.{Out}
+use Rattle.sentry_state.specs.declared.state.Out.{Out}
 
 -- the reply is what the function may give of the other reply, with the same envelopes; a refusal is the same refusal
 abbrev pub IsMapped : {T U : Type 0} → (T → U → Type 0) → Result (Out T) Refusal → Result (Out U) Refusal → Type 0

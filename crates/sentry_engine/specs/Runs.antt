@@ -3,19 +3,21 @@ use Rattle.std.specs.Prelude.{◌≡◌, Bool, true, false, Result, Ok, Err, Lis
 use Rattle.sentry_base.specs.declared.protocol.refusal.Refusal.{Refusal}
 use Rattle.sentry_base.specs.Callbacks.{Partial}
 use Rattle.sentry_options.specs.Meanings.{Meanings}
-use Rattle.sentry_engine.specs.declared.engine.Out.{Out}
+use Rattle.sentry_state.specs.declared.state.Out.{Out}
 use Rattle.sentry_engine.specs.declared.call.Call.{Call}
 use Rattle.sentry_engine.specs.declared.call.Call.TheVariants.{AddClient, Options, Dsn, IsEnabled, SampleShouldSend, PrepareEvent, ClientCaptureEvent, SendEnvelope, DropClient, TakeReport, Absorb, NewHub, Configure, AddBreadcrumbs, CaptureEvent, CaptureMessage, CaptureError, LastEventId, Client, IsActive, Scope, PushScope, PopScope, NewHubFromTop, ReleaseHub, BindClient, StartSession, EndSessionWithStatus, Flush, ClientCaptureLog, ClientCaptureMetric, Tick, Close, CloneClient, CaptureLog, CaptureMetric}
 use Rattle.sentry_engine.specs.declared.call.Reply.{Reply}
 use Rattle.sentry_engine.specs.declared.call.Reply.TheVariants as reply
-use Rattle.sentry_engine.specs.Worlds.{World}
-use Rattle.sentry_engine.specs.Outcomes.{Outcome, IsAnswer}
+use Rattle.sentry_state.specs.Worlds.{World}
+use Rattle.sentry_state.specs.Outcomes.{Outcome, IsAnswer}
 use Rattle.sentry_engine.specs.Clients as clients
 use Rattle.sentry_engine.specs.Hubs as hubs
 use Rattle.sentry_engine.specs.Layers as layers
 use Rattle.sentry_engine.specs.Losses as losses
 use Rattle.sentry_engine.specs.Sessions as sessions
 use Rattle.sentry_engine.specs.Telemetry as telemetry
+use Rattle.sentry_state.specs.Hubs.{add_breadcrumbs}
+use Rattle.sentry_sending.specs.Captures.{capture_event}
 
 module _ {P C T : Type 0} where
   -- an answer whose reply is put into the one type of replies
@@ -66,9 +68,9 @@ module _ {P C : Type 0} (gives : P → Partial) (meanings : C → Meanings) wher
   step (NewHub client scope) world = map_reply reply.Hub (hubs.new_hub client scope world)
   step (Configure hub edits now) world = map_reply (λ _. reply.Done) (hubs.configure hub edits now world)
   step (AddBreadcrumbs hub breadcrumbs) world =
-      map_reply (λ _. reply.Done) (hubs.add_breadcrumbs meanings hub breadcrumbs world)
+      map_reply (λ _. reply.Done) (add_breadcrumbs meanings hub breadcrumbs world)
   step (CaptureEvent hub event fresh) world =
-      map_reply reply.Event (hubs.capture_event gives meanings hub event fresh world)
+      map_reply reply.Event (capture_event gives meanings hub event fresh world)
   step (CaptureMessage hub message level fresh) world =
       map_reply reply.Event (hubs.capture_message gives meanings hub message level fresh world)
   step (CaptureError hub links fresh) world =

@@ -1,8 +1,8 @@
 //! Calls as values, one call, and a list of calls.
 ghost use Rattle.std.specs.Prelude.{◌≡◌, IfOk, IfErr};
 ghost use Rattle.sentry_base.specs.declared.protocol.refusal.Refusal.TheVariants.{OutOfMemory};
-ghost use Rattle.sentry_engine.specs.Worlds.{World, Stands, first_world};
-ghost use Rattle.sentry_engine.specs.Outcomes.{Does, DoesWith};
+ghost use Rattle.sentry_state.specs.Worlds.{World, Stands, first_world};
+ghost use Rattle.sentry_state.specs.Outcomes.{Does, DoesWith};
 ghost use Rattle.sentry_engine.specs.Hubs as call;
 ghost use Rattle.sentry_engine.specs.Replies.{IsMapped};
 ghost use Rattle.sentry_engine.specs.Runs.{step, takes_no_memory, Run};

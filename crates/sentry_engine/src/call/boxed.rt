@@ -3,7 +3,8 @@
 ghost use Rattle.std.specs.Prelude.{◌≡◌, option_copied};
 ghost use Rattle.sentry_engine.specs.Clients as clients;
 ghost use Rattle.sentry_engine.specs.Hubs as hubs;
-ghost use Rattle.sentry_engine.specs.Outcomes.{Does};
+ghost use Rattle.sentry_sending.specs.Captures.{capture_event};
+ghost use Rattle.sentry_state.specs.Outcomes.{Does};
 
 use crate::engine::{Engine, Out};
 use sentry_base::callbacks::EventCallback;
@@ -84,7 +85,7 @@ impl<P: EventCallback + Drop, C: Callbacks> Engine<P, C> {
         event: Boxed<Event>,
         fresh: Fresh,
     ) -> Result<Out<Uuid>, Refusal>
-        ensures { Does self.old self.new result (hubs.capture_event P.gives C.meanings hub event fresh) }
+        ensures { Does self.old self.new result (capture_event P.gives C.meanings hub event fresh) }
     {
         self.capture_event(hub, event.into_inner(), fresh)
     }

@@ -1,27 +1,24 @@
 //! The calls on hubs.
-ghost use Rattle.std.specs.Prelude.{◌≡◌, ◌<◌, ℕ, true, false, ◌-◌, ◌^◌, nat_lt, IfOk, IfErr, OnOk, OnErr, Some, [], ◌∷◌, is_some, if◌then◌else◌};
-ghost use Rattle.std.specs.Bool.{OnTrue};
-ghost use Rattle.sentry_plain.specs.Tables.{value_at, replace_at};
-ghost use Rattle.sentry_scope.specs.Scopes.{edit};
-ghost use Rattle.sentry_engine.specs.declared.engine.Hub.{Hub};
-ghost use Rattle.sentry_engine.specs.Worlds.{World, Stands};
-ghost use Rattle.sentry_engine.specs.Outcomes.{Does, DoesWithoutMemory, hub_at, with_scope};
-ghost use Rattle.sentry_base.specs.declared.protocol.event.Event.{Event};
-ghost use Rattle.sentry_engine.specs.Captures.{message_event};
+ghost use Rattle.std.specs.Prelude.{◌≡◌, ℕ, true, false, IfOk, IfErr, Some, [], ◌∷◌, is_some, if◌then◌else◌};
 ghost use Rattle.std.specs.List.{list_any};
-ghost use Rattle.sentry_engine.specs.Hubs.{is_clear, next_hub_key, with_breadcrumbs, with_new_hub};
+ghost use Rattle.sentry_state.specs.Worlds.{World, Stands};
+ghost use Rattle.sentry_state.specs.Hubs.{add_breadcrumbs};
+ghost use Rattle.sentry_state.specs.Outcomes.{Does, DoesWithoutMemory, hub_at};
+ghost use Rattle.sentry_sending.specs.Captures.{capture_event, message_event};
+ghost use Rattle.sentry_engine.specs.Hubs.{is_clear};
 ghost use Rattle.sentry_engine.specs.Hubs as call;
 
-use crate::engine::captures::{capture, captured_id, drop_unsent, takes_update};
-use crate::engine::{Engine, Hub, Out};
+use crate::engine::{Engine, Out};
 use sentry_base::callbacks::EventCallback;
 use sentry_base::protocol::{
     Breadcrumb, ClientKey, ErrorLink, Event, Fresh, HubKey, Level, Refusal, Uuid,
 };
 use sentry_base::utils::event_from_error;
 use sentry_options::clientoptions::Callbacks;
-use sentry_plain::{Boxed, Items, Text};
+use sentry_plain::{Boxed, Text};
 use sentry_scope::scope::{Scope, ScopeEdit, Stack};
+use sentry_sending::captures::capture_on_hub;
+use sentry_sending::session_ends::release_session;
 use std::alloc::{AllocError, Global};
 
 // The event of a message, as an event that is to be captured.
@@ -67,99 +64,6 @@ fn only<T: Drop>(items: Vec<T>) -> Result<T, Vec<T>>
 }
 
 impl<P: Drop, C: Callbacks> Engine<P, C> {
-    // Makes one edit in place. Where it is out of memory, nothing has changed.
-    #[tactic(auto, using(crate::proofs::Keeping::changed_same))]
-    fn edit_scope(&mut self, number: u64, setter: ScopeEdit<P>) -> Result<(), AllocError>
-        ensures in_world { OnOk result ((world : World P C) (hub : Hub P) → Stands self.old world →
-            value_at self.old.hubs number ≡ Some hub → Stands self.new (record world {
-              hubs = replace_at world.hubs number (with_scope hub (edit setter hub.stack.top.scope));
-            })) }
-        ensures err { OnErr result (self.new ≡ self.old) }
-    {
-        let Some(hub) = self.hubs.get_mut(number) else {
-            return Ok(());
-        };
-        hub.stack.top.scope.edit(setter)
-    }
-
-    // Adds breadcrumbs to the top scope of a hub, in place. Where it is out of memory, nothing has changed.
-    #[tactic(auto, using(crate::proofs::Keeping::changed_same))]
-    fn add_to_trail(
-        &mut self,
-        number: u64,
-        breadcrumbs: Items<Breadcrumb>,
-        max_breadcrumbs: usize,
-    ) -> Result<(), AllocError>
-        ensures in_world { OnOk result ((world : World P C) (hub : Hub P) → Stands self.old world →
-            value_at self.old.hubs number ≡ Some hub → Stands self.new (record world {
-              hubs = replace_at world.hubs number (with_breadcrumbs hub max_breadcrumbs breadcrumbs);
-            })) }
-        ensures err { OnErr result (self.new ≡ self.old) }
-    {
-        let Some(hub) = self.hubs.get_mut(number) else {
-            return Ok(());
-        };
-        hub.stack
-            .top
-            .scope
-            .add_breadcrumbs(breadcrumbs, max_breadcrumbs)
-    }
-
-    // Writes the top scope of a hub that is held.
-    fn set_scope(&mut self, number: u64, scope: Scope<P>)
-        ensures in_world { (world : World P C) (hub : Hub P) → Stands self.old world →
-            value_at self.old.hubs number ≡ Some hub → Stands self.new (record world {
-              hubs = replace_at world.hubs number (with_scope hub scope);
-            }) }
-    {
-        let Some(hub) = self.hubs.get_mut(number) else {
-            return;
-        };
-        hub.stack.top.scope = scope;
-    }
-
-    // Notes the last event of a hub that is held.
-    fn set_last_event_id(&mut self, number: u64, id: Uuid)
-        ensures in_world { (world : World P C) (hub : Hub P) → Stands self.old world →
-            value_at self.old.hubs number ≡ Some hub → Stands self.new (record world {
-              hubs = replace_at world.hubs number (record hub { last_event_id = Some id });
-            }) }
-    {
-        let Some(hub) = self.hubs.get_mut(number) else {
-            return;
-        };
-        hub.last_event_id = Some(id);
-    }
-
-    // Whether a number is left for a hub.
-    pub(super) fn has_hub_number(&self) -> bool
-        ensures in_world { (world : World P C) → Stands self.now world →
-            result ≡ nat_lt world.next.hub (2 ^ 64 - 1) }
-        ensures below { OnTrue result (self.now.next.hub < 2 ^ 64 - 1) }
-    {
-        self.next.hub != u64::MAX
-    }
-
-    // Holds a hub of these layers under the next number, which is left.
-    pub(super) fn insert_hub(&mut self, stack: Stack<P>) -> Result<HubKey, AllocError>
-        requires { self.old.next.hub < 2 ^ 64 - 1 }
-        ensures in_world { IfOk result (λ key. (world : World P C) → Stands self.old world →
-            (key ≡ next_hub_key world) × Stands self.new (with_new_hub stack world)) }
-        ensures err { OnErr result (self.new ≡ self.old) }
-    {
-        let number = self.next.hub;
-        let hub = Hub {
-            stack,
-            last_event_id: None,
-        };
-        self.hubs.insert(number, hub)?;
-        self.next.hub = number + 1;
-        Ok(HubKey {
-            tag: self.tag,
-            number,
-        })
-    }
-
     /// Adds a hub with one layer, of a client or none and a scope, and answers its key.
     ///
     /// `Stale`: the client isn't held. `Full`: the numbers are used up. `OutOfMemory`.
@@ -171,15 +75,15 @@ impl<P: Drop, C: Callbacks> Engine<P, C> {
     ) -> Result<Out<HubKey>, Refusal>
         ensures { Does self.old self.new result (call.new_hub client scope) }
     {
-        if !self.holds(client) {
+        if !self.state.holds(client) {
             return Err(Refusal::Stale);
         }
-        if !self.has_hub_number() {
+        if !self.state.has_hub_number() {
             return Err(Refusal::Full);
         }
-        let stack = Stack::from_client_and_scope(self.alloc, client, scope);
-        let key = self.insert_hub(stack)?;
-        Ok(self.out(key))
+        let stack = Stack::from_client_and_scope(self.state.alloc, client, scope);
+        let key = self.state.insert_hub(stack)?;
+        Ok(self.state.out(key))
     }
 
     // One edit that doesn't clear the scope. It costs what it changes.
@@ -188,11 +92,11 @@ impl<P: Drop, C: Callbacks> Engine<P, C> {
         requires { is_clear edit ≡ false }
         ensures { (now : ℕ) → Does self.old self.new result (call.configure hub (edit ∷ []) now) }
     {
-        if self.hub_at(hub).is_none() {
+        if self.state.hub_at(hub).is_none() {
             return Err(Refusal::Stale);
         }
-        self.edit_scope(hub.number, edit)?;
-        Ok(self.out(()))
+        self.state.edit_scope(hub.number, edit)?;
+        Ok(self.state.out(()))
     }
 
     // Several edits, none of which clears the scope. They are done to a copy, so that all of them are done or none.
@@ -201,13 +105,13 @@ impl<P: Drop, C: Callbacks> Engine<P, C> {
         requires { list_any is_clear edits.items ≡ false }
         ensures { (now : ℕ) → Does self.old self.new result (call.configure hub edits.items now) }
     {
-        let Some(held) = self.hub_at(hub) else {
+        let Some(held) = self.state.hub_at(hub) else {
             return Err(Refusal::Stale);
         };
         let mut scope = held.stack.top.scope.clone()?;
         scope.edit_all(edits)?;
-        self.set_scope(hub.number, scope);
-        Ok(self.out(()))
+        self.state.set_scope(hub.number, scope);
+        Ok(self.state.out(()))
     }
 
     // Edits one of which clears the scope, which gives up the session of the layer.
@@ -221,13 +125,13 @@ impl<P: Drop, C: Callbacks> Engine<P, C> {
         requires { list_any is_clear edits.items ≡ true }
         ensures { Does self.old self.new result (call.configure hub edits.items now) }
     {
-        let Some(held) = self.hub_at(hub) else {
+        let Some(held) = self.state.hub_at(hub) else {
             return Err(Refusal::Stale);
         };
         let mut scope = held.stack.top.scope.clone()?;
         scope.edit_all(edits)?;
-        let sent = self.release_session(hub.number, now)?;
-        self.set_scope(hub.number, scope);
+        let sent = release_session(&mut self.state, hub.number, now)?;
+        self.state.set_scope(hub.number, scope);
         Ok(Out { reply: (), sent })
     }
 
@@ -258,31 +162,14 @@ impl<P: Drop, C: Callbacks> Engine<P, C> {
     /// client, or without a breadcrumb, nothing changes and no callback is called.
     ///
     /// `Stale`: the hub isn't held. `OutOfMemory`: none of the breadcrumbs is added.
-    #[tactic(auto, unfolding(crate::specs::Hubs::add_breadcrumbs))]
     pub fn add_breadcrumbs(
         &mut self,
         hub: HubKey,
         breadcrumbs: Vec<Breadcrumb>,
     ) -> Result<Out<()>, Refusal>
-        ensures { Does self.old self.new result (call.add_breadcrumbs C.meanings hub breadcrumbs.items) }
+        ensures { Does self.old self.new result (add_breadcrumbs C.meanings hub breadcrumbs.items) }
     {
-        let Some(held) = self.hub_at(hub) else {
-            return Err(Refusal::Stale);
-        };
-        if breadcrumbs.is_empty() {
-            return Ok(self.out(()));
-        }
-        let Some(client_key) = held.stack.top.client else {
-            return Ok(self.out(()));
-        };
-        let Some(client) = self.client_at(client_key) else {
-            return Ok(self.out(()));
-        };
-        let max_breadcrumbs = client.options.get().plain.max_breadcrumbs;
-        let callbacks = &client.options.get().callbacks;
-        let kept = callbacks.before_breadcrumb(Items::from_vec(breadcrumbs))?;
-        self.add_to_trail(hub.number, kept, max_breadcrumbs)?;
-        Ok(self.out(()))
+        self.state.add_breadcrumbs(hub, breadcrumbs)
     }
 
     /// The id that the last capture on a hub answered, if its top layer had a client at one.
@@ -292,10 +179,10 @@ impl<P: Drop, C: Callbacks> Engine<P, C> {
     pub fn last_event_id(&self, hub: HubKey) -> Result<Out<Option<Uuid>>, Refusal>
         ensures { DoesWithoutMemory self.now self.now result (call.last_event_id hub) }
     {
-        let Some(held) = self.hub_at(hub) else {
+        let Some(held) = self.state.hub_at(hub) else {
             return Err(Refusal::Stale);
         };
-        Ok(self.out(held.last_event_id))
+        Ok(self.state.out(held.last_event_id))
     }
 
     // The refusal of a call on a hub for which there is no memory.
@@ -303,7 +190,7 @@ impl<P: Drop, C: Callbacks> Engine<P, C> {
         ensures { (world : World P C) → Stands self.now world →
             result ≡ if is_some (hub_at world hub) then Refusal.OutOfMemory else Refusal.Stale }
     {
-        if self.hub_at(hub).is_some() {
+        if self.state.hub_at(hub).is_some() {
             return Refusal::OutOfMemory;
         }
         Refusal::Stale
@@ -316,10 +203,10 @@ impl<P: Drop, C: Callbacks> Engine<P, C> {
     pub fn client(&self, hub: HubKey) -> Result<Out<Option<ClientKey>>, Refusal>
         ensures { DoesWithoutMemory self.now self.now result (call.client hub) }
     {
-        let Some(held) = self.hub_at(hub) else {
+        let Some(held) = self.state.hub_at(hub) else {
             return Err(Refusal::Stale);
         };
-        Ok(self.out(held.stack.top.client))
+        Ok(self.state.out(held.stack.top.client))
     }
 
     /// Whether the top layer has a client that is enabled.
@@ -329,17 +216,17 @@ impl<P: Drop, C: Callbacks> Engine<P, C> {
     pub fn is_active(&self, hub: HubKey) -> Result<Out<bool>, Refusal>
         ensures { DoesWithoutMemory self.now self.now result (call.is_active hub) }
     {
-        let Some(held) = self.hub_at(hub) else {
+        let Some(held) = self.state.hub_at(hub) else {
             return Err(Refusal::Stale);
         };
         let Some(key) = held.stack.top.client else {
-            return Ok(self.out(false));
+            return Ok(self.state.out(false));
         };
-        let Some(client) = self.client_at(key) else {
-            return Ok(self.out(false));
+        let Some(client) = self.state.client_at(key) else {
+            return Ok(self.state.out(false));
         };
         let is_enabled = client.options.get().plain.dsn.is_some() && client.occupied;
-        Ok(self.out(is_enabled))
+        Ok(self.state.out(is_enabled))
     }
 
     /// A copy of the top scope.
@@ -349,51 +236,15 @@ impl<P: Drop, C: Callbacks> Engine<P, C> {
     pub fn scope(&self, hub: HubKey) -> Result<Out<Boxed<Scope<P>>>, Refusal>
         ensures { Does self.now self.now result (call.scope hub) }
     {
-        let Some(held) = self.hub_at(hub) else {
+        let Some(held) = self.state.hub_at(hub) else {
             return Err(Refusal::Stale);
         };
-        let scope = Boxed::new(self.alloc, held.stack.top.scope.clone()?)?;
-        Ok(self.out(scope))
+        let scope = Boxed::new(self.state.alloc, held.stack.top.scope.clone()?)?;
+        Ok(self.state.out(scope))
     }
 }
 
 impl<P: EventCallback + Drop, C: Callbacks> Engine<P, C> {
-    // Captures the event that is there; none is left. It is lent, since a function that owns an event makes room for
-    // one at each of its ends.
-    #[tactic(auto, unfolding(crate::specs::Hubs::capture_event))]
-    fn capture(
-        &mut self,
-        hub: HubKey,
-        event: &mut Option<Event>,
-        fresh: Fresh,
-    ) -> Result<Out<Uuid>, Refusal>
-        ensures { (given : Event) → event.old ≡ Some given →
-            Does self.old self.new result (call.capture_event P.gives C.meanings hub given fresh) }
-    {
-        let Some(held) = self.hub_at(hub) else {
-            return Err(Refusal::Stale);
-        };
-        let Some(key) = held.stack.top.client else {
-            return Ok(self.out(Uuid::nil()));
-        };
-        let Some(client) = self.client_at(key) else {
-            return Ok(self.out(Uuid::nil()));
-        };
-        let label = client.label;
-        let scope = Some(&held.stack.top.scope);
-        let name = held.stack.top.session;
-        let preparation = capture(self.alloc, client, scope, fresh, event)?;
-        let takes = takes_update(client, &preparation, event);
-        let (update, session) = self.capture_named_session(name, takes, event)?;
-        drop_unsent(&preparation, event);
-        let reply = captured_id(event);
-        let sent = self.captured_envelopes(key, label, update, scope, event)?;
-        self.note_capture(label, preparation);
-        self.set_named_session(name, session);
-        self.set_last_event_id(hub.number, reply);
-        Ok(Out { reply, sent })
-    }
-
     /// Captures an event on a hub: it goes through the pipeline of the top layer's client, under that layer's scope,
     /// and out in an envelope. If it comes through all callbacks, the layer's session counts it, and in the mode of
     /// applications the envelope takes along what the server is to be told of the session. Its id is the reply; the nil
@@ -406,13 +257,13 @@ impl<P: EventCallback + Drop, C: Callbacks> Engine<P, C> {
         event: Event,
         fresh: Fresh,
     ) -> Result<Out<Uuid>, Refusal>
-        ensures { Does self.old self.new result (call.capture_event P.gives C.meanings hub event fresh) }
+        ensures { Does self.old self.new result (capture_event P.gives C.meanings hub event fresh) }
     {
-        self.capture(hub, &mut Some(event), fresh)
+        capture_on_hub(&mut self.state, hub, &mut Some(event), fresh)
     }
 
     // The same as `capture_message`, of a text that needs no copy.
-    #[tactic(auto, unfolding(crate::specs::Hubs::capture_message, crate::specs::Hubs::capture_event))]
+    #[tactic(auto, unfolding(crate::specs::Hubs::capture_message, sentry_sending::specs::Captures::capture_event))]
     pub(crate) fn capture_text(
         &mut self,
         hub: HubKey,
@@ -422,8 +273,8 @@ impl<P: EventCallback + Drop, C: Callbacks> Engine<P, C> {
     ) -> Result<Out<Uuid>, Refusal>
         ensures { Does self.old self.new result (call.capture_message P.gives C.meanings hub message level fresh) }
     {
-        match message_event(self.alloc, message, level, fresh.uuid, fresh.now) {
-            Ok(mut event) => self.capture(hub, &mut event, fresh),
+        match message_event(self.state.alloc, message, level, fresh.uuid, fresh.now) {
+            Ok(mut event) => capture_on_hub(&mut self.state, hub, &mut event, fresh),
             Err(_) => Err(self.hub_refusal(hub)),
         }
     }
@@ -431,7 +282,7 @@ impl<P: EventCallback + Drop, C: Callbacks> Engine<P, C> {
     /// Captures an event of a message and a level on a hub, as `capture_event` does.
     ///
     /// `Stale`: the hub isn't held. `OutOfMemory`.
-    #[tactic(auto, unfolding(crate::specs::Hubs::capture_message, crate::specs::Hubs::capture_event))]
+    #[tactic(auto, unfolding(crate::specs::Hubs::capture_message, sentry_sending::specs::Captures::capture_event))]
     pub fn capture_message(
         &mut self,
         hub: HubKey,
@@ -441,7 +292,7 @@ impl<P: EventCallback + Drop, C: Callbacks> Engine<P, C> {
     ) -> Result<Out<Uuid>, Refusal>
         ensures { Does self.old self.new result (call.capture_message P.gives C.meanings hub message.now level fresh) }
     {
-        match Text::new(self.alloc, message) {
+        match Text::new(self.state.alloc, message) {
             Ok(message) => self.capture_text(hub, message, level, fresh),
             Err(_) => Err(self.hub_refusal(hub)),
         }
@@ -451,7 +302,7 @@ impl<P: EventCallback + Drop, C: Callbacks> Engine<P, C> {
     /// are given outermost first.
     ///
     /// `Stale`: the hub isn't held. `OutOfMemory`.
-    #[tactic(auto, unfolding(crate::specs::Hubs::capture_error, crate::specs::Hubs::capture_event))]
+    #[tactic(auto, unfolding(crate::specs::Hubs::capture_error, sentry_sending::specs::Captures::capture_event))]
     pub fn capture_error(
         &mut self,
         hub: HubKey,
@@ -460,8 +311,8 @@ impl<P: EventCallback + Drop, C: Callbacks> Engine<P, C> {
     ) -> Result<Out<Uuid>, Refusal>
         ensures { Does self.old self.new result (call.capture_error P.gives C.meanings hub links.now fresh) }
     {
-        match event_from_error(self.alloc, links, fresh.uuid, fresh.now) {
-            Ok(event) => self.capture(hub, &mut Some(event), fresh),
+        match event_from_error(self.state.alloc, links, fresh.uuid, fresh.now) {
+            Ok(event) => capture_on_hub(&mut self.state, hub, &mut Some(event), fresh),
             Err(_) => Err(self.hub_refusal(hub)),
         }
     }

@@ -1,18 +1,14 @@
 //! The calls on the layers of hubs.
-ghost use Rattle.std.specs.Prelude.{◌≡◌, IfOk, IfErr, OnErr, Some};
-ghost use Rattle.sentry_plain.specs.Tables.{value_at, replace_at};
-ghost use Rattle.sentry_scope.specs.Stacks.{depth, push, pop};
-ghost use Rattle.sentry_engine.specs.declared.engine.Hub.{Hub};
-ghost use Rattle.sentry_engine.specs.Worlds.{World, Stands};
-ghost use Rattle.sentry_engine.specs.Outcomes.{Does, DoesWithoutMemory, with_stack, with_client};
+ghost use Rattle.std.specs.Prelude.{◌≡◌, IfErr};
+ghost use Rattle.sentry_state.specs.Outcomes.{Does, DoesWithoutMemory};
 ghost use Rattle.sentry_engine.specs.Replies.{without_value};
 ghost use Rattle.sentry_engine.specs.Layers as call;
 
-use crate::engine::{Engine, Hub, Out};
+use crate::engine::{Engine, Out};
 use sentry_base::protocol::{ClientKey, HubKey, Refusal};
 use sentry_options::clientoptions::Callbacks;
 use sentry_scope::scope::Stack;
-use std::alloc::AllocError;
+use sentry_sending::session_ends::release_session;
 use std::marker::Model;
 
 /// Stands for a layer that was pushed onto a hub. It cannot be dropped, so that no layer is forgotten unseen: it is
@@ -42,49 +38,6 @@ impl ScopeGuard {
 }
 
 impl<P: Drop, C: Callbacks> Engine<P, C> {
-    // Pushes a copy of the top layer of a hub that is held, and returns the depth after it. If out of memory, nothing
-    // has changed.
-    #[tactic(auto, using(crate::proofs::Keeping::changed_same))]
-    fn push_layer(&mut self, number: u64) -> Result<usize, AllocError>
-        ensures in_world { IfOk result (λ pushed. (world : World P C) (hub : Hub P) → Stands self.old world →
-            value_at self.old.hubs number ≡ Some hub → (pushed ≡ depth (push hub.stack)) ×
-            Stands self.new (record world { hubs = replace_at world.hubs number (with_stack hub (push hub.stack)) })) }
-        ensures err { OnErr result (self.new ≡ self.old) }
-    {
-        let Some(hub) = self.hubs.get_mut(number) else {
-            return Ok(0);
-        };
-        hub.stack.push()?;
-        Ok(hub.stack.depth())
-    }
-
-    // Removes the top layer of a hub that is held, unless it has no other.
-    #[tactic(auto, using(crate::proofs::Keeping::changed_same))]
-    fn pop_layer(&mut self, number: u64)
-        ensures in_world { (world : World P C) (hub : Hub P) → Stands self.old world →
-            value_at self.old.hubs number ≡ Some hub → Stands self.new (record world {
-              hubs = replace_at world.hubs number (with_stack hub (pop hub.stack));
-            }) }
-    {
-        let Some(hub) = self.hubs.get_mut(number) else {
-            return;
-        };
-        let _ = hub.stack.pop();
-    }
-
-    // Writes the client of the top layer of a hub that is held.
-    fn set_client(&mut self, number: u64, client: Option<ClientKey>)
-        ensures in_world { (world : World P C) (hub : Hub P) → Stands self.old world →
-            value_at self.old.hubs number ≡ Some hub → Stands self.new (record world {
-              hubs = replace_at world.hubs number (with_client hub client);
-            }) }
-    {
-        let Some(hub) = self.hubs.get_mut(number) else {
-            return;
-        };
-        hub.stack.top.client = client;
-    }
-
     /// Pushes a copy of a hub's top layer onto it: client, scope and session. The reply stands for the new layer.
     ///
     /// `Stale`: the hub isn't held. `OutOfMemory`.
@@ -92,11 +45,11 @@ impl<P: Drop, C: Callbacks> Engine<P, C> {
     pub fn push_scope(&mut self, hub: HubKey) -> Result<Out<ScopeGuard>, Refusal>
         ensures { Does self.old self.new result (call.push_scope hub) }
     {
-        if self.hub_at(hub).is_none() {
+        if self.state.hub_at(hub).is_none() {
             return Err(Refusal::Stale);
         }
-        let depth = self.push_layer(hub.number)?;
-        Ok(self.out(ScopeGuard { hub, depth }))
+        let depth = self.state.push_layer(hub.number)?;
+        Ok(self.state.out(ScopeGuard { hub, depth }))
     }
 
     // The same as `pop_scope`, of plain numbers.
@@ -109,17 +62,14 @@ impl<P: Drop, C: Callbacks> Engine<P, C> {
     ) -> Result<Out<()>, Refusal>
         ensures { Does self.old self.new result (call.pop_scope hub depth now) }
     {
-        let Some(held) = self.hub_at(hub) else {
+        let Some(held) = self.state.hub_at(hub) else {
             return Err(Refusal::Stale);
         };
-        if held.stack.depth() != depth {
+        if !held.is_top_layer(depth) {
             return Err(Refusal::OutOfOrder);
         }
-        if depth == 0 {
-            return Err(Refusal::OutOfOrder);
-        }
-        let sent = self.release_session(hub.number, now)?;
-        self.pop_layer(hub.number);
+        let sent = release_session(&mut self.state, hub.number, now)?;
+        self.state.pop_layer(hub.number);
         Ok(Out { reply: (), sent })
     }
 
@@ -152,15 +102,15 @@ impl<P: Drop, C: Callbacks> Engine<P, C> {
     pub fn new_hub_from_top(&mut self, hub: HubKey) -> Result<Out<HubKey>, Refusal>
         ensures { Does self.old self.new result (call.new_hub_from_top hub) }
     {
-        let Some(held) = self.hub_at(hub) else {
+        let Some(held) = self.state.hub_at(hub) else {
             return Err(Refusal::Stale);
         };
-        if !self.has_hub_number() {
+        if !self.state.has_hub_number() {
             return Err(Refusal::Full);
         }
         let stack = Stack::from_top(&held.stack)?;
-        let key = self.insert_hub(stack)?;
-        Ok(self.out(key))
+        let key = self.state.insert_hub(stack)?;
+        Ok(self.state.out(key))
     }
 
     /// Gives a hub back, which has one layer. Its key is stale from then on. The session that the layer names ends if
@@ -171,14 +121,14 @@ impl<P: Drop, C: Callbacks> Engine<P, C> {
     pub fn release_hub(&mut self, hub: HubKey, now: u64) -> Result<Out<()>, Refusal>
         ensures { Does self.old self.new result (call.release_hub hub now) }
     {
-        let Some(held) = self.hub_at(hub) else {
+        let Some(held) = self.state.hub_at(hub) else {
             return Err(Refusal::Stale);
         };
         if held.stack.depth() != 0 {
             return Err(Refusal::ScopesOpen);
         }
-        let sent = self.release_session(hub.number, now)?;
-        self.hubs.remove(hub.number);
+        let sent = release_session(&mut self.state, hub.number, now)?;
+        self.state.hubs.remove(hub.number);
         Ok(Out { reply: (), sent })
     }
 
@@ -193,13 +143,13 @@ impl<P: Drop, C: Callbacks> Engine<P, C> {
     ) -> Result<Out<()>, Refusal>
         ensures { DoesWithoutMemory self.old self.new result (call.bind_client hub client) }
     {
-        if self.hub_at(hub).is_none() {
+        if self.state.hub_at(hub).is_none() {
             return Err(Refusal::Stale);
         }
-        if !self.holds(client) {
+        if !self.state.holds(client) {
             return Err(Refusal::Stale);
         }
-        self.set_client(hub.number, client);
-        Ok(self.out(()))
+        self.state.set_client(hub.number, client);
+        Ok(self.state.out(()))
     }
 }

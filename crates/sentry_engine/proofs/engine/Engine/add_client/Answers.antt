@@ -1,17 +1,18 @@
 use Rattle.std.proofs.Common.{◌≡◌, ◌∙◌, ap, sym, subst, true, ◌+◌, ◌-◌, ◌^◌, [], rules}
 use Rattle.std.specs.Prelude.{nat_lt, ◌==◌, Ok}
 use Rattle.sentry_plain.specs.Tables.{put}
-use Rattle.sentry_engine.specs.Books.{with_book}
-use Rattle.sentry_engine.specs.Clients.{new_client}
-use Rattle.sentry_engine.specs.Worlds.{World, Stands}
-use Rattle.sentry_engine.specs.declared.engine.Engine.{Engine}
-use Rattle.sentry_engine.proofs.SendingLemmas.{add_client_is, with_client_and_book, may_lack_memory, refused_for_memory}
+use Rattle.sentry_state.specs.Books.{with_book}
+use Rattle.sentry_state.specs.Clients.{new_client}
+use Rattle.sentry_state.specs.Worlds.{World, Stands}
+use Rattle.sentry_state.specs.declared.state.State.{State}
+use Rattle.sentry_engine.proofs.CallLemmas.{add_client_is, with_client_and_book, may_lack_memory, refused_for_memory}
 use Rattle.sentry_engine.proofs.engine.Engine.add_client.Goals as goal
 
 pub returns-in_err-insert_client_and_book : goal.returns-in_err-insert_client_and_book
 returns-in_err-insert_client_and_book g c =
     let gives = c.from_residual-in_err-insert_client_and_book.ensures in
-    refused_for_memory _ _ _ _ gives.0 gives.1 c.in_err-insert_client_and_book.ensures.err (λ world s.
+    refused_for_memory _ _ _ _ gives.0 gives.1 (c.in_err-insert_client_and_book.ensures.err ∙ c.self.view_is) (λ world here.
+    let s = subst (λ (kept : State g.row.P.Denot g.row.C.Denot). Stands kept world) (sym c.self.view_is) here in
     let same : c.args.label.tag ≡ world.tag = c.if-label-self.false ∙ s.tag in
     let next = s.next in
     let own : (c.args.label.tag == world.tag) ≡ true = search rules in
@@ -20,7 +21,8 @@ returns-in_err-insert_client_and_book g c =
 
 -- the client stands under the next number
 pub returns : goal.returns
-returns g c = λ world s.
+returns g c = λ world here.
+    let s = subst (λ (kept : State g.row.P.Denot g.row.C.Denot). Stands kept world) (sym c.self.view_is) here in
     let same : c.args.label.tag ≡ world.tag = c.if-label-self.false ∙ s.tag in
     let next = s.next in
     let client = new_client g.C.Callbacks.meanings c.args.options c.args.transport c.args.label c.args.now in
@@ -34,8 +36,8 @@ returns g c = λ world s.
     }) inserted in
     let is = add_client_is g.C.Callbacks.meanings c.args.options c.args.transport c.args.label c.args.now world own left in
     let rest = c.in_ok-insert_client_and_book.ensures.rest in
-    let engine : Engine g.row.P.Denot g.row.C.Denot = record c.insert_client_and_book.new.self {
-      next = record c.insert_client_and_book.new.self.next { client = c.args.self.now.next.client + 1 };
+    let engine : State g.row.P.Denot g.row.C.Denot = record c.insert_client_and_book.new.self {
+      next = record c.insert_client_and_book.new.self.next { client = c.self.inside.state.next.client + 1 };
     } in
     let stands : Stands engine (with_client_and_book client c.args.label world) = record {
       tag = there.tag;

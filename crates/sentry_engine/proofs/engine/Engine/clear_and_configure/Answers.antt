@@ -1,26 +1,29 @@
+use Rattle.sentry_state.specs.declared.state.State.{State}
 use Rattle.std.proofs.Common.{◌≡◌, ◌∙◌, ap, refl, sym, subst, Some, None}
 use Rattle.sentry_plain.specs.Tables.{value_at}
 use Rattle.sentry_scope.specs.Scopes.{edit_all}
-use Rattle.sentry_engine.specs.Outcomes.{hub_at, with_hub, with_scope}
-use Rattle.sentry_engine.specs.SessionEnds.{release_session, with_session}
-use Rattle.sentry_engine.specs.Worlds.{World, Stands}
-use Rattle.sentry_engine.proofs.SendingLemmas.{configure_is, replied}
-use Rattle.sentry_engine.proofs.TableLemmas.{value_replaced}
+use Rattle.sentry_state.specs.Outcomes.{hub_at, with_hub, with_scope}
+use Rattle.sentry_sending.specs.SessionEnds.{release_session}
+use Rattle.sentry_state.specs.Changes.{with_session}
+use Rattle.sentry_state.specs.Worlds.{World, Stands}
+use Rattle.sentry_engine.proofs.CallLemmas.{configure_is, replied}
+use Rattle.sentry_state.proofs.TableLemmas.{value_replaced}
 use Rattle.sentry_engine.proofs.engine.Engine.clear_and_configure.Goals as goal
 
 -- the layer gives up its session, and gets the scope after the edits
 pub returns : goal.returns
-returns g c = λ world s.
+returns g c = λ world here.
+    let s = subst (λ (kept : State g.row.P.Denot g.row.C.Denot). Stands kept world) (sym c.self.view_is) here in
     let key = c.args.hub in
     let hub = c.in-Some.held.now in
     let unnamed = with_session hub None in
     let found : hub_at world key ≡ Some hub = sym (c.in-Some.ensures.in_world world s) in
-    let there : value_at c.args.self.now.hubs key.number ≡ Some hub = c.in-Some.ensures.in_table hub refl in
+    let there : value_at c.self.inside.state.hubs key.number ≡ Some hub = c.in-Some.ensures.in_table hub refl in
     let released = c.in_ok-sent.ensures.in_world world hub s there in
     let after = (release_session key.number hub c.args.now world).after in
-    let still : value_at c.release_session.new.self.hubs key.number ≡ Some unnamed =
+    let still : value_at c.release_session.new.state.hubs key.number ≡ Some unnamed =
     ap (λ hubs. value_at hubs key.number) (c.in_ok-sent.ensures.hubs hub there)
-    ∙ value_replaced key.number c.args.self.now.hubs unnamed hub there in
+    ∙ value_replaced key.number c.self.inside.state.hubs unnamed hub there in
     let set = c.set_scope.ensures.in_world after unnamed released.1 still in
     let scope = c.in_ok-edit_all.ensures ∙ ap (edit_all c.args.edits.items) c.in_ok-scope.ensures.cases in
     let stands = subst (λ (w : World g.row.P.Denot g.row.C.Denot). Stands c.set_scope.new.self w)

@@ -1,12 +1,15 @@
-use Rattle.std.proofs.Common.{◌≡◌, ◌∙◌, Some, false, ap, sym}
-use Rattle.sentry_engine.specs.Clients.{is_client_named, has_session_of}
-use Rattle.sentry_engine.specs.Outcomes.{plain_client_at}
-use Rattle.sentry_engine.proofs.SendingLemmas.{drop_client_is, replied}
+use Rattle.sentry_state.specs.declared.state.State.{State}
+use Rattle.sentry_state.specs.Worlds.{Stands}
+use Rattle.std.proofs.Common.{◌≡◌, ◌∙◌, Some, false, ap, sym, subst}
+use Rattle.sentry_state.specs.Clients.{is_client_named, has_session_of}
+use Rattle.sentry_state.specs.Outcomes.{plain_client_at}
+use Rattle.sentry_engine.proofs.CallLemmas.{drop_client_is, replied}
 use Rattle.sentry_engine.proofs.engine.Engine.drop_client.Goals as goal
 
 -- the client that was found stands in the world, and nothing names it
 pub returns : goal.returns
-returns g c = λ world s.
+returns g c = λ world here.
+    let s = subst (λ (kept : State g.row.P.Denot g.row.C.Denot). Stands kept world) (sym c.self.view_is) here in
     let key = c.args.client in
     let found : plain_client_at world key ≡ Some c.in-Some.held.now = sym (c.in-Some.ensures world s) in
     let unnamed : is_client_named key world.hubs ≡ false =

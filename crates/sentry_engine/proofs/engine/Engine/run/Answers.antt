@@ -1,7 +1,7 @@
 use Rattle.std.proofs.Common.{◌≡◌, [], ◌∷◌, rules, subst, List, length, refl, arith}
 use Rattle.std.specs.Vec.Iter.{into_iter_items}
 use Rattle.sentry_engine.specs.declared.call.Call.{Call}
-use Rattle.sentry_engine.specs.Worlds.{first_world}
+use Rattle.sentry_state.specs.Worlds.{first_world}
 use Rattle.sentry_engine.proofs.RunLemmas.{Reaches, reaches_more, reaches_end}
 use Rattle.sentry_engine.proofs.engine.Engine.run.Goals as goal
 

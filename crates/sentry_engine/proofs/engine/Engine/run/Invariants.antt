@@ -1,7 +1,7 @@
 use Rattle.std.proofs.Common.{◌+◌, ◌≤◌, length, vec_len}
 use Rattle.std.specs.Vec.{vec_capacity}
 use Rattle.std.specs.Vec.Iter.{into_iter_items}
-use Rattle.sentry_engine.specs.Worlds.{first_world}
+use Rattle.sentry_state.specs.Worlds.{first_world}
 use Rattle.sentry_engine.proofs.RunLemmas.{Reaches}
 use Rattle.sentry_engine.proofs.engine.Engine.run.Given as goal
 

@@ -1,21 +1,24 @@
-use Rattle.std.proofs.Common.{◌≡◌, ◌∙◌, refl, sym, Some, [], true, rules}
+use Rattle.sentry_state.specs.declared.state.State.{State}
+use Rattle.sentry_state.specs.Worlds.{Stands}
+use Rattle.std.proofs.Common.{◌≡◌, ◌∙◌, refl, sym, Some, [], true, rules, subst}
 use Rattle.std.specs.Prelude.{option_map}
 use Rattle.sentry_plain.specs.Tables.{value_at}
 use Rattle.sentry_parts.specs.Sessions.{session_of, start_of}
-use Rattle.sentry_engine.specs.Outcomes.{hub_at, plain_client_at}
-use Rattle.sentry_engine.specs.Sessions.{is_session_number_left}
-use Rattle.sentry_engine.proofs.Keeping.{session_start}
-use Rattle.sentry_engine.proofs.SendingLemmas.{start_session_is, replied}
+use Rattle.sentry_state.specs.Outcomes.{hub_at, plain_client_at}
+use Rattle.sentry_state.specs.Changes.{is_session_number_left}
+use Rattle.sentry_state.proofs.Keeping.{session_start}
+use Rattle.sentry_engine.proofs.CallLemmas.{start_session_is, replied}
 use Rattle.sentry_engine.proofs.engine.Engine.start_session.Goals as goal
 
 -- the hub and the client that were found stand in the world, and the session starts
 pub returns : goal.returns
-returns g c = λ world s.
+returns g c = λ world here.
+    let s = subst (λ (kept : State g.row.P.Denot g.row.C.Denot). Stands kept world) (sym c.self.view_is) here in
     let key = c.args.hub in
     let hub = c.in-Some.held.now in
     let client = c.in-Some-client_at.client.now in
     let found : hub_at world key ≡ Some hub = sym (c.in-Some.ensures.in_world world s) in
-    let there : value_at c.args.self.now.hubs key.number ≡ Some hub = c.in-Some.ensures.in_table hub refl in
+    let there : value_at c.self.inside.state.hubs key.number ≡ Some hub = c.in-Some.ensures.in_table hub refl in
     let client_found : plain_client_at world c.in-Some-client.key ≡ Some client = sym (c.in-Some-client_at.ensures world s) in
     let given : c.has_session_number.result ≡ true = search rules in
     let left : is_session_number_left world ≡ true = sym (c.has_session_number.ensures.in_world world s) ∙ given in

@@ -1,0 +1,134 @@
+-- What calls come to, once it is known what they found.
+use Rattle.std.proofs.lemmas.Bool.Decides.{nat_tests}
+use Rattle.std.proofs.Common.{arith, ◌≡◌, refl, ap, sym, subst, ◌∙◌, ℕ, ◌+◌, ◌-◌, ◌^◌, Bool, true, false, List, []}
+use Rattle.std.specs.Prelude.{Some, None, Result, Ok, Err, IsErr, is_ok, nat_lt, ◌==◌, ◌&&◌}
+use Rattle.std.specs.List.{list_any}
+use Rattle.std.specs.Result.{IsErrAnd}
+use Rattle.sentry_base.specs.declared.protocol.refusal.Refusal.{Refusal}
+use Rattle.sentry_state.specs.declared.state.Out.{Out}
+use Rattle.sentry_base.specs.declared.protocol.envelope.Envelope.{Envelope}
+use Rattle.sentry_base.specs.declared.protocol.fresh.Fresh.{Fresh}
+use Rattle.sentry_base.specs.declared.protocol.keys.HubKey.{HubKey}
+use Rattle.sentry_base.specs.declared.protocol.refusal.Refusal.TheVariants.{OutOfMemory}
+use Rattle.sentry_base.specs.declared.protocol.keys.ClientKey.{ClientKey}
+use Rattle.sentry_plain.specs.Tables.{without, put}
+use Rattle.sentry_parts.specs.Sessions.{start_of}
+use Rattle.sentry_parts.specs.declared.session.record.SessionStart.{SessionStart}
+use Rattle.sentry_options.specs.Meanings.{Meanings}
+use Rattle.sentry_scope.specs.Scopes.{edit_all}
+use Rattle.sentry_options.specs.declared.clientoptions.ClientOptions.{ClientOptions}
+use Rattle.sentry_scope.specs.Stacks.{depth, pop}
+use Rattle.sentry_scope.specs.declared.scope.edit.ScopeEdit.{ScopeEdit}
+use Rattle.sentry_base.specs.declared.protocol.keys.Label.{Label}
+use Rattle.sentry_state.specs.Books.{without_unused_book, with_book}
+use Rattle.sentry_engine.specs.Clients.{add_client, drop_client}
+use Rattle.sentry_state.specs.Clients.{new_client, is_client_named, has_session_of}
+use Rattle.sentry_sending.specs.Flushes.{flush_queues}
+use Rattle.sentry_sending.specs.declared.flushes.Flush.TheVariants.{All}
+use Rattle.sentry_engine.specs.Hubs.{configure, is_clear}
+use Rattle.sentry_engine.specs.Layers.{pop_scope}
+use Rattle.sentry_state.specs.Outcomes.{Outcome, IsAnswer, Does, plain_client_at, hub_at, reply_with, with_hub, with_scope, with_stack}
+use Rattle.sentry_sending.specs.Sending.{reply_sending}
+use Rattle.sentry_sending.specs.SessionEnds.{release_session}
+use Rattle.sentry_state.specs.Changes.{with_session, is_session_number_left}
+use Rattle.sentry_engine.specs.Sessions.{start_session}
+use Rattle.sentry_sending.specs.Sessions.{replace_session}
+use Rattle.sentry_state.specs.Worlds.{World, ClientState, Stands}
+use Rattle.sentry_state.specs.declared.state.Client.{Client}
+use Rattle.sentry_state.specs.declared.state.State.{State}
+use Rattle.sentry_state.specs.declared.state.Hub.{Hub}
+
+and_left : (a b : Bool) → (a && b) ≡ true → a ≡ true
+and_left true b e = refl
+and_left false b e = e
+
+and_right : (a b : Bool) → (a && b) ≡ true → b ≡ true
+and_right true b e = e
+and_right false b e = absurd cc
+
+-- a layer on top that is not the only one has others below it
+pub is_above : (deep pushed : ℕ) → (deep == pushed && nat_lt 0 pushed) ≡ true → nat_lt 0 deep ≡ true
+is_above deep pushed top =
+    let same : (deep == pushed) ≡ true = and_left (deep == pushed) (nat_lt 0 pushed) top in
+    let above : nat_lt 0 pushed ≡ true = and_right (deep == pushed) (nat_lt 0 pushed) top in
+    grind (arith, nat_tests)
+
+module _ {P C : Type 0} where
+  -- the world without a client, and without its book where that is unused
+  abbrev pub dropped : ClientKey → Label → World P C → World P C
+  dropped key label world = without_unused_book label (record world { clients = without world.clients key.number })
+
+  -- a client that nothing names is flushed and dropped
+  pub drop_client_is : (key : ClientKey) (world : World P C) (kept : Client C) → plain_client_at world key ≡ Some kept
+      → is_client_named key world.hubs ≡ false → has_session_of key world.sessions ≡ false
+      → drop_client key world ≡ reply_with tt (flush_queues All key world).sent (dropped key kept.label (flush_queues All key world).after)
+  unfolding drop_client
+  drop_client_is key world kept found unnamed no_session = rw found (rw unnamed (rw no_session refl))
+
+  -- the top layer of a hub that is not the only one is popped
+  pub pop_scope_is : (key : HubKey) (pushed now : ℕ) (world : World P C) (hub : Hub P) → hub_at world key ≡ Some hub
+      → (depth hub.stack == pushed && nat_lt 0 pushed) ≡ true
+      → pop_scope key pushed now world
+      ≡ reply_with tt (release_session key.number hub now world).sent
+      (with_hub (release_session key.number hub now world).after key (with_stack hub (pop hub.stack)))
+  unfolding pop_scope
+  pop_scope_is key pushed now world hub found top = rw found (rw top refl)
+
+  -- a session that starts
+  pub start_session_is : (key : HubKey) (fresh : Fresh) (world : World P C) (hub : Hub P) (client_key : ClientKey) (client : Client C)
+      → (start : SessionStart) → hub_at world key ≡ Some hub → hub.stack.top.client ≡ Some client_key
+      → plain_client_at world client_key ≡ Some client
+      → start_of client_key client.options.plain hub.stack.top.scope.user fresh.uuid fresh.now ≡ Some start
+      → is_session_number_left world ≡ true
+      → start_session key fresh world ≡ reply_sending tt (replace_session key.number hub fresh.now start world)
+  unfolding start_session
+  start_session_is key fresh world hub client_key client start found named client_found started left =
+      rw found (rw named (rw client_found (rw started (rw left refl))))
+
+  -- edits one of which clears the scope
+  pub configure_is : (key : HubKey) (edits : List (ScopeEdit P)) (now : ℕ) (world : World P C) (hub : Hub P) → hub_at world key ≡ Some hub
+      → list_any is_clear edits ≡ true
+      → configure key edits now world
+      ≡ reply_with tt (release_session key.number hub now world).sent
+      (with_hub (release_session key.number hub now world).after key (with_scope (with_session hub None) (edit_all edits hub.stack.top.scope)))
+  unfolding configure
+  configure_is key edits now world hub found clears = rw found (rw clears refl)
+
+  -- a call whose outcome is known, where the engine stands for the world after it
+  pub replied : {T : Type 0} (outcome : Outcome P C T) (reply : T) (sent handed : List (ClientKey × Envelope)) (after : World P C) (new : State P C)
+      → outcome ≡ reply_with reply sent after → handed ≡ sent → Stands new after
+      → (outcome.answer ≡ Ok (record { reply = reply; sent = handed })) × Stands new outcome.after
+  replied outcome reply sent handed after new is same stands = (
+    ap (λ o. o.answer) is ∙ ap (λ envelopes. Ok (record { reply = reply; sent = envelopes })) (sym same),
+    subst (λ w. Stands new w) (sym (ap (λ o. o.after) is)) stands,
+  )
+
+  -- a call that replies may answer out of memory
+  pub may_lack_memory : {T : Type 0} (outcome : Outcome P C T) (reply : T) (sent : List (ClientKey × Envelope)) (after : World P C)
+      → outcome ≡ reply_with reply sent after → IsAnswer false outcome.answer (Err OutOfMemory)
+  may_lack_memory outcome reply sent after is = (refl, ap (λ o. is_ok o.answer) is)
+
+  -- the world with one more client and a book for its label
+  abbrev pub with_client_and_book : ClientState C → Label → World P C → World P C
+  with_client_and_book client label world = record world {
+    next = record world.next { client = world.next.client + 1 };
+    clients = put world.clients world.next.client client;
+    books = with_book world.books label.number;
+  }
+
+  -- a client that is added
+  pub add_client_is : (meanings : C → Meanings) (options : ClientOptions C) (transport : Bool) (label : Label) (now : ℕ) (world : World P C)
+      → (label.tag == world.tag) ≡ true → nat_lt world.next.client (2 ^ 64 - 1) ≡ true
+      → add_client meanings options transport label now world
+      ≡ reply_with (record { tag = world.tag; number = world.next.client }) []
+      (with_client_and_book (new_client meanings options transport label now) label world)
+  unfolding add_client
+  add_client_is meanings options transport label now world own left = rw own (rw left refl)
+
+  -- a call that is refused since it is out of memory, and changed nothing
+  pub refused_for_memory : {T : Type 0} (old new : State P C) (result : Result (Out T) Refusal) (outcome : World P C → Outcome P C T)
+      → IsErr result → IsErrAnd result (λ refusal. refusal ≡ OutOfMemory) → new ≡ old
+      → ((world : World P C) → Stands old world → IsAnswer false (outcome world).answer (Err OutOfMemory)) → Does old new result outcome
+  refused_for_memory old new (Ok out) outcome is gives same lacks = absurd cc
+  refused_for_memory old new (Err refusal) outcome is gives same lacks =
+      (same, λ world s. subst (λ cause. IsAnswer false (outcome world).answer (Err cause)) (sym gives) (lacks world s))

@@ -1,6 +1,0 @@
-use Rattle.std.proofs.Common.{◌∙◌}
-use Rattle.sentry_engine.proofs.Keeping.{has_session_of_client}
-use Rattle.sentry_engine.proofs.engine.Engine.has_session_of.Goals as goal
-
-pub returns : goal.returns
-returns g c = λ world s. c.has_session_of.ensures ∙ has_session_of_client c.args.client c.args.self.now world s

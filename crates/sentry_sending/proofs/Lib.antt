@@ -1,0 +1,4 @@
+pub mod SendingLemmas
+pub mod MailLemmas
+pub mod ChangeLemmas
+pub mod BatchSending

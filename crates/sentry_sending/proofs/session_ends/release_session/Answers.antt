@@ -1,0 +1,22 @@
+use Rattle.std.proofs.Common.{◌≡◌, ◌∙◌, ap, sym, Some}
+use Rattle.sentry_plain.specs.Tables.{value_at, replace_at}
+use Rattle.sentry_state.specs.Changes.{with_session}
+use Rattle.sentry_state.specs.declared.state.State.{State}
+use Rattle.sentry_state.proofs.Keeping.{changed_same}
+use Rattle.sentry_state.proofs.TableLemmas.{value_replaced, replaced_twice}
+use Rattle.sentry_sending.proofs.session_ends.release_session.Goals as goal
+
+-- the layer names its session again
+pub returns-in-Err-clause-err : goal.returns-in-Err-clause-err
+returns-in-Err-clause-err g c =
+    let old = c.args.state.now in
+    let n = c.args.number in
+    let hub = c.in-Some.hub.now in
+    let unnamed = with_session hub c.take-name.new.self in
+    let found : value_at old.hubs n ≡ Some hub = sym c.in-Some.ensures.value in
+    let ended : c.end_unnamed_session.new.state ≡ record old { hubs = replace_at old.hubs n unnamed } = c.in-Err.ensures.err in
+    let there : value_at c.end_unnamed_session.new.state.hubs n ≡ Some unnamed =
+    ap (λ (e : State g.row.P.Denot g.row.C.Denot). value_at e.hubs n) ended ∙ value_replaced n old.hubs unnamed hub found in
+    c.set_session_name.ensures.engine unnamed there
+    ∙ ((λ i. record (ended i) { hubs = replace_at (ended i).hubs n (with_session unnamed (c.take-name.ensures.value i)) })
+    ∙ ap (λ hubs. record old { hubs = hubs }) (replaced_twice n old.hubs unnamed hub ∙ changed_same old.hubs n hub found))

@@ -1,0 +1,52 @@
+-- When a session ends, and what becomes of it.
+use Rattle.std.specs.Prelude.{ℕ, Bool, Option, None, List, ◌∷◌, if◌then◌else◌}
+use Rattle.std.specs.List.{list_any}
+use Rattle.sentry_plain.specs.Tables.{replace_at, without}
+use Rattle.sentry_base.specs.declared.protocol.keys.ClientKey.{ClientKey}
+use Rattle.sentry_base.specs.declared.protocol.keys.SessionKey.{SessionKey}
+use Rattle.sentry_base.specs.declared.protocol.session.SessionStatus.{SessionStatus}
+use Rattle.sentry_base.specs.declared.protocol.session.SessionUpdate.{SessionUpdate}
+use Rattle.sentry_scope.specs.Stacks.{names_session}
+use Rattle.sentry_parts.specs.SessionQueues.{enqueued, envelopes_on}
+use Rattle.sentry_parts.specs.Sessions.{closed, session_of, pending_update}
+use Rattle.sentry_state.specs.declared.state.Hub.{Hub}
+use Rattle.sentry_state.specs.Outcomes.{client_at, session_at}
+use Rattle.sentry_sending.specs.Sending.{Sending, send, send_nothing, send_some}
+use Rattle.sentry_state.specs.Worlds.{World}
+use Rattle.sentry_state.specs.Changes.{with_session, with_client_state, with_client_entry}
+
+-- a layer of a hub names the session
+abbrev pub is_session_named : {P : Type 0} → SessionKey → List (ℕ × Hub P) → Bool
+is_session_named key hubs = list_any (λ entry. names_session key entry.1.stack) hubs
+
+module _ {P C : Type 0} where
+  -- the last update of a session is queued at a client, which may send all that waits; a closed client drops it
+  unfoldable pub queue_update : ClientKey → SessionUpdate → World P C → Sending P C
+  queue_update key update world =
+      send_some world (client_at world key) (λ client.
+      if client.closed then send_nothing world else
+      send key client (envelopes_on client.options.plain.session_mode update client.queues.sessions)
+      (with_client_state world key (with_client_entry (enqueued update) client)))
+
+  -- the session is closed, what is to be told of it is queued at the client of its start, and it is no longer held
+  unfoldable pub end_session : SessionKey → Option SessionStatus → ℕ → World P C → Sending P C
+  end_session key status now world =
+      send_some world (session_at world key) (λ session.
+      let ended = session_of session.start (closed status now ∷ session.history) in
+      let queued = send_some world (pending_update ended) (λ update. queue_update session.start.client update world) in
+      record {
+        sent = queued.sent;
+        after = record queued.after { sessions = without queued.after.sessions key.number };
+      })
+
+  -- a session that a layer named ends where no layer of any hub names it any more
+  unfoldable pub end_unnamed_session : Option SessionKey → ℕ → World P C → Sending P C
+  end_unnamed_session name now world =
+      send_some world name (λ key.
+      if is_session_named key world.hubs then send_nothing world else end_session key None now world)
+
+  -- the top layer of a hub gives up the session that it names, which ends where no other layer names it
+  abbrev pub release_session : ℕ → Hub P → ℕ → World P C → Sending P C
+  release_session number hub now world =
+      end_unnamed_session hub.stack.top.session now
+      (record world { hubs = replace_at world.hubs number (with_session hub None) })

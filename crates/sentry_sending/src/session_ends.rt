@@ -1,0 +1,135 @@
+//! When a session ends, and what becomes of it.
+ghost use Rattle.std.specs.Prelude.{◌≡◌, IfOk, OnOk, OnErr, Some, None};
+ghost use Rattle.sentry_plain.specs.Tables.{value_at, replace_at};
+ghost use Rattle.sentry_state.specs.declared.state.Hub.{Hub};
+ghost use Rattle.sentry_state.specs.Changes.{with_session};
+ghost use Rattle.sentry_state.specs.Worlds.{World, Stands};
+ghost use Rattle.sentry_sending.specs.SessionEnds.{is_session_named, queue_update, end_session, end_unnamed_session, release_session};
+
+use crate::sending::{envelopes_from, mark_sent};
+use sentry_base::protocol::{ClientKey, Envelope, SessionKey, SessionStatus, SessionUpdate};
+use sentry_options::clientoptions::Callbacks;
+use sentry_plain::{Items, Table};
+use sentry_state::state::{Hub, State};
+use std::alloc::AllocError;
+
+// Whether a layer of a hub names the session.
+fn is_session_named<P>(hubs: &Table<Hub<P>>, session: SessionKey) -> bool
+    ensures { result ≡ is_session_named session hubs.now }
+{
+    for (_, hub) in hubs.iter() {
+        if hub.stack.names_session(session) {
+            return true;
+        }
+    }
+    false
+}
+
+// Queues the last update of a session at a client. If out of memory, nothing has changed.
+#[tactic(auto, unfolding(crate::specs::SessionEnds::queue_update))]
+fn queue_update<P: Drop, C: Callbacks>(
+    state: &mut State<P, C>,
+    key: ClientKey,
+    update: SessionUpdate,
+) -> Result<Items<(ClientKey, Envelope)>, AllocError>
+    ensures in_world { IfOk result (λ sent. (world : World P C) → Stands state.old world →
+        (sent ≡ (queue_update key update world).sent) × Stands state.new (queue_update key update world).after) }
+    ensures hubs { OnOk result (state.new.hubs ≡ state.old.hubs) }
+    ensures next { OnOk result (state.new.next ≡ state.old.next) }
+    ensures err { OnErr result (state.new ≡ state.old) }
+{
+    let Some(client) = state.client_at(key) else {
+        return Ok(Items::new(state.alloc));
+    };
+    if client.closed {
+        return Ok(Items::new(state.alloc));
+    }
+    let label = client.label;
+    let envelopes = client.queues.sessions.envelopes_on(&update)?;
+    let sent = envelopes_from(state, client.occupied, key, label, envelopes)?;
+    state.enqueue_update(key.number, update)?;
+    mark_sent(state, label, &sent);
+    Ok(sent)
+}
+
+/// Closes a session and forgets it. If out of memory, nothing has changed.
+#[tactic(auto, unfolding(crate::specs::SessionEnds::end_session))]
+pub fn end_session<P: Drop, C: Callbacks>(
+    state: &mut State<P, C>,
+    key: SessionKey,
+    status: Option<SessionStatus>,
+    now: u64,
+) -> Result<Items<(ClientKey, Envelope)>, AllocError>
+    ensures in_world { IfOk result (λ sent. (world : World P C) → Stands state.old world →
+        (sent ≡ (end_session key status now world).sent)
+        × Stands state.new (end_session key status now world).after) }
+    ensures hubs { OnOk result (state.new.hubs ≡ state.old.hubs) }
+    ensures next { OnOk result (state.new.next ≡ state.old.next) }
+    ensures err { OnErr result (state.new ≡ state.old) }
+{
+    let Some(session) = state.named_session(Some(key)) else {
+        return Ok(Items::new(state.alloc));
+    };
+    let mut session = session.clone()?;
+    session.close(status, now);
+    if !session.dirty {
+        state.remove_session(key.number);
+        return Ok(Items::new(state.alloc));
+    }
+    let update = session.update()?;
+    let sent = queue_update(state, session.start.client, update)?;
+    state.remove_session(key.number);
+    Ok(sent)
+}
+
+// Ends the session that a layer named, where no layer names it any more. If out of memory, nothing has changed.
+#[tactic(auto, unfolding(crate::specs::SessionEnds::end_unnamed_session))]
+fn end_unnamed_session<P: Drop, C: Callbacks>(
+    state: &mut State<P, C>,
+    name: Option<SessionKey>,
+    now: u64,
+) -> Result<Items<(ClientKey, Envelope)>, AllocError>
+    ensures in_world { IfOk result (λ sent. (world : World P C) → Stands state.old world →
+        (sent ≡ (end_unnamed_session name now world).sent)
+        × Stands state.new (end_unnamed_session name now world).after) }
+    ensures hubs { OnOk result (state.new.hubs ≡ state.old.hubs) }
+    ensures next { OnOk result (state.new.next ≡ state.old.next) }
+    ensures err { OnErr result (state.new ≡ state.old) }
+{
+    let Some(key) = name else {
+        return Ok(Items::new(state.alloc));
+    };
+    if is_session_named(&state.hubs, key) {
+        return Ok(Items::new(state.alloc));
+    }
+    let sent = end_session(state, key, None, now)?;
+    Ok(sent)
+}
+
+/// The top layer of a hub gives up the session that it names. If out of memory, nothing has changed.
+pub fn release_session<P: Drop, C: Callbacks>(
+    state: &mut State<P, C>,
+    number: u64,
+    now: u64,
+) -> Result<Items<(ClientKey, Envelope)>, AllocError>
+    ensures in_world { IfOk result (λ sent. (world : World P C) (hub : Hub P) → Stands state.old world →
+        value_at state.old.hubs number ≡ Some hub →
+        (sent ≡ (release_session number hub now world).sent)
+        × Stands state.new (release_session number hub now world).after) }
+    ensures hubs { OnOk result ((hub : Hub P) → value_at state.old.hubs number ≡ Some hub →
+        state.new.hubs ≡ replace_at state.old.hubs number (with_session hub None)) }
+    ensures next { OnOk result (state.new.next ≡ state.old.next) }
+    ensures err { OnErr result (state.new ≡ state.old) }
+{
+    let Some(hub) = state.hubs.get_mut(number) else {
+        return Ok(Items::new(state.alloc));
+    };
+    let name = hub.stack.top.session.take();
+    match end_unnamed_session(state, name, now) {
+        Ok(sent) => Ok(sent),
+        Err(error) => {
+            state.set_session_name(number, name);
+            Err(error)
+        }
+    }
+}

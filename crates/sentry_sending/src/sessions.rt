@@ -1,0 +1,47 @@
+//! How a session starts in place of another.
+ghost use Rattle.std.specs.Prelude.{◌≡◌, ◌<◌, ◌-◌, ◌^◌, IfOk, OnErr, Some, None, []};
+ghost use Rattle.sentry_plain.specs.Tables.{value_at};
+ghost use Rattle.sentry_parts.specs.Sessions.{session_of};
+ghost use Rattle.sentry_parts.specs.declared.session.record.SessionStart.{SessionStart};
+ghost use Rattle.sentry_state.specs.declared.state.Hub.{Hub};
+ghost use Rattle.sentry_state.specs.Worlds.{World, Stands};
+ghost use Rattle.sentry_sending.specs.Sessions.{replace_session};
+
+use crate::session_ends::release_session;
+use sentry_base::protocol::{ClientKey, Envelope};
+use sentry_options::clientoptions::Callbacks;
+use sentry_parts::session::Session;
+use sentry_plain::Items;
+use sentry_state::state::State;
+use std::alloc::AllocError;
+
+/// Holds a session under the next number, which is free: the top layer of a hub that is held names it, and gives up
+/// the one that it named. If out of memory, nothing has changed.
+#[tactic(auto, using(sentry_state::proofs::Keeping::without_put))]
+pub fn replace_session<P: Drop, C: Callbacks>(
+    state: &mut State<P, C>,
+    hub: u64,
+    session: Session,
+    now: u64,
+) -> Result<Items<(ClientKey, Envelope)>, AllocError>
+    requires left { state.old.next.session < 2 ^ 64 - 1 }
+    requires free { value_at state.old.sessions state.old.next.session ≡ None }
+    ensures in_world { IfOk result (λ sent. (world : World P C) (held : Hub P) (start : SessionStart) →
+        Stands state.old world → value_at state.old.hubs hub ≡ Some held → session ≡ session_of start [] →
+        (sent ≡ (replace_session hub held now start world).sent)
+        × Stands state.new (replace_session hub held now start world).after) }
+    ensures err { OnErr result (state.new ≡ state.old) }
+{
+    let number = state.next.session;
+    state.sessions.insert(number, session)?;
+    match release_session(state, hub, now) {
+        Ok(sent) => {
+            state.name_next_session(hub);
+            Ok(sent)
+        }
+        Err(error) => {
+            state.sessions.remove(number);
+            Err(error)
+        }
+    }
+}

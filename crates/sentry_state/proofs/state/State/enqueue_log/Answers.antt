@@ -1,0 +1,26 @@
+use Rattle.std.proofs.Common.{◌≡◌, ◌∙◌, Some, ap}
+use Rattle.sentry_parts.specs.Batches.{accept}
+use Rattle.sentry_state.specs.declared.state.Client.{Client}
+use Rattle.sentry_state.specs.Worlds.{plain_client}
+use Rattle.sentry_state.proofs.Keeping.{client_replaced, logs_changed}
+use Rattle.sentry_state.proofs.state.State.enqueue_log.Goals as goal
+
+pub returns-clause-in_world : goal.returns-clause-in_world
+returns-clause-in_world g c = λ world client s found.
+    let same : Some c.in-Some.client.now ≡ Some (plain_client client) = c.in-Some.ensures.value ∙ found in
+    let is : c.in-Some.client.now ≡ plain_client client = cc in
+    let batch = c.in_ok-batch.ensures.queue client.queues.logs client.queues.log_tick (ap (λ (kept : Client g.row.C.Denot). kept.queues.logs) is) in
+    record {
+      tag = s.tag;
+      next = s.next;
+      clients = client_replaced c.args.self.now world s _ _ _ (logs_changed client c.in-Some.client.now (accept c.args.log) c.enqueue.new.self is batch);
+      hubs = s.hubs;
+      sessions = s.sessions;
+      books = s.books;
+    }
+
+pub returns-clause-batch : goal.returns-clause-batch
+returns-clause-batch g c = λ client found.
+    let same : Some c.in-Some.client.now ≡ Some (plain_client client) = c.in-Some.ensures.value ∙ found in
+    let is : c.in-Some.client.now ≡ plain_client client = cc in
+    c.in_ok-batch.ensures.batch client.queues.logs client.queues.log_tick (ap (λ (kept : Client g.row.C.Denot). kept.queues.logs) is)

@@ -1,0 +1,93 @@
+-- A world after one change.
+use Rattle.std.specs.Prelude.{ℕ, Bool, Option, None, List, ◌∷◌, nat_lt, ◌+◌, ◌-◌, ◌^◌, ◌&&◌, not, is_some, Some, []}
+use Rattle.sentry_plain.specs.Tables.{replace_at, value_at, put}
+use Rattle.sentry_base.specs.declared.protocol.keys.ClientKey.{ClientKey}
+use Rattle.sentry_base.specs.declared.protocol.keys.SessionKey.{SessionKey}
+use Rattle.sentry_parts.specs.SessionQueues.{QueueEntry}
+use Rattle.sentry_parts.specs.Sessions.{SessionEntry}
+use Rattle.sentry_state.specs.declared.state.Hub.{Hub}
+use Rattle.sentry_state.specs.Worlds.{World, ClientState, QueueHistories, SessionState}
+use Rattle.sentry_base.specs.declared.protocol.keys.HubKey.{HubKey}
+use Rattle.sentry_parts.specs.declared.session.record.SessionStart.{SessionStart}
+use Rattle.sentry_base.specs.declared.protocol.breadcrumb.Breadcrumb.{Breadcrumb}
+use Rattle.sentry_scope.specs.declared.scope.stack.Stack.{Stack}
+use Rattle.sentry_scope.specs.Scopes.{breadcrumb_trail}
+use Rattle.sentry_state.specs.Outcomes.{with_scope}
+use Rattle.sentry_base.specs.declared.protocol.log.Log.{Log}
+use Rattle.sentry_base.specs.declared.protocol.metric.Metric.{Metric}
+use Rattle.sentry_parts.specs.Batches.{BatchEntry}
+use Rattle.std.specs.Option.{is_some}
+
+-- ---- sessions
+
+-- the hub whose top layer names another session, or none
+abbrev pub with_session : {P : Type 0} → Hub P → Option SessionKey → Hub P
+with_session hub session = record hub { stack = record hub.stack { top = record hub.stack.top { session = session } } }
+
+-- the session, to which this came
+abbrev pub with_session_entry : SessionEntry → SessionState → SessionState
+with_session_entry entry session = record session { history = entry ∷ session.history }
+
+-- the queues, to whose sessions this came
+abbrev pub with_queue_entry : QueueEntry → QueueHistories → QueueHistories
+with_queue_entry entry queues = record queues { sessions = entry ∷ queues.sessions }
+
+-- the client, to whose queue of ended sessions this came
+abbrev pub with_client_entry : {C : Type 0} → QueueEntry → ClientState C → ClientState C
+with_client_entry entry client = record client { queues = with_queue_entry entry client.queues }
+
+-- ---- logs and metrics
+
+-- the client, to whose logs this came
+abbrev pub with_log_entry : {C : Type 0} → BatchEntry Log → ClientState C → ClientState C
+with_log_entry entry client =
+    record client { queues = record client.queues { logs = entry ∷ client.queues.logs } }
+
+-- the client, to whose metrics this came
+abbrev pub with_metric_entry : {C : Type 0} → BatchEntry Metric → ClientState C → ClientState C
+with_metric_entry entry client =
+    record client { queues = record client.queues { metrics = entry ∷ client.queues.metrics } }
+
+-- ---- hubs
+
+-- the hub whose top scope has the last n of its breadcrumbs followed by the added ones
+abbrev pub with_breadcrumbs : {P : Type 0} → Hub P → ℕ → List Breadcrumb → Hub P
+with_breadcrumbs hub n added =
+    with_scope hub (record hub.stack.top.scope {
+      breadcrumbs = breadcrumb_trail n hub.stack.top.scope.breadcrumbs added;
+    })
+
+module _ {P C : Type 0} where
+  -- the world with another client under a key that it has
+  abbrev pub with_client_state : World P C → ClientKey → ClientState C → World P C
+  with_client_state world key client = record world { clients = replace_at world.clients key.number client }
+
+  -- the key of the next hub
+  abbrev pub next_hub_key : World P C → HubKey
+  next_hub_key world = record { tag = world.tag; number = world.next.hub }
+
+  -- the world with a hub of these layers under the next number
+  abbrev pub with_new_hub : Stack P → World P C → World P C
+  with_new_hub stack world = record world {
+    next = record world.next { hub = world.next.hub + 1 };
+    hubs = put world.hubs world.next.hub (record { stack = stack; last_event_id = None });
+  }
+
+  -- a number is left for a session, and nothing stands under it
+  abbrev pub is_session_number_left : World P C → Bool
+  is_session_number_left world =
+      nat_lt world.next.session (2 ^ 64 - 1) && not (is_some (value_at world.sessions world.next.session))
+
+  -- the world with one more session, which started so, under the next number
+  abbrev pub with_new_session : SessionStart → World P C → World P C
+  with_new_session start world = record world {
+    sessions = put world.sessions world.next.session (record { start = start; history = [] });
+  }
+
+  -- the world in which the top layer of a hub names the session under the next number
+  abbrev pub with_next_session_named : ℕ → Hub P → World P C → World P C
+  with_next_session_named number hub world = record world {
+    next = record world.next { session = world.next.session + 1 };
+    hubs = replace_at world.hubs number
+        (with_session hub (Some (record { tag = world.tag; number = world.next.session })));
+  }

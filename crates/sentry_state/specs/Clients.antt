@@ -1,0 +1,52 @@
+-- How clients are made, and whether something names them.
+use Rattle.std.specs.Prelude.{ℕ, Bool, List, ◌&&◌, is_some, Some, [], false}
+use Rattle.std.specs.List.{list_any}
+use Rattle.sentry_base.specs.declared.protocol.keys.ClientKey.{ClientKey}
+use Rattle.sentry_parts.specs.Sessions.{closed}
+use Rattle.sentry_state.specs.declared.state.Hub.{Hub}
+use Rattle.sentry_state.specs.Worlds.{ClientState, QueueHistories, SessionState}
+use Rattle.sentry_options.specs.Meanings.{Meanings, set_up_all}
+use Rattle.sentry_base.specs.declared.protocol.keys.Label.{Label}
+use Rattle.sentry_options.specs.declared.clientoptions.ClientOptions.{ClientOptions}
+use Rattle.sentry_scope.specs.Stacks.{is_client, names_client}
+use Rattle.sentry_parts.specs.OsAttributes.{os_attributes}
+use Rattle.std.specs.Option.{is_some}
+
+-- a layer of a hub names the client
+abbrev pub is_client_named : {P : Type 0} → ClientKey → List (ℕ × Hub P) → Bool
+is_client_named key hubs = list_any (λ entry. names_client key entry.1.stack) hubs
+
+-- a session that goes on was started under the client
+abbrev pub has_session_of : ClientKey → List (ℕ × SessionState) → Bool
+has_session_of key sessions = list_any (λ entry. is_client key (Some entry.1.start.client)) sessions
+
+-- the options after the `setup` of their integrations
+abbrev pub set_up : {C : Type 0} → (C → Meanings) → ClientOptions C → ClientOptions C
+set_up meanings options = record options { plain = set_up_all (meanings options.callbacks).integrations options.plain }
+
+-- the queues of a client that is made at this moment
+abbrev pub queues_from : ℕ → QueueHistories
+queues_from now = record {
+  sessions = [];
+  session_tick = now;
+  logs = [];
+  log_tick = now;
+  metrics = [];
+  metric_tick = now;
+}
+
+-- a client after the `setup` of its integrations, with what they then say of the operating system; its slot is occupied
+-- where it had a DSN before that, and has a transport
+unfoldable pub new_client : {C : Type 0} → (C → Meanings) → ClientOptions C → Bool → Label → ℕ → ClientState C
+new_client meanings options transport label now = record {
+  options = set_up meanings options;
+  label = label;
+  occupied = is_some options.plain.dsn && transport;
+  os = os_attributes meanings (set_up meanings options) now;
+  closed = false;
+  queues = queues_from now;
+}
+
+-- a clone of a client that is made at this moment: nothing waits in its queues, and nothing has closed it
+abbrev pub clone_from : {C : Type 0} → ℕ → ClientState C → ClientState C
+clone_from now client = record client { closed = false; queues = queues_from now }

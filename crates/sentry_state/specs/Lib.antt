@@ -1,0 +1,6 @@
+pub mod Worlds
+pub mod Books
+pub mod Outcomes
+pub mod Changes
+pub mod Clients
+pub mod Hubs

@@ -1,0 +1,112 @@
+-- What a call comes to, and what it means that an engine did it.
+use Rattle.std.specs.Prelude.{is_ok, ◌≡◌, ℕ, Bool, true, false, Option, Some, None, Result, Ok, Err, List, ◌==◌, if◌then◌else◌}
+use Rattle.std.specs.Option.{option_map, is_some, option_and_then}
+use Rattle.sentry_plain.specs.Tables.{value_at, replace_at}
+use Rattle.sentry_base.specs.declared.protocol.keys.ClientKey.{ClientKey}
+use Rattle.sentry_base.specs.declared.protocol.keys.HubKey.{HubKey}
+use Rattle.sentry_base.specs.declared.protocol.envelope.Envelope.{Envelope}
+use Rattle.sentry_base.specs.declared.protocol.refusal.Refusal.{Refusal}
+use Rattle.sentry_base.specs.declared.protocol.refusal.Refusal.TheVariants.{OutOfMemory}
+use Rattle.sentry_scope.specs.declared.scope.Scope.{Scope}
+use Rattle.sentry_scope.specs.declared.scope.stack.Stack.{Stack}
+use Rattle.sentry_state.specs.declared.state.Client.{Client}
+use Rattle.sentry_state.specs.declared.state.Hub.{Hub}
+use Rattle.sentry_state.specs.declared.state.Out.{Out}
+use Rattle.sentry_state.specs.declared.state.State.{State}
+use Rattle.sentry_state.specs.Worlds.{World, ClientState, Stands, plain_client, SessionState}
+use Rattle.sentry_base.specs.declared.protocol.keys.SessionKey.{SessionKey}
+
+-- what a call comes to: its answer, and the world after it
+pub record Outcome (P C T : Type 0) : Type 0 where
+  pub answer : Result (Out T) Refusal
+  pub after : World P C
+
+-- the answer is the one that is expected; or out of memory in place of a reply, unless the call takes no memory
+abbrev pub IsAnswer : {T : Type 0} → Bool → Result (Out T) Refusal → Result (Out T) Refusal → Type 0
+IsAnswer takes_no_memory expected (Err OutOfMemory) = (takes_no_memory ≡ false) × (is_ok expected ≡ true)
+IsAnswer takes_no_memory expected answer = expected ≡ answer
+
+module _ {P C T : Type 0} where
+  -- a refusal, which changes nothing
+  abbrev pub refuse : Refusal → World P C → Outcome P C T
+  refuse refusal world = record { answer = Err refusal; after = world }
+
+  -- a reply with these envelopes
+  abbrev pub reply_with : T → List (ClientKey × Envelope) → World P C → Outcome P C T
+  reply_with reply sent world = record { answer = Ok (record { reply = reply; sent = sent }); after = world }
+
+  -- goes on with the value that is there, or refuses
+  abbrev pub require_some : {X : Type 0} → Refusal → World P C → Option X → (X → Outcome P C T) → Outcome P C T
+  require_some refusal world None go = refuse refusal world
+  require_some refusal world (Some x) go = go x
+
+  -- goes on with the value that is there, or ends otherwise
+  abbrev pub let_some : {X : Type 0} → Option X → Outcome P C T → (X → Outcome P C T) → Outcome P C T
+  let_some None otherwise go = otherwise
+  let_some (Some x) otherwise go = go x
+
+  -- goes on where the test holds, or refuses
+  abbrev pub require : Refusal → World P C → Bool → Outcome P C T → Outcome P C T
+  require refusal world true go = go
+  require refusal world false go = refuse refusal world
+
+  -- the call did what its definition says, in every world that the engine stood for; where it was refused, the engine
+  -- is the engine before
+  abbrev pub DoesWith : Bool → State P C → State P C → Result (Out T) Refusal → (World P C → Outcome P C T) → Type 0
+  DoesWith takes_no_memory old new (Ok out) outcome =
+      (world : World P C) → Stands old world
+      → IsAnswer takes_no_memory (outcome world).answer (Ok out) × Stands new (outcome world).after
+  DoesWith takes_no_memory old new (Err refusal) outcome =
+      (new ≡ old)
+      × ((world : World P C) → Stands old world → IsAnswer takes_no_memory (outcome world).answer (Err refusal))
+
+  -- the same of a call that may need memory
+  abbrev pub Does : State P C → State P C → Result (Out T) Refusal → (World P C → Outcome P C T) → Type 0
+  Does old new answer outcome = DoesWith false old new answer outcome
+
+  -- the same of a call that takes no memory, and so never answers out of memory
+  abbrev pub DoesWithoutMemory : State P C → State P C → Result (Out T) Refusal → (World P C → Outcome P C T) → Type 0
+  DoesWithoutMemory old new answer outcome = DoesWith true old new answer outcome
+
+-- what stands under a key, where its tag is the engine's
+abbrev pub value_under : {X : Type 0} → ℕ → List (ℕ × X) → ℕ → ℕ → Option X
+value_under tag entries key_tag number = if key_tag == tag then value_at entries number else None
+
+-- the hub with another scope on top
+abbrev pub with_scope : {P : Type 0} → Hub P → Scope P → Hub P
+with_scope hub scope = record hub { stack = record hub.stack { top = record hub.stack.top { scope = scope } } }
+
+-- the hub with other layers
+abbrev pub with_stack : {P : Type 0} → Hub P → Stack P → Hub P
+with_stack hub stack = record hub { stack = stack }
+
+-- the hub with another client on top, or none
+abbrev pub with_client : {P : Type 0} → Hub P → Option ClientKey → Hub P
+with_client hub client = record hub { stack = record hub.stack { top = record hub.stack.top { client = client } } }
+
+module _ {P C : Type 0} where
+  abbrev pub client_at : World P C → ClientKey → Option (ClientState C)
+  client_at world key = value_under world.tag world.clients key.tag key.number
+
+  -- the same as the engine keeps it
+  abbrev pub plain_client_at : World P C → ClientKey → Option (Client C)
+  plain_client_at world key = option_map plain_client (client_at world key)
+
+  abbrev pub hub_at : World P C → HubKey → Option (Hub P)
+  hub_at world key = value_under world.tag world.hubs key.tag key.number
+
+  -- the world with another hub under a key that it has
+  abbrev pub with_hub : World P C → HubKey → Hub P → World P C
+  with_hub world key hub = record world { hubs = replace_at world.hubs key.number hub }
+
+  -- no client is named, or one that is held
+  abbrev pub is_held_or_none : World P C → Option ClientKey → Bool
+  is_held_or_none world None = true
+  is_held_or_none world (Some key) = is_some (client_at world key)
+
+  abbrev pub session_at : World P C → SessionKey → Option SessionState
+  session_at world key = value_under world.tag world.sessions key.tag key.number
+
+  -- the session that a layer names, if it still goes on
+  abbrev pub named_session : World P C → Option SessionKey → Option SessionState
+  named_session world name = option_and_then (session_at world) name

@@ -1,0 +1,107 @@
+-- What an engine stands for: everything that its calls did, in plain values.
+use Rattle.std.specs.Prelude.{◌≡◌, ℕ, Bool, List, [], map}
+use Rattle.sentry_base.specs.declared.protocol.keys.Label.{Label}
+use Rattle.sentry_base.specs.declared.protocol.log.Log.{Log}
+use Rattle.sentry_base.specs.declared.protocol.metric.Metric.{Metric}
+use Rattle.sentry_options.specs.declared.clientoptions.ClientOptions.{ClientOptions}
+use Rattle.sentry_options.specs.declared.clientoptions.choices.SessionMode.{SessionMode}
+use Rattle.sentry_parts.specs.Batches.{BatchEntry}
+use Rattle.sentry_parts.specs.Batches as batch
+use Rattle.sentry_client_reports.specs.LossBooks.{LossEntry, book_of}
+use Rattle.sentry_parts.specs.SessionQueues.{QueueEntry, queue_of}
+use Rattle.sentry_parts.specs.Sessions.{SessionEntry, session_of}
+use Rattle.sentry_parts.specs.declared.os_attributes.OsAttributes.{OsAttributes}
+use Rattle.sentry_parts.specs.declared.session.record.Session.{Session}
+use Rattle.sentry_parts.specs.declared.session.record.SessionStart.{SessionStart}
+use Rattle.sentry_state.specs.declared.state.Client.{Client}
+use Rattle.sentry_state.specs.declared.state.Hub.{Hub}
+use Rattle.sentry_state.specs.declared.state.NextNumbers.{NextNumbers}
+use Rattle.sentry_state.specs.declared.state.Queues.{Queues}
+use Rattle.sentry_state.specs.declared.state.State.{State}
+
+-- all that came to the queues of a client, and the moments of their last due ticks
+pub record QueueHistories : Type 0 where
+  pub sessions : List QueueEntry
+  pub session_tick : ℕ
+  pub logs : List (BatchEntry Log)
+  pub log_tick : ℕ
+  pub metrics : List (BatchEntry Metric)
+  pub metric_tick : ℕ
+
+-- a client; nothing comes to its queues once it is closed
+pub record ClientState (C : Type 0) : Type 0 where
+  pub options : ClientOptions C
+  pub label : Label
+  pub occupied : Bool
+  pub os : OsAttributes
+  pub closed : Bool
+  pub queues : QueueHistories
+
+-- how a session started, and all that came to it
+pub record SessionState : Type 0 where
+  pub start : SessionStart
+  pub history : List SessionEntry
+
+-- all that the calls did: the clients, the hubs, the sessions that go on, and for each label of a client the history of
+-- its losses
+pub record World (P C : Type 0) : Type 0 where
+  pub tag : ℕ
+  pub next : NextNumbers
+  pub clients : List (ℕ × ClientState C)
+  pub hubs : List (ℕ × Hub P)
+  pub sessions : List (ℕ × SessionState)
+  pub books : List (ℕ × List LossEntry)
+
+-- the table with f of each value
+abbrev pub map_values : {X Y : Type 0} → (X → Y) → List (ℕ × X) → List (ℕ × Y)
+map_values f entries = map (λ entry. (entry.0, f entry.1)) entries
+
+-- what an engine keeps of the queues of a client
+abbrev pub plain_queues : SessionMode → QueueHistories → Queues
+plain_queues mode queues = record {
+  sessions = queue_of mode queues.sessions;
+  session_tick = record { 0 = queues.session_tick };
+  logs = batch.queue_of queues.logs queues.log_tick;
+  metrics = batch.queue_of queues.metrics queues.metric_tick;
+}
+
+-- what an engine keeps of a session
+abbrev pub plain_session : SessionState → Session
+plain_session session = session_of session.start session.history
+
+module _ {C : Type 0} where
+  -- what an engine keeps of a client
+  abbrev pub plain_client : ClientState C → Client C
+  plain_client client = record {
+    options = client.options;
+    label = client.label;
+    occupied = client.occupied;
+    os = client.os;
+    closed = client.closed;
+    queues = plain_queues client.options.plain.session_mode client.queues;
+  }
+
+-- the engine has all of the world, but of its clients, sessions and books only what is kept
+pub record Stands {P C : Type 0} (engine : State P C) (world : World P C) : Type 0 where
+  pub tag : engine.tag ≡ world.tag
+  pub next : engine.next ≡ world.next
+  pub clients : engine.clients ≡ map_values plain_client world.clients
+  pub hubs : engine.hubs ≡ world.hubs
+  pub sessions : engine.sessions ≡ map_values plain_session world.sessions
+  pub books : engine.books ≡ map_values book_of world.books
+
+module _ {P C : Type 0} where
+  -- the world in which nothing happened yet, with numbers from the first
+  abbrev pub starting_world : ℕ → ℕ → World P C
+  starting_world tag first = record {
+    tag = tag;
+    next = record { client = first; hub = first; session = first };
+    clients = [];
+    hubs = [];
+    sessions = [];
+    books = [];
+  }
+
+  -- the same with numbers from 0
+  abbrev pub first_world : ℕ → World P C
+  first_world tag = starting_world tag 0

@@ -1,0 +1,5 @@
+//! The state of an engine: its clients, hubs, sessions and losses by key, and what changes one of them. Each change is
+//! stated on the world that the state stands for.
+#![tactic(auto)]
+
+pub mod state;

@@ -1,0 +1,206 @@
+//! What an engine holds, and how it is found.
+ghost use Rattle.std.specs.Prelude.{◌≡◌, [], Some, option_copied};
+ghost use Rattle.sentry_plain.specs.Tables.{value_at};
+ghost use Rattle.std.specs.Option.{option_map};
+ghost use Rattle.sentry_state.specs.Worlds.{World, Stands, starting_world, plain_session};
+ghost use Rattle.sentry_state.specs.Outcomes.{hub_at, plain_client_at, is_held_or_none, named_session};
+
+mod arrivals;
+mod books;
+pub mod clients;
+mod hubs;
+mod sessions;
+
+use sentry_base::protocol::{ClientKey, Envelope, HubKey, Label, Log, Metric, SessionKey, Uuid};
+use sentry_client_reports::client_reports::LossBook;
+use sentry_options::clientoptions::{Callbacks, ClientOptions};
+use sentry_parts::batcher::Batch;
+use sentry_parts::os_attributes::OsAttributes;
+use sentry_parts::session::{Session, SessionQueue};
+use sentry_parts::tick::LastTick;
+use sentry_plain::{Items, Shared, Table};
+use sentry_scope::scope::{Scope, Stack};
+use std::alloc::{AllocError, Global};
+
+/// The reply of a call, and the envelopes that it hands out, each with the client whose transport is to send it.
+#[derive(Drop)]
+pub struct Out<T> {
+    pub reply: T,
+    pub sent: Items<(ClientKey, Envelope)>,
+}
+
+/// What waits in a client to be sent.
+pub struct Queues {
+    pub sessions: SessionQueue,
+    /// The last due tick of the ended sessions. The batches have their own.
+    pub session_tick: LastTick,
+    pub logs: Batch<Log>,
+    pub metrics: Batch<Metric>,
+}
+
+impl Drop for Queues {
+    fn drop(self) {
+        let Queues {
+            sessions: _,
+            session_tick: _,
+            logs: _,
+            metrics: _,
+        } = self;
+    }
+}
+
+/// What an engine keeps of a client.
+pub struct Client<C> {
+    pub options: Shared<ClientOptions<C>>,
+    /// Names the table of losses that it records into.
+    pub label: Label,
+    /// Whether its transport slot is occupied: it had a DSN when it was added, and it has a transport.
+    pub occupied: bool,
+    /// What its logs say of the operating system by default.
+    pub os: OsAttributes,
+    /// Whether nothing comes to the queues any more.
+    pub closed: bool,
+    pub queues: Queues,
+}
+
+impl<C: Drop> Drop for Client<C> {
+    fn drop(self) {
+        let Client {
+            options: _,
+            label: _,
+            occupied: _,
+            os: _,
+            closed: _,
+            queues: _,
+        } = self;
+    }
+}
+
+/// What an engine keeps of a hub.
+pub struct Hub<P> {
+    pub stack: Stack<P>,
+    pub last_event_id: Option<Uuid>,
+}
+
+impl<P: Drop> Drop for Hub<P> {
+    fn drop(self) {
+        let Hub {
+            stack: _,
+            last_event_id: _,
+        } = self;
+    }
+}
+
+/// The next number of each kind of key.
+#[derive(Clone, Copy)]
+pub struct NextNumbers {
+    pub client: u64,
+    pub hub: u64,
+    pub session: u64,
+}
+
+/// Everything that an engine holds. `P` is the type of a scope's processors, `C` that of a client's callbacks.
+pub struct State<P, C> {
+    /// Each key that the engine gives carries it.
+    pub tag: u64,
+    pub next: NextNumbers,
+    pub clients: Table<Client<C>>,
+    pub hubs: Table<Hub<P>>,
+    /// The sessions that go on.
+    pub sessions: Table<Session>,
+    /// The losses of each label that a client names, by the label's number.
+    pub books: Table<LossBook>,
+    pub alloc: Global,
+}
+
+impl<P: Drop, C: Drop> Drop for State<P, C> {
+    fn drop(self) {
+        let State {
+            tag: _,
+            next: _,
+            clients: _,
+            hubs: _,
+            sessions: _,
+            books: _,
+            alloc: _,
+        } = self;
+    }
+}
+
+impl<P: Drop, C: Callbacks> State<P, C> {
+    /// A state that holds nothing, with key numbers that count up from `first`. The number 2^64-1 is never given. It
+    /// takes no memory.
+    pub fn starting_at(alloc: Global, tag: u64, first: u64) -> State<P, C>
+        ensures { Stands result (starting_world tag first) }
+    {
+        State {
+            tag,
+            next: NextNumbers {
+                client: first,
+                hub: first,
+                session: first,
+            },
+            clients: Table::new(alloc),
+            hubs: Table::new(alloc),
+            sessions: Table::new(alloc),
+            books: Table::new(alloc),
+            alloc,
+        }
+    }
+
+    /// The hub of a key, or `None` if it isn't held.
+    pub fn hub_at(&self, key: HubKey) -> Option<&Hub<P>>
+        ensures in_world { (world : World P C) → Stands self.now world → option_copied result ≡ hub_at world key }
+        ensures in_table { (hub : Hub P) → option_copied result ≡ Some hub →
+            value_at self.now.hubs key.number ≡ Some hub }
+    {
+        if key.tag != self.tag {
+            return None;
+        }
+        self.hubs.get(key.number)
+    }
+
+    /// The client of a key, or `None` if it isn't held.
+    #[tactic(auto, using(crate::proofs::Keeping::found_in_world))]
+    pub fn client_at(&self, key: ClientKey) -> Option<&Client<C>>
+        ensures { (world : World P C) → Stands self.now world → option_copied result ≡ plain_client_at world key }
+    {
+        if key.tag != self.tag {
+            return None;
+        }
+        self.clients.get(key.number)
+    }
+
+    /// The session that a layer names, if it still goes on.
+    #[tactic(auto, using(crate::proofs::Keeping::session_in_world))]
+    pub fn named_session(&self, name: Option<SessionKey>) -> Option<&Session>
+        ensures { (world : World P C) → Stands self.now world →
+            option_copied result ≡ option_map plain_session (named_session world name) }
+    {
+        let key = name?;
+        if key.tag != self.tag {
+            return None;
+        }
+        self.sessions.get(key.number)
+    }
+
+    /// Whether no client is named, or one that is held.
+    pub fn holds(&self, client: Option<ClientKey>) -> bool
+        ensures { (world : World P C) → Stands self.now world → result ≡ is_held_or_none world client }
+    {
+        match client {
+            None => true,
+            Some(key) => self.client_at(key).is_some(),
+        }
+    }
+
+    /// The reply of a call that hands nothing out.
+    pub fn out<T>(&self, reply: T) -> Out<T>
+        ensures { result ≡ record { reply = reply; sent = [] } }
+    {
+        Out {
+            reply,
+            sent: Items::new(self.alloc),
+        }
+    }
+}

@@ -1,0 +1,93 @@
+//! What comes to the queues of a client.
+ghost use Rattle.std.specs.Prelude.{◌≡◌, ◌==◌, ◌&&◌, ◌-◌, length, IfOk, OnOk, OnErr, Some};
+ghost use Rattle.sentry_plain.specs.Tables.{value_at, replace_at};
+ghost use Rattle.sentry_parts.specs.Batches.{accept, batch_on};
+ghost use Rattle.sentry_parts.specs.SessionQueues.{enqueued};
+ghost use Rattle.sentry_state.specs.Changes.{with_client_entry, with_log_entry, with_metric_entry};
+ghost use Rattle.sentry_state.specs.Worlds.{World, ClientState, Stands, plain_client};
+
+use crate::state::{Client, State};
+use sentry_base::protocol::{Log, Metric, SessionUpdate};
+use sentry_options::clientoptions::Callbacks;
+use sentry_parts::batcher::BATCH_ITEMS;
+use sentry_plain::Items;
+use std::alloc::AllocError;
+
+impl<C> Client<C> {
+    /// Whether the next log makes the batch leave.
+    pub fn sends_next_log(&self) -> bool
+        ensures { result ≡ (self.now.occupied && length self.now.queues.logs.items == BATCH_ITEMS - 1) }
+    {
+        self.occupied && self.queues.logs.len() == BATCH_ITEMS - 1
+    }
+
+    /// Whether the next metric makes the batch leave.
+    pub fn sends_next_metric(&self) -> bool
+        ensures { result ≡ (self.now.occupied && length self.now.queues.metrics.items == BATCH_ITEMS - 1) }
+    {
+        self.occupied && self.queues.metrics.len() == BATCH_ITEMS - 1
+    }
+}
+
+impl<P: Drop, C: Callbacks> State<P, C> {
+    /// Puts the last update of a session into the queue of a client that is held. If out of memory, nothing has changed.
+    #[tactic(auto, using(crate::proofs::Keeping::changed_same))]
+    pub fn enqueue_update(&mut self, number: u64, update: SessionUpdate) -> Result<(), AllocError>
+        ensures in_world { OnOk result ((world : World P C) (client : ClientState C) → Stands self.old world →
+            value_at self.old.clients number ≡ Some (plain_client client) → Stands self.new (record world {
+              clients = replace_at world.clients number (with_client_entry (enqueued update) client);
+            })) }
+        ensures hubs { self.new.hubs ≡ self.old.hubs }
+        ensures next { self.new.next ≡ self.old.next }
+        ensures err { OnErr result (self.new ≡ self.old) }
+    {
+        let Some(client) = self.clients.get_mut(number) else {
+            return Ok(());
+        };
+        client.queues.sessions.mark_enqueued(update)?;
+        Ok(())
+    }
+
+    /// Puts a log into the batch of a client that is held. Returns the batch, if it was the hundredth. If out of memory,
+    /// nothing has changed.
+    #[tactic(auto, using(crate::proofs::Keeping::changed_same))]
+    pub fn enqueue_log(&mut self, number: u64, log: Log) -> Result<Option<Items<Log>>, AllocError>
+        ensures in_world { OnOk result ((world : World P C) (client : ClientState C) → Stands self.old world →
+            value_at self.old.clients number ≡ Some (plain_client client) → Stands self.new (record world {
+              clients = replace_at world.clients number (with_log_entry (accept log) client);
+            })) }
+        ensures batch { IfOk result (λ batch. (client : ClientState C) →
+            value_at self.old.clients number ≡ Some (plain_client client) →
+            batch ≡ batch_on (accept log) client.queues.logs) }
+        ensures err { OnErr result (self.new ≡ self.old) }
+    {
+        let Some(client) = self.clients.get_mut(number) else {
+            return Ok(None);
+        };
+        let batch = client.queues.logs.enqueue(log)?;
+        Ok(batch)
+    }
+
+    /// The same of a metric.
+    #[tactic(auto, using(crate::proofs::Keeping::changed_same))]
+    pub fn enqueue_metric(
+        &mut self,
+        number: u64,
+        metric: Metric,
+    ) -> Result<Option<Items<Metric>>, AllocError>
+        ensures in_world { OnOk result ((world : World P C) (client : ClientState C) → Stands self.old world →
+            value_at self.old.clients number ≡ Some (plain_client client) → Stands self.new (record world {
+              clients = replace_at world.clients number (with_metric_entry (accept metric) client);
+            })) }
+        ensures batch { IfOk result (λ batch. (client : ClientState C) →
+            value_at self.old.clients number ≡ Some (plain_client client) →
+            batch ≡ batch_on (accept metric) client.queues.metrics) }
+        ensures err { OnErr result (self.new ≡ self.old) }
+    {
+        let Some(client) = self.clients.get_mut(number) else {
+            return Ok(None);
+        };
+        let batch = client.queues.metrics.enqueue(metric)?;
+        Ok(batch)
+    }
+}

@@ -1,0 +1,194 @@
+//! How clients are made, held and given back.
+ghost use Rattle.std.specs.List.{list_any};
+ghost use Rattle.std.specs.Prelude.{◌≡◌, IfOk, OnOk, OnErr, Some};
+ghost use Rattle.sentry_plain.specs.Tables.{put, without};
+ghost use Rattle.sentry_scope.specs.Stacks.{is_client};
+ghost use Rattle.sentry_state.specs.Worlds.{World, ClientState, Stands, plain_client, plain_queues};
+ghost use Rattle.sentry_state.specs.Books.{with_book, is_label, without_unused_book};
+ghost use Rattle.sentry_state.specs.Clients.{is_client_named, has_session_of, set_up, new_client, clone_from, queues_from};
+
+use crate::state::{Client, Hub, Queues, State};
+use sentry_base::protocol::{ClientKey, Label};
+use sentry_client_reports::client_reports::LossBook;
+use sentry_options::clientoptions::{Callbacks, ClientOptions, SessionMode};
+use sentry_parts::batcher::Batch;
+use sentry_parts::os_attributes::os_attributes;
+use sentry_parts::session::{Session, SessionQueue};
+use sentry_parts::tick::LastTick;
+use sentry_plain::{Shared, Table};
+use std::alloc::{AllocError, Global};
+
+// A share of the options, after the `setup` of their integrations.
+fn set_up<C: Callbacks>(
+    alloc: Global,
+    mut options: ClientOptions<C>,
+) -> Result<Shared<ClientOptions<C>>, AllocError>
+    ensures { IfOk result (λ share. share ≡ set_up C.meanings options) }
+{
+    options.callbacks.set_up(&mut options.plain)?;
+    Shared::new(alloc, options)
+}
+
+// The queues of a client of this session mode that is made at a moment.
+fn queues_from(alloc: Global, mode: SessionMode, now: u64) -> Queues
+    ensures { result ≡ plain_queues mode (queues_from now) }
+{
+    Queues {
+        sessions: SessionQueue::new(alloc, mode),
+        session_tick: LastTick(now),
+        logs: Batch::new(alloc, now),
+        metrics: Batch::new(alloc, now),
+    }
+}
+
+/// A client with these options, after the `setup` of its integrations.
+#[tactic(auto, unfolding(crate::specs::Clients::new_client))]
+pub fn new_client<C: Callbacks>(
+    alloc: Global,
+    options: ClientOptions<C>,
+    transport: bool,
+    label: Label,
+    now: u64,
+) -> Result<Client<C>, AllocError>
+    ensures client { IfOk result (λ client.
+        client ≡ plain_client (new_client C.meanings options transport label now)) }
+    ensures label { IfOk result (λ client. client.label ≡ label) }
+{
+    let occupied = options.plain.dsn.is_some() && transport;
+    let options = set_up(alloc, options)?;
+    let os = os_attributes(alloc, options.get(), now)?;
+    let queues = queues_from(alloc, options.get().plain.session_mode, now);
+    Ok(Client {
+        options,
+        label,
+        occupied,
+        os,
+        closed: false,
+        queues,
+    })
+}
+
+/// A clone of a client that is made at a moment.
+pub fn clone_of<C: Drop>(
+    alloc: Global,
+    client: &Client<C>,
+    now: u64,
+) -> Result<Client<C>, AllocError>
+    ensures { IfOk result (λ clone. (state : ClientState C) → client.now ≡ plain_client state →
+        clone ≡ plain_client (clone_from now state)) }
+{
+    Ok(Client {
+        options: client.options.clone()?,
+        label: client.label,
+        occupied: client.occupied,
+        os: client.os.clone()?,
+        closed: false,
+        queues: queues_from(alloc, client.options.get().plain.session_mode, now),
+    })
+}
+
+// Whether a session that goes on was started under the client.
+fn has_session_of(sessions: &Table<Session>, client: ClientKey) -> bool
+    ensures { result ≡ list_any (λ entry. is_client client (Some entry.1.start.client)) sessions.now }
+{
+    for (_, session) in sessions.iter() {
+        if session.start.client == client {
+            return true;
+        }
+    }
+    false
+}
+
+/// Whether a layer of a hub names the client.
+pub fn is_client_named<P>(hubs: &Table<Hub<P>>, client: ClientKey) -> bool
+    ensures { result ≡ is_client_named client hubs.now }
+{
+    for (_, hub) in hubs.iter() {
+        if hub.stack.names_client(client) {
+            return true;
+        }
+    }
+    false
+}
+
+// Whether a client has the label.
+fn has_client_of<C>(clients: &Table<Client<C>>, label: Label) -> bool
+    ensures { result ≡ list_any (λ entry. is_label label entry.1.label) clients.now }
+{
+    for (_, client) in clients.iter() {
+        if client.label == label {
+            return true;
+        }
+    }
+    false
+}
+
+impl<P: Drop, C: Callbacks> State<P, C> {
+    /// Holds a client under a number.
+    #[tactic(auto, using(crate::proofs::Keeping::stored_in_world))]
+    pub fn insert_client(&mut self, number: u64, client: Client<C>) -> Result<(), AllocError>
+        ensures in_world { OnOk result ((world : World P C) (state : ClientState C) → Stands self.old world →
+            client ≡ plain_client state → Stands self.new (record world { clients = put world.clients number state })) }
+        ensures rest { OnOk result ((self.new.tag ≡ self.old.tag) × (self.new.next ≡ self.old.next)
+            × (self.new.books ≡ self.old.books)) }
+        ensures err { OnErr result (self.new ≡ self.old) }
+    {
+        self.clients.insert(number, client)
+    }
+
+    /// Holds a client under a number, and a book for its label, if there is none yet.
+    #[tactic(auto, using(crate::proofs::Keeping::stored_in_world, crate::proofs::Keeping::without_put))]
+    pub fn insert_client_and_book(
+        &mut self,
+        number: u64,
+        client: Client<C>,
+    ) -> Result<(), AllocError>
+        ensures in_world { OnOk result ((world : World P C) (state : ClientState C) → Stands self.old world →
+            client ≡ plain_client state → Stands self.new (record world {
+              clients = put world.clients number state;
+              books = with_book world.books client.label.number;
+            })) }
+        ensures rest { OnOk result ((self.new.tag ≡ self.old.tag) × (self.new.next ≡ self.old.next)) }
+        ensures err { OnErr result (self.new ≡ self.old) }
+    {
+        let label = client.label.number;
+        if self.books.get(label).is_some() {
+            return self.insert_client(number, client);
+        }
+        self.books.insert(label, LossBook::new())?;
+        match self.clients.insert(number, client) {
+            Ok(()) => Ok(()),
+            Err(error) => {
+                self.books.remove(label);
+                Err(error)
+            }
+        }
+    }
+
+    /// Removes a client.
+    #[tactic(auto, using(crate::proofs::Keeping::without_map_values))]
+    pub fn remove_client(&mut self, number: u64)
+        ensures { (world : World P C) → Stands self.old world →
+            Stands self.new (record world { clients = without world.clients number }) }
+    {
+        self.clients.remove(number);
+    }
+
+    /// Removes the book of a label, unless a client has the label.
+    pub fn remove_unused_book(&mut self, label: Label)
+        ensures { (world : World P C) → Stands self.old world →
+            Stands self.new (without_unused_book label world) }
+    {
+        if has_client_of(&self.clients, label) {
+            return;
+        }
+        self.books.remove(label.number);
+    }
+
+    /// Whether a session that goes on was started under the client.
+    pub fn has_session_of(&self, client: ClientKey) -> bool
+        ensures { (world : World P C) → Stands self.now world → result ≡ has_session_of client world.sessions }
+    {
+        has_session_of(&self.sessions, client)
+    }
+}

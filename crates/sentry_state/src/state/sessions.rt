@@ -1,0 +1,85 @@
+//! How sessions are named and change.
+ghost use Rattle.std.specs.Prelude.{◌≡◌, ◌<◌, ◌+◌, ◌-◌, ◌^◌, Some, None};
+ghost use Rattle.std.specs.Bool.{OnTrue};
+ghost use Rattle.sentry_plain.specs.Tables.{value_at, replace_at, without};
+ghost use Rattle.sentry_state.specs.declared.state.Hub.{Hub};
+ghost use Rattle.sentry_state.specs.Changes.{is_session_number_left, with_session};
+ghost use Rattle.sentry_state.specs.Worlds.{World, SessionState, Stands, plain_session};
+
+use crate::state::State;
+use sentry_base::protocol::SessionKey;
+use sentry_options::clientoptions::Callbacks;
+use sentry_parts::session::Session;
+
+impl<P: Drop, C: Callbacks> State<P, C> {
+    /// Whether a number is left for a session.
+    #[tactic(auto, using(crate::proofs::Keeping::has_session_in_world))]
+    pub fn has_session_number(&self) -> bool
+        ensures in_world { (world : World P C) → Stands self.now world → result ≡ is_session_number_left world }
+        ensures free { OnTrue result ((self.now.next.session < 2 ^ 64 - 1)
+            × (value_at self.now.sessions self.now.next.session ≡ None)) }
+    {
+        if self.next.session == u64::MAX {
+            return false;
+        }
+        self.sessions.get(self.next.session).is_none()
+    }
+
+    /// The top layer of a hub that is held names the session under the next number.
+    pub fn name_next_session(&mut self, number: u64)
+        requires { self.old.next.session < 2 ^ 64 - 1 }
+        ensures { (world : World P C) (hub : Hub P) → Stands self.old world → value_at self.old.hubs number ≡ Some hub →
+            Stands self.new (record world {
+              next = record world.next { session = world.next.session + 1 };
+              hubs = replace_at world.hubs number
+                  (with_session hub (Some (record { tag = world.tag; number = world.next.session })));
+            }) }
+    {
+        let key = SessionKey {
+            tag: self.tag,
+            number: self.next.session,
+        };
+        self.set_session_name(number, Some(key));
+        self.next.session += 1;
+    }
+
+    /// Writes which session the top layer of a hub names.
+    pub fn set_session_name(&mut self, number: u64, name: Option<SessionKey>)
+        ensures in_world { (world : World P C) (hub : Hub P) → Stands self.old world →
+            value_at self.old.hubs number ≡ Some hub → Stands self.new (record world {
+              hubs = replace_at world.hubs number (with_session hub name);
+            }) }
+        ensures next { self.new.next ≡ self.old.next }
+        ensures engine { (hub : Hub P) → value_at self.old.hubs number ≡ Some hub →
+            self.new ≡ record self.old { hubs = replace_at self.old.hubs number (with_session hub name) } }
+    {
+        let Some(hub) = self.hubs.get_mut(number) else {
+            return;
+        };
+        hub.stack.top.session = name;
+    }
+
+    /// Writes a session, if there is one under the number.
+    pub fn set_session(&mut self, number: u64, after: Session)
+        ensures in_world { (world : World P C) (state : SessionState) → Stands self.old world →
+            after ≡ plain_session state →
+            Stands self.new (record world { sessions = replace_at world.sessions number state }) }
+        ensures hubs { self.new.hubs ≡ self.old.hubs }
+    {
+        let Some(session) = self.sessions.get_mut(number) else {
+            return;
+        };
+        *session = after;
+    }
+
+    /// Removes a session.
+    #[tactic(auto, using(crate::proofs::Keeping::without_map_values))]
+    pub fn remove_session(&mut self, number: u64)
+        ensures in_world { (world : World P C) → Stands self.old world →
+            Stands self.new (record world { sessions = without world.sessions number }) }
+        ensures hubs { self.new.hubs ≡ self.old.hubs }
+        ensures next { self.new.next ≡ self.old.next }
+    {
+        self.sessions.remove(number);
+    }
+}
