@@ -1,7 +1,7 @@
 //! Engines over callbacks in boxes, as users of the library hand them in.
-use crate::engines::{DSN, LABEL, fresh, id, options, scope};
+use crate::engines::{DSN, LABEL, add_client_and_hub, fresh, id, options, scope};
 use sentry_core::engine::{Engine, Out};
-use sentry_core::protocol::{Breadcrumb, EnvelopeItem, Event, Refusal, Uuid};
+use sentry_core::protocol::{Breadcrumb, ClientKey, EnvelopeItem, Event, HubKey, Refusal, Uuid};
 use sentry_core::types::Dsn;
 use sentry_core::{
     BoxedBreadcrumbCallback, BoxedEventCallback, BoxedIntegration, BreadcrumbCallback,
@@ -151,7 +151,15 @@ fn sent_event(out: &Out<Uuid>) -> Option<(u64, Level, usize)> {
 /// What an event at moment 1 comes to: the id answered, what goes out, and the hub's last event id.
 type Outcome = (Uuid, Option<(u64, Level, usize)>, Option<Uuid>);
 
-/// The same of an event without an id, on a hub with this scope of a client with these options.
+/// The same of an event without an id, captured on this hub.
+fn capture_on(alloc: Global, engine: &mut Engine, hub: HubKey) -> Result<Outcome, Refusal> {
+    let event = Event::new(alloc, Uuid::nil(), 1)?;
+    let out = engine.capture_event(hub, event, fresh(1))?;
+    let sent = sent_event(&out);
+    Ok((out.reply, sent, engine.last_event_id(hub)?.reply))
+}
+
+/// The same on a hub with this scope of a client with these options.
 fn capture_once(
     alloc: Global,
     options: ClientOptions,
@@ -159,15 +167,8 @@ fn capture_once(
     scope: Scope,
 ) -> Result<Outcome, Refusal> {
     let mut engine = Engine::new(alloc, 0);
-    let client = engine.add_client(options, transport, LABEL, 0)?.reply;
-    let hub = engine.new_hub(Some(client), scope)?.reply;
-    let event = Event::new(alloc, Uuid::nil(), 1)?;
-    let out = engine.capture_event(hub, event, fresh(1))?;
-    Ok((
-        out.reply,
-        sent_event(&out),
-        engine.last_event_id(hub)?.reply,
-    ))
+    let hub = add_client_and_hub(&mut engine, options, transport, scope)?;
+    capture_on(alloc, &mut engine, hub)
 }
 
 /// Options whose callbacks multiply by 3, multiply by 5, and add 100. The DSN is taken in the set-up.
@@ -185,51 +186,71 @@ fn starving_options(alloc: Global) -> Result<ClientOptions, Refusal> {
         .add_integration(boxed_multiplies(alloc, 0, None)?)
 }
 
+/// The same where all callbacks do their work, the processor of the scope among them.
+fn capture_counting(alloc: Global) -> Result<Outcome, Refusal> {
+    let scope = scope_with(alloc, boxed_adds(alloc, 3)?)?;
+    capture_once(alloc, counting_options(alloc)?, true, scope)
+}
+
+/// The same where the callbacks of the options are refused their memory, under this processor.
+fn capture_starving(
+    alloc: Global,
+    transport: bool,
+    processor: BoxedEventCallback,
+) -> Result<Outcome, Refusal> {
+    let scope = scope_with(alloc, processor)?;
+    capture_once(alloc, starving_options(alloc)?, transport, scope)
+}
+
+/// Of an event that was dropped.
+fn dropped() -> Outcome {
+    (Uuid::nil(), None, Some(Uuid::nil()))
+}
+
 #[test]
 fn boxed_callbacks_run_in_order(rt: HostRuntime) -> Result<(), Fail> {
     let alloc = rt.alloc();
-    let dropped = (Uuid::nil(), None, Some(Uuid::nil()));
     // the processor, the integrations, the callback: (1 + 3) * 3 * 5 + 100
     let counted = (id(1), Some((160, Level::Warning, 1)), Some(id(1)));
-    let scope = scope_with(alloc, boxed_adds(alloc, 3)?)?;
-    assert_eq!(rt;
-        capture_once(alloc, counting_options(alloc)?, true, scope)?,
-        counted
-    );
+    assert_eq!(rt; capture_counting(alloc)?, counted);
     // What drops an event stops what follows.
     let drops: BoxedEventCallback = Box::new(alloc, Drops)?;
-    let scope = scope_with(alloc, drops)?;
-    assert_eq!(rt;
-        capture_once(alloc, starving_options(alloc)?, true, scope)?,
-        dropped
-    );
-    let scope = scope_with(alloc, boxed_adds(alloc, 3)?)?;
-    let refusal = capture_once(alloc, starving_options(alloc)?, true, scope).err();
+    assert_eq!(rt; capture_starving(alloc, true, drops)?, dropped());
+    let refusal = capture_starving(alloc, true, boxed_adds(alloc, 3)?).err();
     assert_eq!(rt; refusal, Some(Refusal::OutOfMemory));
     // Without a transport nothing runs.
-    let scope = scope_with(alloc, boxed_adds(alloc, 0)?)?;
-    assert_eq!(rt;
-        capture_once(alloc, starving_options(alloc)?, false, scope)?,
-        dropped
-    );
+    let starves = boxed_adds(alloc, 0)?;
+    assert_eq!(rt; capture_starving(alloc, false, starves)?, dropped());
     Ok(())
+}
+
+/// What a client with the callbacks above answers and sends of an event at moment 1 that it captures under a scope.
+fn client_capture(
+    alloc: Global,
+    engine: &mut Engine,
+) -> Result<(Uuid, Option<(u64, Level, usize)>), Refusal> {
+    let client = engine.add_client(counting_options(alloc)?, true, LABEL, 0)?;
+    let scope = scope_with(alloc, boxed_adds(alloc, 3)?)?;
+    let event = Event::new(alloc, Uuid::nil(), 1)?;
+    let out = engine.client_capture_event(client.reply, event, Some(&scope), fresh(1))?;
+    Ok((out.reply, sent_event(&out)))
 }
 
 #[test]
 fn clients_capture_under_a_scope(rt: HostRuntime) -> Result<(), Fail> {
-    let alloc = rt.alloc();
-    let mut engine = Engine::new(alloc, 0);
-    let client = engine
-        .add_client(counting_options(alloc)?, true, LABEL, 0)?
-        .reply;
-    let scope = scope_with(alloc, boxed_adds(alloc, 3)?)?;
-    let event = Event::new(alloc, Uuid::nil(), 1)?;
-    let out = engine.client_capture_event(client, event, Some(&scope), fresh(1))?;
-    assert_eq!(rt;
-        (out.reply, sent_event(&out)),
-        (id(1), Some((160, Level::Warning, 1)))
-    );
+    let mut engine = Engine::new(rt.alloc(), 0);
+    let captured = client_capture(rt.alloc(), &mut engine)?;
+    assert_eq!(rt; captured, (id(1), Some((160, Level::Warning, 1))));
     Ok(())
+}
+
+/// Breadcrumbs of the moments below a count.
+fn breadcrumbs_below(alloc: Global, count: u64) -> Result<Vec<Breadcrumb>, AllocError> {
+    let mut breadcrumbs = Items::new(alloc);
+    for moment in 0..count {
+        breadcrumbs.push(Breadcrumb::new(alloc, moment)?)?;
+    }
+    Ok(breadcrumbs.into_vec())
 }
 
 /// Why breadcrumbs of the moments below a count are refused, if they are, on a hub of a client whose callback keeps
@@ -241,13 +262,9 @@ fn breadcrumbs_kept(
 ) -> Result<(Option<Refusal>, usize), Refusal> {
     let options = options(alloc)?.before_breadcrumb(boxed_keeps_until(alloc, until)?)?;
     let mut engine = Engine::new(alloc, 0);
-    let client = engine.add_client(options, true, LABEL, 0)?.reply;
-    let hub = engine.new_hub(Some(client), scope(alloc))?.reply;
-    let mut breadcrumbs = Items::new(alloc);
-    for moment in 0..count {
-        breadcrumbs.push(Breadcrumb::new(alloc, moment)?)?;
-    }
-    let refusal = engine.add_breadcrumbs(hub, breadcrumbs.into_vec()).err();
+    let hub = add_client_and_hub(&mut engine, options, true, scope(alloc))?;
+    let breadcrumbs = breadcrumbs_below(alloc, count)?;
+    let refusal = engine.add_breadcrumbs(hub, breadcrumbs).err();
     Ok((refusal, engine.scope(hub)?.reply.breadcrumbs.len()))
 }
 
@@ -264,17 +281,19 @@ fn breadcrumbs_go_through_a_boxed_callback(rt: HostRuntime) -> Result<(), Fail> 
     Ok(())
 }
 
-/// Of a client with these options and a transport: whether it is enabled and has a DSN, and how many integrations it
-/// has.
+/// Whether a client is enabled and has a DSN, and how many integrations it has.
+fn facts_of(engine: &Engine, client: ClientKey) -> Result<(bool, bool, usize), Refusal> {
+    let is_enabled = engine.is_enabled(client)?.reply;
+    let has_dsn = engine.dsn(client)?.reply.is_some();
+    let options = engine.options(client)?.reply;
+    Ok((is_enabled, has_dsn, options.callbacks.integrations.len()))
+}
+
+/// The same of a client with these options and a transport.
 fn facts_of_client(alloc: Global, options: ClientOptions) -> Result<(bool, bool, usize), Refusal> {
     let mut engine = Engine::new(alloc, 0);
     let client = engine.add_client(options, true, LABEL, 0)?.reply;
-    let options = engine.options(client)?.reply;
-    Ok((
-        engine.is_enabled(client)?.reply,
-        engine.dsn(client)?.reply.is_some(),
-        options.callbacks.integrations.len(),
-    ))
+    facts_of(&engine, client)
 }
 
 /// Options without a DSN, to which an integration gives one.
@@ -283,29 +302,36 @@ fn directed_options(alloc: Global) -> Result<ClientOptions, Refusal> {
     ClientOptions::new(alloc).add_integration(boxed_multiplies(alloc, 2, Some(dsn))?)
 }
 
+/// A list of integrations, which gives a DSN.
+fn giving_integrations(alloc: Global) -> Result<Vec<BoxedIntegration>, Refusal> {
+    let dsn = Dsn::parse(alloc, DSN)?;
+    let mut giving = Items::new(alloc);
+    giving.push(boxed_multiplies(alloc, 2, Some(dsn))?)?;
+    Ok(giving.into_vec())
+}
+
+/// The facts of a client whose options are a copy.
+fn facts_of_copy(alloc: Global) -> Result<(bool, bool, usize), Refusal> {
+    facts_of_client(alloc, counting_options(alloc)?.clone()?)
+}
+
+/// The facts of a client whose list of integrations was replaced.
+fn facts_after_replacing(alloc: Global) -> Result<(bool, bool, usize), Refusal> {
+    let giving = giving_integrations(alloc)?;
+    facts_of_client(alloc, counting_options(alloc)?.integrations(giving)?)
+}
+
 #[test]
 fn set_up_changes_the_options(rt: HostRuntime) -> Result<(), Fail> {
     let alloc = rt.alloc();
     // A DSN that is taken disables the client. That its slot stays occupied shows where callbacks run in order.
-    let copy = counting_options(alloc)?.clone()?;
-    assert_eq!(rt; facts_of_client(alloc, copy)?, (false, false, 2));
+    assert_eq!(rt; facts_of_copy(alloc)?, (false, false, 2));
     // A list of integrations replaces those before.
-    let dsn = Dsn::parse(alloc, DSN)?;
-    let giving = vec![in alloc; boxed_multiplies(alloc, 2, Some(dsn))?]?;
-    assert_eq!(rt;
-        facts_of_client(alloc, counting_options(alloc)?.integrations(giving)?)?,
-        (true, true, 1)
-    );
+    assert_eq!(rt; facts_after_replacing(alloc)?, (true, true, 1));
     // A DSN that is given opens no slot.
-    assert_eq!(rt;
-        facts_of_client(alloc, directed_options(alloc)?)?,
-        (false, true, 1)
-    );
-    let dropped = (Uuid::nil(), None, Some(Uuid::nil()));
-    let scope = scope(alloc);
-    assert_eq!(rt;
-        capture_once(alloc, directed_options(alloc)?, true, scope)?,
-        dropped
-    );
+    let facts = facts_of_client(alloc, directed_options(alloc)?)?;
+    assert_eq!(rt; facts, (false, true, 1));
+    let outcome = capture_once(alloc, directed_options(alloc)?, true, scope(alloc))?;
+    assert_eq!(rt; outcome, dropped());
     Ok(())
 }

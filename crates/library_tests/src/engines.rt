@@ -40,6 +40,32 @@ pub(crate) fn options(alloc: Global) -> Result<ClientOptions, Refusal> {
     ClientOptions::from_dsn(alloc, DSN)
 }
 
+/// The hub with this scope of a new client with these options.
+pub(crate) fn add_client_and_hub(
+    engine: &mut Engine,
+    options: ClientOptions,
+    transport: bool,
+    scope: Scope,
+) -> Result<HubKey, Refusal> {
+    let client = engine.add_client(options, transport, LABEL, 0)?.reply;
+    Ok(engine.new_hub(Some(client), scope)?.reply)
+}
+
+/// Why the calls on these keys are refused.
+fn refusals_of(
+    engine: &mut Engine,
+    client: ClientKey,
+    hub: HubKey,
+    scope: Scope,
+) -> [Option<Refusal>; 4] {
+    [
+        engine.options(client).err(),
+        engine.is_enabled(client).err(),
+        engine.new_hub(Some(client), scope).err(),
+        engine.last_event_id(hub).err(),
+    ]
+}
+
 #[test]
 fn keys_of_another_engine_are_stale(rt: HostRuntime) -> Result<(), Fail> {
     let alloc = rt.alloc();
@@ -47,23 +73,27 @@ fn keys_of_another_engine_are_stale(rt: HostRuntime) -> Result<(), Fail> {
     let label = Label { tag: 3, number: 9 };
     let client = engine.add_client(options(alloc)?, true, label, 0)?.reply;
     let hub = engine.new_hub(Some(client), scope(alloc))?.reply;
-    assert_eq!(rt;
-        (client, hub),
-        (
-            ClientKey { tag: 3, number: 0 },
-            HubKey { tag: 3, number: 0 }
-        )
+    let expected = (
+        ClientKey { tag: 3, number: 0 },
+        HubKey { tag: 3, number: 0 },
     );
+    assert_eq!(rt; (client, hub), expected);
     let client = ClientKey { tag: 4, ..client };
     let hub = HubKey { tag: 4, ..hub };
-    let refusals = [
-        engine.options(client).err(),
-        engine.is_enabled(client).err(),
-        engine.new_hub(Some(client), scope(alloc)).err(),
-        engine.last_event_id(hub).err(),
-    ];
+    let refusals = refusals_of(&mut engine, client, hub, scope(alloc));
     assert_eq!(rt; refusals, [Some(Refusal::Stale); 4]);
     Ok(())
+}
+
+/// The number of a new client whose losses are counted under this label.
+fn add_client(alloc: Global, engine: &mut Engine, label: Label) -> Result<u64, Refusal> {
+    let out = engine.add_client(options(alloc)?, true, label, 0)?;
+    Ok(out.reply.number)
+}
+
+/// The number of a new hub.
+fn new_hub(alloc: Global, engine: &mut Engine) -> Result<u64, Refusal> {
+    Ok(engine.new_hub(None, scope(alloc))?.reply.number)
 }
 
 #[test]
@@ -72,18 +102,21 @@ fn numbers_are_used_up(rt: HostRuntime) -> Result<(), Fail> {
     let mut engine = Engine::starting_at(alloc, 0, u64::MAX - 1);
     // the label is asked before the numbers
     let foreign = Label { tag: 1, number: 0 };
-    let refusal = engine.add_client(options(alloc)?, true, foreign, 0).err();
-    assert_eq!(rt; refusal, Some(Refusal::ForeignLosses));
-    let client = engine.add_client(options(alloc)?, true, LABEL, 0)?.reply;
-    assert_eq!(rt; client.number, u64::MAX - 1);
-    let refusal = engine.add_client(options(alloc)?, true, LABEL, 0).err();
-    assert_eq!(rt; refusal, Some(Refusal::Full));
-    let refusal = engine.add_client(options(alloc)?, true, foreign, 0).err();
-    assert_eq!(rt; refusal, Some(Refusal::ForeignLosses));
-    let hub = engine.new_hub(Some(client), scope(alloc))?.reply;
-    assert_eq!(rt; hub.number, u64::MAX - 1);
-    let refusal = engine.new_hub(None, scope(alloc)).err();
-    assert_eq!(rt; refusal, Some(Refusal::Full));
+    let clients = [
+        add_client(alloc, &mut engine, foreign),
+        add_client(alloc, &mut engine, LABEL),
+        add_client(alloc, &mut engine, LABEL),
+        add_client(alloc, &mut engine, foreign),
+    ];
+    let expected = [
+        Err(Refusal::ForeignLosses),
+        Ok(u64::MAX - 1),
+        Err(Refusal::Full),
+        Err(Refusal::ForeignLosses),
+    ];
+    assert_eq!(rt; clients, expected);
+    let hubs = [new_hub(alloc, &mut engine), new_hub(alloc, &mut engine)];
+    assert_eq!(rt; hubs, [Ok(u64::MAX - 1), Err(Refusal::Full)]);
     Ok(())
 }
 
@@ -134,40 +167,55 @@ fn a_list_of_calls_answers_one_by_one(rt: HostRuntime) -> Result<(), Fail> {
     Ok(())
 }
 
+/// Pops a layer by its guard. If that is refused: why, and the guard.
+fn refused_pop(engine: &mut Engine, guard: ScopeGuard) -> Option<(Refusal, ScopeGuard)> {
+    engine.pop_scope(guard, 0).err()
+}
+
 /// Pops a layer under another one by its guard, then that other one, and then the layer by the guard that came back.
 /// Why the first is refused, if it is, and whether the last is done.
 fn pop_by_turns(engine: &mut Engine, guard: ScopeGuard) -> (Option<Refusal>, bool) {
-    match engine.pop_scope(guard, 0) {
-        Ok(_) => (None, false),
-        Err((refusal, guard)) => {
-            let top = Call::PopScope {
-                hub: HUB,
-                depth: 2,
-                now: 0,
-            };
-            let is_popped = engine.apply(top).is_ok();
-            match engine.pop_scope(guard, 0) {
-                Ok(_) => (Some(refusal), is_popped),
-                Err((_, guard)) => {
-                    guard.into_parts();
-                    (Some(refusal), false)
-                }
-            }
+    let Some((refusal, guard)) = refused_pop(engine, guard) else {
+        return (None, false);
+    };
+    let top = Call::PopScope {
+        hub: HUB,
+        depth: 2,
+        now: 0,
+    };
+    let is_popped = engine.apply(top).is_ok();
+    match refused_pop(engine, guard) {
+        None => (Some(refusal), is_popped),
+        Some((_, guard)) => {
+            guard.into_parts();
+            (Some(refusal), false)
         }
     }
+}
+
+/// The same on a new hub, onto which two layers are pushed: whether the second was, and what the pops come to.
+fn push_and_pop(
+    engine: &mut Engine,
+    scope: Scope,
+) -> Result<(bool, (Option<Refusal>, bool)), Refusal> {
+    engine.new_hub(None, scope)?;
+    let Out { reply, sent: _ } = engine.push_scope(HUB)?;
+    let is_pushed = engine.apply(Call::PushScope(HUB)).is_ok();
+    Ok((is_pushed, pop_by_turns(engine, reply)))
 }
 
 #[test]
 fn a_refused_guard_is_handed_back(rt: HostRuntime) -> Result<(), Fail> {
     let alloc = rt.alloc();
     let mut engine = Engine::new(alloc, 0);
-    engine.new_hub(None, scope(alloc))?;
-    let Out { reply, sent: _ } = engine.push_scope(HUB)?;
-    let is_pushed = engine.apply(Call::PushScope(HUB)).is_ok();
-    let popped = pop_by_turns(&mut engine, reply);
-    assert!(rt; is_pushed);
-    assert_eq!(rt; popped, (Some(Refusal::OutOfOrder), true));
+    let popped = push_and_pop(&mut engine, scope(alloc))?;
+    assert_eq!(rt; popped, (true, (Some(Refusal::OutOfOrder), true)));
     Ok(())
+}
+
+/// Hands drained losses to an engine. If they are refused: why, and the losses.
+fn refused_losses(engine: &mut Engine, drained: Drained) -> Option<(Refusal, Drained)> {
+    engine.absorb(drained).err()
 }
 
 /// Why the first engine refuses the losses, if it does, and whether the second takes them then.
@@ -176,16 +224,24 @@ fn absorb_in_turn(
     second: &mut Engine,
     drained: Drained,
 ) -> (Option<Refusal>, bool) {
-    match first.absorb(drained) {
-        Ok(_) => (None, false),
-        Err((refusal, drained)) => match second.absorb(drained) {
-            Ok(_) => (Some(refusal), true),
-            Err((_, drained)) => {
-                drained.into_parts();
-                (Some(refusal), false)
-            }
-        },
+    let Some((refusal, drained)) = refused_losses(first, drained) else {
+        return (None, false);
+    };
+    match refused_losses(second, drained) {
+        None => (Some(refusal), true),
+        Some((_, drained)) => {
+            drained.into_parts();
+            (Some(refusal), false)
+        }
     }
+}
+
+/// What a transport counts that lost an event.
+fn drained_losses(alloc: Global) -> Result<Drained, Refusal> {
+    let (mut recorder, mut drainer) = LossWords::new(alloc, LABEL)?;
+    let event = Event::new(alloc, id(9), 1)?;
+    recorder.record_lost_data(&event, TransportLossReason::NetworkError);
+    Ok(drainer.drain())
 }
 
 #[test]
@@ -193,12 +249,10 @@ fn refused_losses_are_handed_back(rt: HostRuntime) -> Result<(), Fail> {
     let alloc = rt.alloc();
     let mut first = Engine::new(alloc, 0);
     let mut second = Engine::new(alloc, 0);
-    second.add_client(options(alloc)?, true, LABEL, 0)?;
-    let (mut recorder, mut drainer) = LossWords::new(alloc, LABEL)?;
-    let event = Event::new(alloc, id(9), 1)?;
-    recorder.record_lost_data(&event, TransportLossReason::NetworkError);
-    let absorbed = absorb_in_turn(&mut first, &mut second, drainer.drain());
+    add_client(alloc, &mut second, LABEL)?;
+    let absorbed = absorb_in_turn(&mut first, &mut second, drained_losses(alloc)?);
     assert_eq!(rt; absorbed, (Some(Refusal::ForeignLosses), true));
-    assert!(rt; second.take_report(LABEL)?.reply.is_some());
+    let is_reported = second.take_report(LABEL)?.reply.is_some();
+    assert!(rt; is_reported);
     Ok(())
 }
