@@ -1,24 +1,12 @@
-//! What is printed of answers and of records. A record's text is its impl of `Shown`.
-mod contexts;
-mod envelopes;
-mod events;
-mod lists;
-mod options;
-mod replies;
-mod sessions;
-mod telemetry;
-mod values;
-
-use crate::answer::Answer;
+//! What is printed of answers.
+use crate::answer::{Answer, Reply};
+use crate::headers::Header;
 use crate::originals::Originals;
-use crate::print::envelopes::push_envelope;
+use scenario_print::{
+    Shown, push_dsn_answer, push_envelope, push_last_event, push_line, push_line_if_any,
+    push_line_of, push_parsed_headers, push_report,
+};
 use std::alloc::AllocError;
-
-/// What is printed of a value. Where memory is refused, a part of it may stand in the text.
-pub trait Shown {
-    /// Puts it at the end of the text.
-    fn push_to(&self, text: &mut String) -> Result<(), AllocError>;
-}
 
 /// Puts the lines of an answer at the end of the text: the reply, and each envelope, under the client whose transport
 /// it goes through.
@@ -32,4 +20,50 @@ pub fn push_answer(
         push_envelope(text, originals.of(client.number), envelope)?;
     }
     Ok(())
+}
+
+impl Shown for Reply<'_> {
+    fn push_to(&self, text: &mut String) -> Result<(), AllocError> {
+        match self {
+            Reply::Nothing => Ok(()),
+            Reply::Refused(refusal) => push_line(text, "refused", refusal),
+            Reply::Sample(decision) => push_line(text, "sample", decision),
+            Reply::Options { client, options } => {
+                push_line_of(text, "options", *client, options.get())
+            }
+            Reply::ClientDsn { client, dsn } => push_line_if_any(text, "clientdsn", *client, dsn),
+            Reply::Enabled { client, is_enabled } => {
+                push_line_of(text, "enabled", *client, is_enabled)
+            }
+            Reply::Prepared { client, event } => push_line_if_any(text, "prepare", *client, event),
+            Reply::Report { client, report } => push_report(text, *client, report),
+            Reply::Bound { hub, client } => push_line_of(text, "bound", *hub, client),
+            Reply::LastEvent { hub, id } => push_last_event(text, *hub, *id),
+            Reply::Active { hub, is_active } => push_line_of(text, "active", *hub, is_active),
+            Reply::Headers(parsed) => push_parsed_headers(text, parsed),
+            Reply::HubHeaders { hub, headers } => push_hub_headers(text, *hub, headers.as_slice()),
+            Reply::Dsn(read) => push_dsn_answer(text, read),
+            Reply::DebugType(name) => push_line(text, "debugtype", name),
+            Reply::Sensitive(is_sensitive) => push_line(text, "sensitive", is_sensitive),
+            Reply::Scrubbed(url) => push_line(text, "scrub", &url.as_str()),
+        }
+    }
+}
+
+fn push_hub_headers(text: &mut String, hub: u64, headers: &[Header]) -> Result<(), AllocError> {
+    write!(text, "headers {hub}")?;
+    for header in headers {
+        push_header(text, header)?;
+    }
+    text.push_str("\n")
+}
+
+// A header's value is the id of the trace, and after a `-` that of the span and the decision on sampling.
+fn push_header(text: &mut String, header: &Header) -> Result<(), AllocError> {
+    let name = header.name.as_str();
+    let value = header.value.as_str();
+    match value.split_once('-') {
+        Some((trace, rest)) => write!(text, " {name} T{trace}-S{rest}"),
+        None => write!(text, " {name} {value}"),
+    }
 }

@@ -1,6 +1,6 @@
 //! Contexts.
-use crate::print::Shown;
-use crate::print::lists::push_labeled;
+use crate::Shown;
+use crate::lists::push_labeled;
 use sentry_base::protocol::{Context, SpanId, SpanStatus, TraceContext};
 use std::alloc::AllocError;
 

@@ -1,6 +1,6 @@
 //! Values: a text as it is, any other as compact JSON.
-use crate::print::Shown;
-use crate::print::lists::{PLAIN, push_entries};
+use crate::Shown;
+use crate::lists::{PLAIN, push_entries};
 use sentry_plain::{Value, ValueMap, Values};
 use std::alloc::AllocError;
 

@@ -1,6 +1,6 @@
 //! Logs and metrics, and their batches.
-use crate::print::Shown;
-use crate::print::lists::{PLAIN, push_joined, push_labeled, push_map};
+use crate::Shown;
+use crate::lists::{PLAIN, push_joined, push_labeled, push_map};
 use sentry_base::protocol::{Log, LogAttribute, LogLevel, Metric, MetricType, Unit};
 use sentry_plain::Items;
 use std::alloc::AllocError;

@@ -1,6 +1,6 @@
 //! Events.
-use crate::print::Shown;
-use crate::print::lists::{MapStyle, PLAIN, push_joined, push_labeled, push_list, push_map};
+use crate::Shown;
+use crate::lists::{MapStyle, PLAIN, push_joined, push_labeled, push_list, push_map};
 use sentry_base::protocol::{Breadcrumb, ClientSdkInfo, Event, Exception, Level, User};
 use std::alloc::AllocError;
 

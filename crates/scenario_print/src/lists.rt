@@ -1,5 +1,5 @@
 //! Lists, maps, what may be absent, and plain texts and numbers.
-use crate::print::Shown;
+use crate::Shown;
 use sentry_plain::{Items, Text, TextMap};
 use std::alloc::AllocError;
 use std::collections::btree_map::Iter;

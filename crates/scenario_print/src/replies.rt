@@ -1,51 +1,21 @@
-//! What commands answer by themselves.
-use crate::answer::Reply;
-use crate::headers::Header;
-use crate::print::Shown;
-use crate::print::lists::{push_joined, push_labeled};
+//! The lines of what commands answer by themselves.
+use crate::Shown;
+use crate::lists::{push_joined, push_labeled};
 use sentry_base::dsn::{Dsn, ParseDsnError};
 use sentry_base::protocol::{ClientKey, ClientReport, OrganizationId, Refusal, Uuid};
 use sentry_plain::Boxed;
 use sentry_trace::headers::{HeaderParseError, TracePropagationContext};
 use std::alloc::AllocError;
 
-impl Shown for Reply<'_> {
-    fn push_to(&self, text: &mut String) -> Result<(), AllocError> {
-        match self {
-            Reply::Nothing => Ok(()),
-            Reply::Refused(refusal) => push_line(text, "refused", refusal),
-            Reply::Sample(decision) => push_line(text, "sample", decision),
-            Reply::Options { client, options } => {
-                push_line_of(text, "options", *client, options.get())
-            }
-            Reply::ClientDsn { client, dsn } => push_line_if_any(text, "clientdsn", *client, dsn),
-            Reply::Enabled { client, is_enabled } => {
-                push_line_of(text, "enabled", *client, is_enabled)
-            }
-            Reply::Prepared { client, event } => push_line_if_any(text, "prepare", *client, event),
-            Reply::Report { client, report } => push_report(text, *client, report),
-            Reply::Bound { hub, client } => push_line_of(text, "bound", *hub, client),
-            Reply::LastEvent { hub, id } => push_last_event(text, *hub, *id),
-            Reply::Active { hub, is_active } => push_line_of(text, "active", *hub, is_active),
-            Reply::Headers(parsed) => push_headers(text, parsed),
-            Reply::HubHeaders { hub, headers } => push_hub_headers(text, *hub, headers.as_slice()),
-            Reply::Dsn(read) => push_dsn_answer(text, read),
-            Reply::DebugType(name) => push_line(text, "debugtype", name),
-            Reply::Sensitive(is_sensitive) => push_line(text, "sensitive", is_sensitive),
-            Reply::Scrubbed(url) => push_line(text, "scrub", &url.as_str()),
-        }
-    }
-}
-
-/// Puts the line of a reply that has one value at the end of the text.
-fn push_line<T: Shown>(text: &mut String, name: &str, value: &T) -> Result<(), AllocError> {
+/// Puts a line at the end of the text: the name of a reply, and its value.
+pub fn push_line<T: Shown>(text: &mut String, name: &str, value: &T) -> Result<(), AllocError> {
     write!(text, "{name} ")?;
     value.push_to(text)?;
     text.push_str("\n")
 }
 
-/// The same for the value of the client or the hub of this number.
-fn push_line_of<T: Shown>(
+/// The same for a value of the client or the hub of this number, which stands after the name.
+pub fn push_line_of<T: Shown>(
     text: &mut String,
     name: &str,
     number: u64,
@@ -57,7 +27,7 @@ fn push_line_of<T: Shown>(
 }
 
 /// The same with `none` where there is no value.
-fn push_line_if_any<T: Shown>(
+pub fn push_line_if_any<T: Shown>(
     text: &mut String,
     name: &str,
     number: u64,
@@ -94,7 +64,8 @@ impl Shown for ClientKey {
     }
 }
 
-fn push_report(
+/// Puts the line of the report of the client of this number at the end of the text, or that it has none.
+pub fn push_report(
     text: &mut String,
     client: u64,
     report: &Option<ClientReport>,
@@ -109,7 +80,8 @@ fn push_report(
     }
 }
 
-fn push_last_event(text: &mut String, hub: u64, id: Option<Uuid>) -> Result<(), AllocError> {
+/// Puts the line of the last event id of the hub of this number at the end of the text. An id of zeros is `nil`.
+pub fn push_last_event(text: &mut String, hub: u64, id: Option<Uuid>) -> Result<(), AllocError> {
     match id {
         None => writeln!(text, "last {hub} none"),
         Some(id) if id.is_nil() => writeln!(text, "last {hub} nil"),
@@ -140,7 +112,8 @@ impl Shown for TracePropagationContext {
     }
 }
 
-fn push_headers(
+/// Puts the line of what headers were read as at the end of the text.
+pub fn push_parsed_headers(
     text: &mut String,
     parsed: &Result<TracePropagationContext, HeaderParseError>,
 ) -> Result<(), AllocError> {
@@ -150,24 +123,6 @@ fn push_headers(
         Err(cause) => write!(text, "{cause}")?,
     }
     text.push_str("\n")
-}
-
-fn push_hub_headers(text: &mut String, hub: u64, headers: &[Header]) -> Result<(), AllocError> {
-    write!(text, "headers {hub}")?;
-    for header in headers {
-        push_header(text, header)?;
-    }
-    text.push_str("\n")
-}
-
-// A header's value is the id of the trace, and after a `-` that of the span and the decision on sampling.
-fn push_header(text: &mut String, header: &Header) -> Result<(), AllocError> {
-    let name = header.name.as_str();
-    let value = header.value.as_str();
-    match value.split_once('-') {
-        Some((trace, rest)) => write!(text, " {name} T{trace}-S{rest}"),
-        None => write!(text, " {name} {value}"),
-    }
 }
 
 impl Shown for Dsn {
@@ -189,7 +144,8 @@ fn push_dsn(text: &mut String, dsn: &Option<Dsn>) -> Result<(), AllocError> {
     }
 }
 
-fn push_dsn_answer(
+/// Puts the line of what a text was read as, a DSN or none, at the end of the text.
+pub fn push_dsn_answer(
     text: &mut String,
     read: &Result<Option<Dsn>, ParseDsnError>,
 ) -> Result<(), AllocError> {

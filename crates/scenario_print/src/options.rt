@@ -1,14 +1,13 @@
 //! The options of clients.
-use crate::callbacks::Callbacks;
-use crate::print::Shown;
-use crate::print::lists::{NONE, push_labeled};
+use crate::Shown;
+use crate::lists::{NONE, push_labeled};
 use sentry_options::clientoptions::{
     ClientOptions, EventSamplingStrategy, SessionMode, TracesSamplingStrategy,
 };
 use std::alloc::AllocError;
 
 /// What a `client` line can set, but for the DSN, the transport and the callbacks.
-impl Shown for ClientOptions<Callbacks> {
+impl<C> Shown for ClientOptions<C> {
     fn push_to(&self, text: &mut String) -> Result<(), AllocError> {
         let plain = &self.plain;
         push_labeled(text, "release=", &plain.release)?;

@@ -8,7 +8,7 @@ use Rattle.sentry_plain.specs.declared.value.Value.{Value}
 use Rattle.sentry_plain.specs.declared.value.Values.TheView.{size as list_size}
 use Rattle.sentry_plain.specs.declared.value.ValueMap.TheView.{size as map_size}
 use Rattle.sentry_plain.specs.declared.value.ValueMap.TheDeep.{deep-Value}
-use Rattle.scenario_run.proofs.print.values.+json.Goals as goal
+use Rattle.scenario_print.proofs.values.+json.Goals as goal
 
 item_falls : (vs : List Value) (ds : List Data) (v : Value) (i : ℕ) → map data_of vs ≡ ds → i < length vs → v ≡ slice_index_or vs i v → deep-Value v ≤ list_size ds
 item_falls vs ds v i same below is =

@@ -1,7 +1,7 @@
 //! Envelopes and their items.
-use crate::print::Shown;
-use crate::print::lists::{push_joined, push_labeled, push_list};
-use crate::print::telemetry::push_batch;
+use crate::Shown;
+use crate::lists::{push_joined, push_labeled, push_list};
+use crate::telemetry::push_batch;
 use sentry_base::protocol::{
     Attachment, ClientReport, ClientReportItem, DynamicSamplingContext, Envelope, EnvelopeItem,
     SampleRate, TraceId,

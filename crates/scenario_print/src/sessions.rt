@@ -1,6 +1,6 @@
 //! Sessions.
-use crate::print::Shown;
-use crate::print::lists::{push_labeled, push_list};
+use crate::Shown;
+use crate::lists::{push_labeled, push_list};
 use sentry_base::protocol::{
     SessionAggregateItem, SessionAggregates, SessionAttributes, SessionStatus, SessionUpdate,
 };
