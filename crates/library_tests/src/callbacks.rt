@@ -20,11 +20,10 @@ impl EventCallback for Adds {
 
     ghost gives = { λ s event. Some (record event { timestamp = (event.timestamp + s.0) % 2 ^ 64 }) };
 
-    fn call(&self, event: Event) -> Result<Option<Event>, AllocError> {
+    fn call(&self, mut event: Event) -> Result<Option<Event>, AllocError> {
         if self.0 == 0 {
             return Err(AllocError);
         }
-        let mut event = event;
         event.timestamp = event.timestamp.wrapping_add(self.0);
         Ok(Some(event))
     }
@@ -92,13 +91,12 @@ impl Integration for Multiplies {
 
     fn process_event(
         &self,
-        event: Event,
+        mut event: Event,
         _options: &PlainOptions,
     ) -> Result<Option<Event>, AllocError> {
         if self.factor == 0 && !event.event_id.is_nil() {
             return Err(AllocError);
         }
-        let mut event = event;
         event.timestamp = event.timestamp.wrapping_mul(self.factor);
         Ok(Some(event))
     }

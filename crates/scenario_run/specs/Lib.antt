@@ -1,2 +1,1 @@
 pub mod Callbacks
-pub mod Losses

@@ -1,25 +1,11 @@
-//! Who captures a log or a metric of a line, and its attributes.
+//! The attributes of a log or a metric of a line, and the scope under which a client captures it.
 use crate::callbacks::Handler;
 use crate::scenario::Scenario;
+use scenario_commands::attributes::AttributeWords;
 use sentry_base::protocol::{LogAttribute, Value};
 use sentry_plain::{Text, TextMap};
 use sentry_scope::scope::Scope;
 use std::alloc::{AllocError, Global};
-
-/// Who captures it, by number.
-#[derive(Clone, Copy)]
-pub enum Capturer {
-    Hub(u64),
-    /// A client itself, under a new scope.
-    Client(u64),
-}
-
-/// An attribute that a line names.
-#[derive(Clone, Copy)]
-pub struct AttributeWords<'a> {
-    pub key: &'a str,
-    pub value: &'a str,
-}
 
 /// The attributes of a log or a metric whose line names one of them, or none.
 pub fn attributes(

@@ -1,41 +1,11 @@
-//! Lines that add breadcrumbs: `crumb` and `crumbs`.
+//! How breadcrumbs are added.
 use crate::answer::Answer;
 use crate::fault::Failure;
 use crate::scenario::{Scenario, hub_key};
-use crate::words::Words;
+use scenario_commands::breadcrumbs::{BreadcrumbCommand, Messages};
 use sentry_base::protocol::Breadcrumb;
 use sentry_plain::Text;
 use std::alloc::{AllocError, Global};
-
-/// Breadcrumbs for the top scope of a hub.
-#[derive(Clone, Copy)]
-pub struct BreadcrumbCommand<'a> {
-    hub: u64,
-    messages: Messages<'a>,
-}
-
-/// The messages of breadcrumbs.
-#[derive(Clone, Copy)]
-enum Messages<'a> {
-    /// `crumb H REST`: one, the whole text.
-    One(&'a str),
-    /// `crumbs H REST`: the words of the text. The empty text has none.
-    Words(&'a str),
-}
-
-impl<'a> BreadcrumbCommand<'a> {
-    /// The command of this name, read from the words that follow it.
-    pub fn read(name: &str, words: Words<'a>) -> Option<BreadcrumbCommand<'a>> {
-        let mut words = words;
-        let hub = words.number()?;
-        let messages = match name {
-            "crumb" => Messages::One(words.rest()?),
-            "crumbs" => Messages::Words(words.rest()?),
-            _ => return None,
-        };
-        Some(BreadcrumbCommand { hub, messages })
-    }
-}
 
 fn breadcrumb(alloc: Global, now: u64, message: &str) -> Result<Breadcrumb, AllocError> {
     let mut breadcrumb = Breadcrumb::new(alloc, now)?;

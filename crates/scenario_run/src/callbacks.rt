@@ -139,18 +139,16 @@ fn drop_if_begins(prefix: &str, event: Event) -> Option<Event>
     Some(event)
 }
 
-fn set_tag(key: &Text, value: &Text, event: Event) -> Result<Event, AllocError>
+fn set_tag(key: &Text, value: &Text, mut event: Event) -> Result<Event, AllocError>
     ensures { IfOk result (λ made. made ≡ set_tag key.now value.now event) }
 {
-    let mut event = event;
     event.tags.insert(key.clone()?, value.clone()?)?;
     Ok(event)
 }
 
-fn add_os(event: Event) -> Result<Event, AllocError>
+fn add_os(mut event: Event) -> Result<Event, AllocError>
     ensures { IfOk result (λ made. made ≡ add_os event) }
 {
-    let mut event = event;
     if event.contexts.get("os").is_some() {
         return Ok(event);
     }

@@ -1,86 +1,12 @@
-//! Lines that capture an event on a hub: `message`, `exception`, `error` and `rich`.
+//! How events are captured on a hub.
 use crate::answer::Answer;
 use crate::fault::Failure;
 use crate::rich::rich_event;
 use crate::scenario::{Scenario, hub_key};
-use crate::words::Words;
+use scenario_commands::captures::{Capture, CaptureCommand, Message};
 use sentry_base::protocol::{ErrorLink, Event, Exception, Fresh, Level, Mechanism};
 use sentry_plain::Text;
 use std::alloc::{AllocError, Global};
-
-/// What a line captures on a hub.
-#[derive(Clone, Copy)]
-pub struct CaptureCommand<'a> {
-    hub: u64,
-    capture: Capture<'a>,
-}
-
-#[derive(Clone, Copy)]
-enum Capture<'a> {
-    /// `message H LEVEL REST`
-    Message(Message<'a>),
-    /// `exception H LEVEL HANDLED REST`
-    Exception {
-        level: Level,
-        handled: Option<bool>,
-        value: &'a str,
-    },
-    /// `error H REST`
-    Error(&'a str),
-    /// `rich H LEVEL REST`
-    Rich(Message<'a>),
-}
-
-/// A message at a level.
-#[derive(Clone, Copy)]
-struct Message<'a> {
-    level: Level,
-    text: &'a str,
-}
-
-impl<'a> CaptureCommand<'a> {
-    /// The command of this name, read from the words that follow it.
-    pub fn read(name: &str, words: Words<'a>) -> Option<CaptureCommand<'a>> {
-        let mut words = words;
-        let hub = words.number()?;
-        let capture = read_capture(name, &mut words)?;
-        Some(CaptureCommand { hub, capture })
-    }
-}
-
-fn read_capture<'a>(name: &str, words: &mut Words<'a>) -> Option<Capture<'a>> {
-    match name {
-        "message" => read_message(words).map(Capture::Message),
-        "exception" => read_exception(words),
-        "error" => words.rest().map(Capture::Error),
-        "rich" => read_message(words).map(Capture::Rich),
-        _ => None,
-    }
-}
-
-fn read_message<'a>(words: &mut Words<'a>) -> Option<Message<'a>> {
-    Some(Message {
-        level: words.level()?,
-        text: words.rest()?,
-    })
-}
-
-fn read_exception<'a>(words: &mut Words<'a>) -> Option<Capture<'a>> {
-    Some(Capture::Exception {
-        level: words.level()?,
-        handled: handled(words.word()?)?,
-        value: words.rest()?,
-    })
-}
-
-fn handled(word: &str) -> Option<Option<bool>> {
-    match word {
-        "true" => Some(Some(true)),
-        "false" => Some(Some(false)),
-        "-" => Some(None),
-        _ => None,
-    }
-}
 
 /// An event without a message, of one exception. It has a mechanism where it is known whether it was handled.
 fn exception_event(

@@ -1,49 +1,14 @@
-//! Lines that hand a message to a client itself, without a scope: `prepare` and `send`.
+//! How a message is handed to a client itself, without a scope.
 ghost use Rattle.std.specs.Prelude.{◌≡◌, IfOk};
 ghost use Rattle.sentry_sending.specs.Captures.{message_event};
 
 use crate::answer::{Answer, Reply};
 use crate::fault::Failure;
 use crate::scenario::{Scenario, client_key};
-use crate::words::Words;
+use scenario_commands::client_events::{Act, ClientEventCommand};
 use sentry_base::protocol::{Event, Level, Uuid};
 use sentry_plain::Text;
 use std::alloc::{AllocError, Global};
-
-/// A message for a client, and what the client does with its event.
-#[derive(Clone, Copy)]
-pub struct ClientEventCommand<'a> {
-    act: Act,
-    client: u64,
-    level: Level,
-    message: &'a str,
-}
-
-#[derive(Clone, Copy)]
-enum Act {
-    /// `prepare C LEVEL REST`
-    Prepare,
-    /// `send C LEVEL REST`
-    Send,
-}
-
-impl<'a> ClientEventCommand<'a> {
-    /// The command of this name, read from the words that follow it.
-    pub fn read(name: &str, words: Words<'a>) -> Option<ClientEventCommand<'a>> {
-        let act = match name {
-            "prepare" => Act::Prepare,
-            "send" => Act::Send,
-            _ => return None,
-        };
-        let mut words = words;
-        Some(ClientEventCommand {
-            act,
-            client: words.number()?,
-            level: words.level()?,
-            message: words.rest()?,
-        })
-    }
-}
 
 // The event that a hub captures of the same message.
 fn message_event(

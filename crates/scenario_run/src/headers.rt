@@ -1,9 +1,9 @@
-//! Lines on headers: `header`, `parse` and `headers`.
+//! What is done with headers.
 use crate::answer::{Answer, Reply};
 use crate::callbacks::Handler;
 use crate::fault::Failure;
 use crate::scenario::{Scenario, hub_key};
-use crate::words::Words;
+use scenario_commands::headers::HeaderCommand;
 use sentry_base::protocol::Refusal;
 use sentry_plain::{Items, Text};
 use sentry_scope::scope::Scope;
@@ -15,35 +15,6 @@ use std::alloc::{AllocError, Global};
 pub struct Header {
     pub name: Text,
     pub value: Text,
-}
-
-/// What a line does with headers.
-#[derive(Clone, Copy)]
-pub enum HeaderCommand<'a> {
-    /// `header NAME REST`
-    Keep { name: &'a str, value: &'a str },
-    /// `parse`
-    Parse,
-    /// `headers H`
-    OfHub(u64),
-}
-
-impl<'a> HeaderCommand<'a> {
-    /// The command of this name, read from the words that follow it.
-    pub fn read(name: &str, words: Words<'a>) -> Option<HeaderCommand<'a>> {
-        let mut words = words;
-        let command = match name {
-            "header" => HeaderCommand::Keep {
-                name: words.word()?,
-                value: words.rest()?,
-            },
-            "parse" => HeaderCommand::Parse,
-            "headers" => HeaderCommand::OfHub(words.number()?),
-            _ => return None,
-        };
-        words.end()?;
-        Some(command)
-    }
 }
 
 impl Scenario {

@@ -1,45 +1,10 @@
-//! Lines on hubs: `hub`, `copy`, `bound`, `active` and `last`.
+//! What is done with hubs.
 use crate::answer::{Answer, Reply};
 use crate::callbacks::Handler;
 use crate::fault::Failure;
 use crate::scenario::{Scenario, client_key, hub_key};
-use crate::words::Words;
+use scenario_commands::hubs::HubCommand;
 use sentry_scope::scope::Scope;
-
-/// What a line asks of a hub.
-#[derive(Clone, Copy)]
-pub enum HubCommand {
-    /// `hub C` or `hub -`
-    Add(Option<u64>),
-    /// `copy H C` or `copy H -`
-    Copy { hub: u64, client: Option<u64> },
-    /// `bound H`
-    Bound(u64),
-    /// `active H`
-    IsActive(u64),
-    /// `last H`
-    LastEvent(u64),
-}
-
-impl HubCommand {
-    /// The command of this name, read from the words that follow it.
-    pub fn read(name: &str, words: Words<'_>) -> Option<HubCommand> {
-        let mut words = words;
-        let command = match name {
-            "hub" => HubCommand::Add(words.number_or_none()?),
-            "copy" => HubCommand::Copy {
-                hub: words.number()?,
-                client: words.number_or_none()?,
-            },
-            "bound" => HubCommand::Bound(words.number()?),
-            "active" => HubCommand::IsActive(words.number()?),
-            "last" => HubCommand::LastEvent(words.number()?),
-            _ => return None,
-        };
-        words.end()?;
-        Some(command)
-    }
-}
 
 impl Scenario {
     /// Does a command on hubs.

@@ -1,111 +1,13 @@
-//! Lines on losses and reports: `lose`, `absorb`, `report` and `empty`.
-ghost use Rattle.scenario_run.specs.Losses.{losses_of_kind};
-
+//! What is done with losses and reports.
 use crate::answer::{Answer, Reply};
 use crate::fault::Failure;
-use crate::quantities::losses_of_words;
 use crate::scenario::{Scenario, client_key};
-use crate::words::Words;
-use sentry_base::protocol::{Category, Envelope, LossSource, Losses, Reason};
+use scenario_commands::losses::{Kind, LossCommand};
+use scenario_commands::quantities::losses_of_words;
+use sentry_base::protocol::{Envelope, Losses};
 use sentry_client_reports::client_reports::{LossWords, TransportLossReason};
 use sentry_engine::call::Call;
 use sentry_plain::Boxed;
-
-/// What a line loses of a client, reports of it or sends.
-#[derive(Clone, Copy)]
-pub enum LossCommand<'a> {
-    /// `lose C KIND REASON`
-    Lose {
-        client: u64,
-        kind: Kind,
-        reason: TransportLossReason,
-    },
-    /// `absorb C CATEGORY/REASON=N ..`
-    Absorb {
-        client: u64,
-        quantities: Option<&'a str>,
-    },
-    /// `report C`
-    Report(u64),
-    /// `empty C`
-    Empty(u64),
-}
-
-/// What the envelope holds that is lost.
-#[derive(Clone, Copy)]
-pub enum Kind {
-    Event,
-    /// A transaction of two spans.
-    Transaction,
-    /// Three logs.
-    Logs,
-    Attachment,
-    Session,
-}
-
-impl<'a> LossCommand<'a> {
-    /// The command of this name, read from the words that follow it.
-    pub fn read(name: &str, words: Words<'a>) -> Option<LossCommand<'a>> {
-        let mut words = words;
-        let command = match name {
-            "lose" => LossCommand::Lose {
-                client: words.number()?,
-                kind: read_kind(&mut words)?,
-                reason: read_reason(&mut words)?,
-            },
-            "absorb" => LossCommand::Absorb {
-                client: words.number()?,
-                quantities: words.rest(),
-            },
-            "report" => LossCommand::Report(words.number()?),
-            "empty" => LossCommand::Empty(words.number()?),
-            _ => return None,
-        };
-        words.end()?;
-        Some(command)
-    }
-}
-
-fn read_kind(words: &mut Words<'_>) -> Option<Kind> {
-    match words.word()? {
-        "event" => Some(Kind::Event),
-        "transaction" => Some(Kind::Transaction),
-        "logs" => Some(Kind::Logs),
-        "attachment" => Some(Kind::Attachment),
-        "session" => Some(Kind::Session),
-        _ => None,
-    }
-}
-
-fn read_reason(words: &mut Words<'_>) -> Option<TransportLossReason> {
-    match words.word()? {
-        "send_error" => Some(TransportLossReason::SendError),
-        "internal_sdk_error" => Some(TransportLossReason::InternalError),
-        "network_error" => Some(TransportLossReason::NetworkError),
-        "ratelimit_backoff" => Some(TransportLossReason::RatelimitBackoff),
-        "queue_overflow" => Some(TransportLossReason::QueueOverflow),
-        _ => None,
-    }
-}
-
-// A transaction counts as a span itself.
-impl LossSource for Kind {
-    ghost losses_under = { losses_of_kind };
-
-    fn losses(&self, reason: Reason) -> Losses {
-        match self {
-            Kind::Event => Losses::of(Category::Error, reason, 1),
-            Kind::Transaction => {
-                let mut losses = Losses::of(Category::Transaction, reason, 1);
-                losses.add(&Losses::of(Category::Span, reason, 3));
-                losses
-            }
-            Kind::Logs => Losses::of(Category::LogItem, reason, 3),
-            Kind::Attachment => Losses::of(Category::Attachment, reason, 1),
-            Kind::Session => Losses::of(Category::Session, reason, 1),
-        }
-    }
-}
 
 impl Scenario {
     /// Does a command on losses, reports or envelopes.

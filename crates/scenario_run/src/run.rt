@@ -1,11 +1,11 @@
 //! A run over a whole input.
 use crate::answer::{Answer, Reply};
-use crate::command::Command;
 use crate::fault::{Failure, ScenarioFault};
 use crate::lines::next_line;
 use crate::originals::Originals;
 use crate::print::push_answer;
 use crate::scenario::Scenario;
+use scenario_commands::Command;
 use sentry_base::protocol::Refusal;
 use std::alloc::{AllocError, Global};
 use std::io::{BufRead, Write};

@@ -1,10 +1,10 @@
 //! The engine that commands act on, and what lines set for those that follow.
 use crate::answer::Answer;
 use crate::callbacks::{Callbacks, Handler};
-use crate::command::Command;
 use crate::fault::Failure;
 use crate::headers::Header;
 use crate::originals::Originals;
+use scenario_commands::Command;
 use sentry_base::protocol::{ClientKey, Draw, Fresh, HubKey, Label, SpanId, TraceId, Uuid};
 use sentry_engine::engine::Engine;
 use sentry_plain::{Items, Table};

@@ -1,31 +1,7 @@
-//! Lines that set what later lines are handed: `at` and `draw`.
+//! How it is set what later lines are handed.
 use crate::answer::{Answer, Reply};
 use crate::scenario::Scenario;
-use crate::words::Words;
-use sentry_base::protocol::Draw;
-
-/// What a line sets for those that follow.
-#[derive(Clone, Copy)]
-pub enum Setting {
-    /// `at NANOSECONDS` is their moment; `at -` gives each its own again.
-    Moment(Option<u64>),
-    /// `draw NUMBER`
-    Draw(Draw),
-}
-
-impl Setting {
-    /// The setting of this name, read from the words that follow it.
-    pub fn read(name: &str, words: Words<'_>) -> Option<Setting> {
-        let mut words = words;
-        let setting = match name {
-            "at" => Setting::Moment(words.number_or_none()?),
-            "draw" => Setting::Draw(words.draw()?),
-            _ => return None,
-        };
-        words.end()?;
-        Some(setting)
-    }
-}
+use scenario_commands::settings::Setting;
 
 impl Scenario {
     /// Sets what later lines are handed.

@@ -1,42 +1,13 @@
-//! Lines on texts alone: `dsn`, `debugtype`, `sensitive` and `scrub`.
+//! What is answered of texts alone.
 use crate::answer::{Answer, Reply};
 use crate::fault::Failure;
 use crate::scenario::Scenario;
-use crate::words::Words;
+use scenario_commands::texts::TextCommand;
 use sentry_base::dsn::IntoDsn;
 use sentry_base::protocol::Refusal;
 use sentry_base::utils::{is_sensitive_header, parse_type_from_debug, scrub_pii_from_url};
 use std::alloc::Global;
 use url::{ParseError, Url};
-
-/// What a line asks of a text.
-#[derive(Clone, Copy)]
-pub enum TextCommand<'a> {
-    /// `dsn REST`
-    Dsn(&'a str),
-    /// `debugtype REST`
-    DebugType(&'a str),
-    /// `sensitive REST`
-    Sensitive(&'a str),
-    /// `scrub URL`
-    Scrub(&'a str),
-}
-
-impl<'a> TextCommand<'a> {
-    /// The command of this name, read from the words that follow it.
-    pub fn read(name: &str, words: Words<'a>) -> Option<TextCommand<'a>> {
-        let mut words = words;
-        let command = match name {
-            "dsn" => TextCommand::Dsn(words.rest()?),
-            "debugtype" => TextCommand::DebugType(words.rest()?),
-            "sensitive" => TextCommand::Sensitive(words.rest()?),
-            "scrub" => TextCommand::Scrub(words.word()?),
-            _ => return None,
-        };
-        words.end()?;
-        Some(command)
-    }
-}
 
 fn read_dsn<'a>(alloc: Global, text: &str) -> Result<Reply<'a>, Refusal> {
     match text.into_dsn(alloc) {

@@ -52,11 +52,10 @@ fn one_clears<P>(edits: &[ScopeEdit<P>]) -> bool
 }
 
 // The only item, or all of them back.
-fn only<T: Drop>(items: Vec<T>) -> Result<T, Vec<T>>
+fn only<T: Drop>(mut items: Vec<T>) -> Result<T, Vec<T>>
     ensures one { IfOk result (λ item. items.items ≡ item ∷ []) }
     ensures back { IfErr result (λ all. all ≡ items) }
 {
-    let mut items = items;
     if items.len() != 1 {
         return Err(items);
     }

@@ -185,8 +185,7 @@ where
         Ok(())
     }
 
-    fn enrich_event(&self, event: Event, options: &PlainOptions) -> Result<Event, AllocError> {
-        let mut event = event;
+    fn enrich_event(&self, mut event: Event, options: &PlainOptions) -> Result<Event, AllocError> {
         for integration in self.integrations.as_slice() {
             event = enrich(integration.get(), event, options)?;
         }

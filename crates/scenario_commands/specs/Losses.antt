@@ -6,8 +6,8 @@ use Rattle.sentry_base.specs.Losses.{loss_of, plus, categories, category_name, r
 use Rattle.sentry_base.specs.declared.protocol.losses.Category.{Category}
 use Rattle.sentry_base.specs.declared.protocol.losses.Category.TheVariants as category
 use Rattle.sentry_base.specs.declared.protocol.losses.Reason.{Reason}
-use Rattle.scenario_run.specs.declared.losses.Kind.{Kind}
-use Rattle.scenario_run.specs.declared.losses.Kind.TheVariants as kind
+use Rattle.scenario_commands.specs.declared.losses.Kind.{Kind}
+use Rattle.scenario_commands.specs.declared.losses.Kind.TheVariants as kind
 
 abbrev pub losses_of_kind : Kind → Reason → List ℕ
 losses_of_kind kind.Event reason = loss_of category.Error reason 1

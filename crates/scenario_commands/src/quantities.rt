@@ -1,6 +1,6 @@
 //! The quantities of an `absorb` line, each a word `CATEGORY/REASON=N`.
 ghost use Rattle.std.specs.Prelude.{◌≡◌};
-ghost use Rattle.scenario_run.specs.Losses.{category_of, reason_of};
+ghost use Rattle.scenario_commands.specs.Losses.{category_of, reason_of};
 
 use crate::words::number;
 use sentry_base::protocol::{Category, Losses, Reason};
