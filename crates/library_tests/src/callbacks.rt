@@ -108,6 +108,12 @@ fn boxed_adds(alloc: Global, number: u64) -> Result<BoxedEventCallback, AllocErr
     Ok(callback)
 }
 
+/// A callback that drops every event.
+fn boxed_drops(alloc: Global) -> Result<BoxedEventCallback, AllocError> {
+    let callback: BoxedEventCallback = Box::new(alloc, Drops)?;
+    Ok(callback)
+}
+
 /// A callback that drops the breadcrumbs from a moment on, or, if that is 0, is refused its memory.
 fn boxed_keeps_until(alloc: Global, moment: u64) -> Result<BoxedBreadcrumbCallback, AllocError> {
     let callback: BoxedBreadcrumbCallback = Box::new(alloc, KeepsUntil(moment))?;
@@ -190,12 +196,13 @@ fn capture_counting(alloc: Global) -> Result<Outcome, Refusal> {
     capture_once(alloc, counting_options(alloc)?, true, scope)
 }
 
-/// The same where the callbacks of the options are refused their memory, under this processor.
-fn capture_starving(
-    alloc: Global,
-    transport: bool,
-    processor: BoxedEventCallback,
-) -> Result<Outcome, Refusal> {
+/// The same where the callbacks of the options are refused their memory, under a processor that adds this number to the
+/// moment or, without one, drops the event.
+fn capture_starving(alloc: Global, transport: bool, adds: Option<u64>) -> Result<Outcome, Refusal> {
+    let processor = match adds {
+        Some(number) => boxed_adds(alloc, number)?,
+        None => boxed_drops(alloc)?,
+    };
     let scope = scope_with(alloc, processor)?;
     capture_once(alloc, starving_options(alloc)?, transport, scope)
 }
@@ -212,13 +219,11 @@ fn boxed_callbacks_run_in_order(rt: HostRuntime) -> Result<(), Fail> {
     let counted = (id(1), Some((160, Level::Warning, 1)), Some(id(1)));
     assert_eq!(rt; capture_counting(alloc)?, counted);
     // What drops an event stops what follows.
-    let drops: BoxedEventCallback = Box::new(alloc, Drops)?;
-    assert_eq!(rt; capture_starving(alloc, true, drops)?, dropped());
-    let refusal = capture_starving(alloc, true, boxed_adds(alloc, 3)?).err();
+    assert_eq!(rt; capture_starving(alloc, true, None)?, dropped());
+    let refusal = capture_starving(alloc, true, Some(3)).err();
     assert_eq!(rt; refusal, Some(Refusal::OutOfMemory));
     // Without a transport nothing runs.
-    let starves = boxed_adds(alloc, 0)?;
-    assert_eq!(rt; capture_starving(alloc, false, starves)?, dropped());
+    assert_eq!(rt; capture_starving(alloc, false, Some(0))?, dropped());
     Ok(())
 }
 
