@@ -17,13 +17,13 @@ pub use sentry_base::dsn::IntoDsn;
 pub use sentry_base::protocol;
 pub use sentry_base::protocol::{Breadcrumb, Envelope, Level, User};
 pub use sentry_base::utils::{event_from_error, parse_type_from_debug};
+pub use sentry_batches::metrics;
 pub use sentry_engine::engine::ScopeGuard;
 pub use sentry_options::clientoptions::{
     EventSamplingStrategy, MaxRequestBodySize, PlainOptions, SessionMode, TracesSamplingStrategy,
     UserAgent,
 };
 pub use sentry_options::integration::{BoxedIntegration, Integration};
-pub use sentry_parts::metrics;
 pub use sentry_plain::{Boxed, Items, Shared, Text, TextMap};
 pub use sentry_trace::headers::{
     HeaderParseError, SentryTrace, TraceHeader, TraceHeadersIter, TracePropagationContext,

@@ -12,8 +12,8 @@ use Rattle.sentry_base.specs.declared.protocol.keys.HubKey.{HubKey}
 use Rattle.sentry_base.specs.declared.protocol.refusal.Refusal.TheVariants.{OutOfMemory}
 use Rattle.sentry_base.specs.declared.protocol.keys.ClientKey.{ClientKey}
 use Rattle.sentry_plain.specs.Tables.{without, put}
-use Rattle.sentry_parts.specs.Sessions.{start_of}
-use Rattle.sentry_parts.specs.declared.session.record.SessionStart.{SessionStart}
+use Rattle.sentry_sessions.specs.Sessions.{start_of}
+use Rattle.sentry_sessions.specs.declared.session.record.SessionStart.{SessionStart}
 use Rattle.sentry_options.specs.Meanings.{Meanings}
 use Rattle.sentry_scope.specs.Scopes.{edit_all}
 use Rattle.sentry_options.specs.declared.clientoptions.ClientOptions.{ClientOptions}

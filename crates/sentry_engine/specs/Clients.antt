@@ -15,8 +15,8 @@ use Rattle.sentry_base.specs.declared.protocol.envelope.Envelope.{Envelope}
 use Rattle.sentry_base.specs.declared.protocol.fresh.Fresh.{Fresh}
 use Rattle.sentry_scope.specs.declared.scope.Scope.{Scope}
 use Rattle.sentry_client_reports.specs.LossBooks.{report_point}
-use Rattle.sentry_parts.specs.Pipeline.{loss_reason}
-use Rattle.sentry_parts.specs.Pipeline as pipeline
+use Rattle.sentry_pipeline.specs.Pipeline.{loss_reason}
+use Rattle.sentry_pipeline.specs.Pipeline as pipeline
 use Rattle.sentry_state.specs.Books.{with_book, without_unused_book, with_report, pending_report, with_entry, with_entry_if_any}
 use Rattle.sentry_sending.specs.Captures.{lost_event, event_to_send, capture, captured_id, captured_envelopes, attachments_of}
 use Rattle.sentry_sending.specs.declared.flushes.Flush.TheVariants.{All, Due, Closing}

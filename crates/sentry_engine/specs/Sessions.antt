@@ -4,7 +4,7 @@ use Rattle.sentry_base.specs.declared.protocol.fresh.Fresh.{Fresh}
 use Rattle.sentry_base.specs.declared.protocol.keys.HubKey.{HubKey}
 use Rattle.sentry_base.specs.declared.protocol.refusal.Refusal.TheVariants.{Stale, Full}
 use Rattle.sentry_base.specs.declared.protocol.session.SessionStatus.{SessionStatus}
-use Rattle.sentry_parts.specs.Sessions.{start_of}
+use Rattle.sentry_sessions.specs.Sessions.{start_of}
 use Rattle.sentry_state.specs.Worlds.{World}
 use Rattle.sentry_state.specs.Outcomes.{Outcome, require_some, require, let_some, reply_with, hub_at, plain_client_at}
 use Rattle.sentry_sending.specs.Sending.{reply_sending}

@@ -5,8 +5,8 @@ use Rattle.std.specs.Prelude.{Option, Some, None, ◌&&◌, if◌then◌else◌}
 use Rattle.sentry_base.specs.declared.protocol.client_report.ClientReport.{ClientReport}
 use Rattle.sentry_base.specs.declared.protocol.envelope.Envelope.{Envelope}
 use Rattle.sentry_base.specs.declared.protocol.keys.ClientKey.{ClientKey}
-use Rattle.sentry_parts.specs.Batches.{if_full}
-use Rattle.sentry_parts.specs.declared.batcher.TheConstants.{BATCH_ITEMS}
+use Rattle.sentry_batches.specs.Batches.{if_full}
+use Rattle.sentry_batches.specs.declared.batcher.TheConstants.{BATCH_ITEMS}
 use Rattle.sentry_sending.specs.Sending.{address, envelopes_from}
 
 pub and_true : (a b : Bool) → (a && b) ≡ true → a ≡ true

@@ -6,8 +6,8 @@ use Rattle.sentry_base.specs.declared.protocol.keys.SessionKey.{SessionKey}
 use Rattle.sentry_base.specs.declared.protocol.session.SessionStatus.{SessionStatus}
 use Rattle.sentry_base.specs.declared.protocol.session.SessionUpdate.{SessionUpdate}
 use Rattle.sentry_plain.specs.Tables.{without}
-use Rattle.sentry_parts.specs.SessionQueues.{enqueued, envelopes_on}
-use Rattle.sentry_parts.specs.Sessions.{closed, session_of, pending_update, update_of}
+use Rattle.sentry_sessions.specs.SessionQueues.{enqueued, envelopes_on}
+use Rattle.sentry_sessions.specs.Sessions.{closed, session_of, pending_update, update_of}
 use Rattle.sentry_state.specs.Outcomes.{client_at, session_at}
 use Rattle.sentry_sending.specs.Sending.{Sending, send, send_nothing, send_some}
 use Rattle.sentry_sending.specs.SessionEnds.{queue_update, end_session}

@@ -23,12 +23,12 @@ use Rattle.sentry_options.specs.Meanings.{Meanings}
 use Rattle.sentry_options.specs.declared.clientoptions.choices.SessionMode.{SessionMode}
 use Rattle.sentry_options.specs.declared.clientoptions.choices.SessionMode.TheVariants.{Application, Request}
 use Rattle.sentry_client_reports.specs.LossBooks.{LossEntry, engine_losses, report_point}
-use Rattle.sentry_parts.specs.Pipeline.{Prepared, prepare_event, loss_reason}
-use Rattle.sentry_parts.specs.declared.pipeline.Preparation.{Preparation}
-use Rattle.sentry_parts.specs.declared.pipeline.Preparation.TheVariants.{Kept, SampledOut, Dropped}
+use Rattle.sentry_pipeline.specs.Pipeline.{Prepared, prepare_event, loss_reason}
+use Rattle.sentry_pipeline.specs.declared.pipeline.Preparation.{Preparation}
+use Rattle.sentry_pipeline.specs.declared.pipeline.Preparation.TheVariants.{Kept, SampledOut, Dropped}
 use Rattle.sentry_state.specs.declared.state.Client.{Client}
-use Rattle.sentry_parts.specs.declared.session.record.Session.{Session}
-use Rattle.sentry_parts.specs.Sessions.{event_reached, hand_out, pending_update}
+use Rattle.sentry_sessions.specs.declared.session.record.Session.{Session}
+use Rattle.sentry_sessions.specs.Sessions.{event_reached, hand_out, pending_update}
 use Rattle.sentry_state.specs.Books.{with_report, pending_report, with_entry_if_any}
 use Rattle.sentry_state.specs.Outcomes.{named_session, Outcome, require_some, let_some, reply_with, hub_at, plain_client_at, with_hub}
 use Rattle.sentry_state.specs.Changes.{with_session_entry}

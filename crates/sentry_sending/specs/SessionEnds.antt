@@ -7,8 +7,8 @@ use Rattle.sentry_base.specs.declared.protocol.keys.SessionKey.{SessionKey}
 use Rattle.sentry_base.specs.declared.protocol.session.SessionStatus.{SessionStatus}
 use Rattle.sentry_base.specs.declared.protocol.session.SessionUpdate.{SessionUpdate}
 use Rattle.sentry_scope.specs.Stacks.{names_session}
-use Rattle.sentry_parts.specs.SessionQueues.{enqueued, envelopes_on}
-use Rattle.sentry_parts.specs.Sessions.{closed, session_of, pending_update}
+use Rattle.sentry_sessions.specs.SessionQueues.{enqueued, envelopes_on}
+use Rattle.sentry_sessions.specs.Sessions.{closed, session_of, pending_update}
 use Rattle.sentry_state.specs.declared.state.Hub.{Hub}
 use Rattle.sentry_state.specs.Outcomes.{client_at, session_at}
 use Rattle.sentry_sending.specs.Sending.{Sending, send, send_nothing, send_some}

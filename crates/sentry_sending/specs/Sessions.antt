@@ -3,7 +3,7 @@ use Rattle.std.specs.Prelude.{ℕ}
 use Rattle.sentry_state.specs.declared.state.Hub.{Hub}
 use Rattle.sentry_sending.specs.Sending.{Sending}
 use Rattle.sentry_state.specs.Worlds.{World}
-use Rattle.sentry_parts.specs.declared.session.record.SessionStart.{SessionStart}
+use Rattle.sentry_sessions.specs.declared.session.record.SessionStart.{SessionStart}
 use Rattle.sentry_sending.specs.SessionEnds.{release_session}
 use Rattle.sentry_state.specs.Changes.{with_new_session, with_next_session_named}
 

@@ -17,10 +17,10 @@ use Rattle.sentry_base.specs.declared.protocol.losses.Category.TheVariants as ca
 use Rattle.sentry_base.specs.declared.protocol.losses.Reason.TheVariants as reason
 use Rattle.sentry_base.specs.declared.protocol.metric.Metric.{Metric}
 use Rattle.sentry_base.specs.declared.protocol.metric.MetricDraft.{MetricDraft}
-use Rattle.sentry_parts.specs.Batches.{accept, batch_on}
-use Rattle.sentry_parts.specs.DefaultAttributes.{default_log_attributes, default_metric_attributes}
+use Rattle.sentry_batches.specs.Batches.{accept, batch_on}
+use Rattle.sentry_pipeline.specs.DefaultAttributes.{default_log_attributes, default_metric_attributes}
 use Rattle.sentry_client_reports.specs.LossBooks.{LossEntry, engine_losses}
-use Rattle.sentry_parts.specs.Telemetry.{prepare_log, prepare_metric}
+use Rattle.sentry_pipeline.specs.Telemetry.{prepare_log, prepare_metric}
 use Rattle.sentry_sending.specs.Flushes.{batch_envelopes}
 use Rattle.sentry_state.specs.Changes.{with_client_state, with_log_entry, with_metric_entry}
 

@@ -4,7 +4,7 @@ ghost use Rattle.std.specs.Option.{option_copied, option_map};
 ghost use Rattle.sentry_base.specs.Envelopes.{empty_envelope, with_item};
 ghost use Rattle.sentry_base.specs.declared.protocol.envelope.EnvelopeItem.TheVariants as item;
 ghost use Rattle.sentry_base.specs.declared.protocol.event.Event.{Event};
-ghost use Rattle.sentry_parts.specs.Pipeline.{loss_reason};
+ghost use Rattle.sentry_pipeline.specs.Pipeline.{loss_reason};
 ghost use Rattle.sentry_state.specs.Books.{pending_report, with_report, with_entry, with_entry_if_any};
 ghost use Rattle.sentry_state.specs.Outcomes.{Does, named_session};
 ghost use Rattle.sentry_state.specs.Worlds.{World, SessionState, Stands, plain_session};
@@ -19,10 +19,10 @@ use sentry_base::protocol::{
     Fresh, HubKey, Label, Losses, Reason, Refusal, SessionKey, SessionUpdate, Uuid,
 };
 use sentry_options::clientoptions::{Callbacks, SessionMode};
-use sentry_parts::pipeline::{Preparation, prepare_event};
-use sentry_parts::session::Session;
+use sentry_pipeline::pipeline::{Preparation, prepare_event};
 use sentry_plain::{Boxed, Items};
 use sentry_scope::scope::Scope;
+use sentry_sessions::session::Session;
 use sentry_state::state::{Client, Out, State};
 use std::alloc::{AllocError, Global};
 

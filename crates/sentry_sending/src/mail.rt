@@ -3,7 +3,7 @@ ghost use Rattle.std.specs.Prelude.{◌≡◌, ◌+◌, ◌++◌, ◌<◌, ◌�
 ghost use Rattle.std.specs.Option.{option_map};
 ghost use Rattle.sentry_base.specs.declared.protocol.envelope.Envelope.{Envelope};
 ghost use Rattle.sentry_base.specs.declared.protocol.envelope.EnvelopeItem.TheVariants as item;
-ghost use Rattle.sentry_parts.specs.SessionQueues.{envelope_of};
+ghost use Rattle.sentry_sessions.specs.SessionQueues.{envelope_of};
 ghost use Rattle.sentry_state.specs.Books.{pending_report, with_report};
 ghost use Rattle.sentry_sending.specs.Flushes.{envelope_if_some, batch_envelopes};
 ghost use Rattle.sentry_sending.specs.Sending.{address, report_left};

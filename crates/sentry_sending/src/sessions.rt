@@ -1,8 +1,8 @@
 //! How a session starts in place of another.
 ghost use Rattle.std.specs.Prelude.{◌≡◌, ◌<◌, ◌-◌, ◌^◌, IfOk, OnErr, Some, None, []};
 ghost use Rattle.sentry_plain.specs.Tables.{value_at};
-ghost use Rattle.sentry_parts.specs.Sessions.{session_of};
-ghost use Rattle.sentry_parts.specs.declared.session.record.SessionStart.{SessionStart};
+ghost use Rattle.sentry_sessions.specs.Sessions.{session_of};
+ghost use Rattle.sentry_sessions.specs.declared.session.record.SessionStart.{SessionStart};
 ghost use Rattle.sentry_state.specs.declared.state.Hub.{Hub};
 ghost use Rattle.sentry_state.specs.Worlds.{World, Stands};
 ghost use Rattle.sentry_sending.specs.Sessions.{replace_session};
@@ -10,8 +10,8 @@ ghost use Rattle.sentry_sending.specs.Sessions.{replace_session};
 use crate::session_ends::release_session;
 use sentry_base::protocol::{ClientKey, Envelope};
 use sentry_options::clientoptions::Callbacks;
-use sentry_parts::session::Session;
 use sentry_plain::Items;
+use sentry_sessions::session::Session;
 use sentry_state::state::State;
 use std::alloc::AllocError;
 

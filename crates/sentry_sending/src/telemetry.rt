@@ -12,7 +12,7 @@ use sentry_base::protocol::{
     Category, ClientKey, Envelope, Label, Log, Losses, Metric, MetricDraft, Reason,
 };
 use sentry_options::clientoptions::Callbacks;
-use sentry_parts::pipeline::{
+use sentry_pipeline::pipeline::{
     default_log_attributes, default_metric_attributes, prepare_log, prepare_metric,
 };
 use sentry_plain::Items;

@@ -13,24 +13,24 @@ use Rattle.sentry_base.specs.declared.protocol.keys.ClientKey.{ClientKey}
 use Rattle.sentry_base.specs.declared.protocol.keys.Label.{Label}
 use Rattle.sentry_client_reports.specs.LossBooks.{Book, LossEntry, book_of, pending_losses, report_items, report_of}
 use Rattle.sentry_state.specs.Books.{with_book, is_label, has_client_of, without_unused_book, pending_report}
-use Rattle.sentry_parts.specs.Sessions.{session_of}
-use Rattle.sentry_parts.specs.declared.session.record.Session.{Session}
-use Rattle.sentry_parts.specs.declared.session.record.SessionStart.{SessionStart}
+use Rattle.sentry_sessions.specs.Sessions.{session_of}
+use Rattle.sentry_sessions.specs.declared.session.record.Session.{Session}
+use Rattle.sentry_sessions.specs.declared.session.record.SessionStart.{SessionStart}
 use Rattle.sentry_scope.specs.Stacks.{stack_of_any, pop, depth, is_client}
 use Rattle.sentry_scope.specs.declared.scope.stack.Stack.{Stack}
 use Rattle.sentry_scope.specs.declared.scope.stack.StackLayer.{StackLayer}
 use Rattle.sentry_state.specs.Clients.{has_session_of}
 use Rattle.sentry_state.specs.Changes.{with_new_session, with_client_entry, with_session, with_log_entry, with_metric_entry}
 use Rattle.sentry_state.specs.declared.state.Hub.{Hub}
-use Rattle.sentry_parts.specs.SessionQueues.{QueueEntry, Waiting, queue_of}
+use Rattle.sentry_sessions.specs.SessionQueues.{QueueEntry, Waiting, queue_of}
 use Rattle.sentry_state.specs.Outcomes.{client_at, plain_client_at}
 use Rattle.sentry_state.specs.declared.state.Client.{Client}
 use Rattle.sentry_state.specs.declared.state.State.{State}
 use Rattle.sentry_state.specs.Worlds.{World, ClientState, SessionState, plain_client, plain_session, map_values, Stands}
 use Rattle.sentry_base.specs.declared.protocol.log.Log.{Log}
 use Rattle.sentry_base.specs.declared.protocol.metric.Metric.{Metric}
-use Rattle.sentry_parts.specs.Batches.{BatchEntry, Queue}
-use Rattle.sentry_parts.specs.Batches as batch
+use Rattle.sentry_batches.specs.Batches.{BatchEntry, Queue}
+use Rattle.sentry_batches.specs.Batches as batch
 
 module _ {X Y : Type 0} (f : X → Y) where
   option_map-cond : (b : Bool) (x y : Option X) → cond b (option_map f x) (option_map f y) ≡ option_map f (cond b x y)

@@ -3,19 +3,19 @@ use Rattle.std.specs.Prelude.{ℕ, Bool, Option, None, List, ◌∷◌, nat_lt, 
 use Rattle.sentry_plain.specs.Tables.{replace_at, value_at, put}
 use Rattle.sentry_base.specs.declared.protocol.keys.ClientKey.{ClientKey}
 use Rattle.sentry_base.specs.declared.protocol.keys.SessionKey.{SessionKey}
-use Rattle.sentry_parts.specs.SessionQueues.{QueueEntry}
-use Rattle.sentry_parts.specs.Sessions.{SessionEntry}
+use Rattle.sentry_sessions.specs.SessionQueues.{QueueEntry}
+use Rattle.sentry_sessions.specs.Sessions.{SessionEntry}
 use Rattle.sentry_state.specs.declared.state.Hub.{Hub}
 use Rattle.sentry_state.specs.Worlds.{World, ClientState, QueueHistories, SessionState}
 use Rattle.sentry_base.specs.declared.protocol.keys.HubKey.{HubKey}
-use Rattle.sentry_parts.specs.declared.session.record.SessionStart.{SessionStart}
+use Rattle.sentry_sessions.specs.declared.session.record.SessionStart.{SessionStart}
 use Rattle.sentry_base.specs.declared.protocol.breadcrumb.Breadcrumb.{Breadcrumb}
 use Rattle.sentry_scope.specs.declared.scope.stack.Stack.{Stack}
 use Rattle.sentry_scope.specs.Scopes.{breadcrumb_trail}
 use Rattle.sentry_state.specs.Outcomes.{with_scope}
 use Rattle.sentry_base.specs.declared.protocol.log.Log.{Log}
 use Rattle.sentry_base.specs.declared.protocol.metric.Metric.{Metric}
-use Rattle.sentry_parts.specs.Batches.{BatchEntry}
+use Rattle.sentry_batches.specs.Batches.{BatchEntry}
 use Rattle.std.specs.Option.{is_some}
 
 -- ---- sessions

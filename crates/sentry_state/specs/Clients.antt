@@ -2,14 +2,14 @@
 use Rattle.std.specs.Prelude.{ℕ, Bool, List, ◌&&◌, is_some, Some, [], false}
 use Rattle.std.specs.List.{list_any}
 use Rattle.sentry_base.specs.declared.protocol.keys.ClientKey.{ClientKey}
-use Rattle.sentry_parts.specs.Sessions.{closed}
+use Rattle.sentry_sessions.specs.Sessions.{closed}
 use Rattle.sentry_state.specs.declared.state.Hub.{Hub}
 use Rattle.sentry_state.specs.Worlds.{ClientState, QueueHistories, SessionState}
 use Rattle.sentry_options.specs.Meanings.{Meanings, set_up_all}
 use Rattle.sentry_base.specs.declared.protocol.keys.Label.{Label}
 use Rattle.sentry_options.specs.declared.clientoptions.ClientOptions.{ClientOptions}
 use Rattle.sentry_scope.specs.Stacks.{is_client, names_client}
-use Rattle.sentry_parts.specs.OsAttributes.{os_attributes}
+use Rattle.sentry_pipeline.specs.OsAttributes.{os_attributes}
 use Rattle.std.specs.Option.{is_some}
 
 -- a layer of a hub names the client

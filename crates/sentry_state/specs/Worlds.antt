@@ -5,14 +5,14 @@ use Rattle.sentry_base.specs.declared.protocol.log.Log.{Log}
 use Rattle.sentry_base.specs.declared.protocol.metric.Metric.{Metric}
 use Rattle.sentry_options.specs.declared.clientoptions.ClientOptions.{ClientOptions}
 use Rattle.sentry_options.specs.declared.clientoptions.choices.SessionMode.{SessionMode}
-use Rattle.sentry_parts.specs.Batches.{BatchEntry}
-use Rattle.sentry_parts.specs.Batches as batch
+use Rattle.sentry_batches.specs.Batches.{BatchEntry}
+use Rattle.sentry_batches.specs.Batches as batch
 use Rattle.sentry_client_reports.specs.LossBooks.{LossEntry, book_of}
-use Rattle.sentry_parts.specs.SessionQueues.{QueueEntry, queue_of}
-use Rattle.sentry_parts.specs.Sessions.{SessionEntry, session_of}
-use Rattle.sentry_parts.specs.declared.os_attributes.OsAttributes.{OsAttributes}
-use Rattle.sentry_parts.specs.declared.session.record.Session.{Session}
-use Rattle.sentry_parts.specs.declared.session.record.SessionStart.{SessionStart}
+use Rattle.sentry_sessions.specs.SessionQueues.{QueueEntry, queue_of}
+use Rattle.sentry_sessions.specs.Sessions.{SessionEntry, session_of}
+use Rattle.sentry_pipeline.specs.declared.os_attributes.OsAttributes.{OsAttributes}
+use Rattle.sentry_sessions.specs.declared.session.record.Session.{Session}
+use Rattle.sentry_sessions.specs.declared.session.record.SessionStart.{SessionStart}
 use Rattle.sentry_state.specs.declared.state.Client.{Client}
 use Rattle.sentry_state.specs.declared.state.Hub.{Hub}
 use Rattle.sentry_state.specs.declared.state.NextNumbers.{NextNumbers}

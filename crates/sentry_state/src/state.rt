@@ -12,14 +12,14 @@ mod hubs;
 mod sessions;
 
 use sentry_base::protocol::{ClientKey, Envelope, HubKey, Label, Log, Metric, SessionKey, Uuid};
+use sentry_batches::batcher::Batch;
+use sentry_batches::tick::LastTick;
 use sentry_client_reports::client_reports::LossBook;
 use sentry_options::clientoptions::{Callbacks, ClientOptions};
-use sentry_parts::batcher::Batch;
-use sentry_parts::os_attributes::OsAttributes;
-use sentry_parts::session::{Session, SessionQueue};
-use sentry_parts::tick::LastTick;
+use sentry_pipeline::os_attributes::OsAttributes;
 use sentry_plain::{Items, Shared, Table};
 use sentry_scope::scope::{Scope, Stack};
+use sentry_sessions::session::{Session, SessionQueue};
 use std::alloc::{AllocError, Global};
 
 /// The reply of a call, and the envelopes that it hands out, each with the client whose transport is to send it.

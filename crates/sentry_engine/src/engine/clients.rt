@@ -11,7 +11,7 @@ use sentry_base::protocol::{
     ClientKey, Draw, Envelope, Event, Fresh, Label, Refusal, SampleRate, Uuid,
 };
 use sentry_options::clientoptions::{Callbacks, ClientOptions};
-use sentry_parts::pipeline::prepare_event;
+use sentry_pipeline::pipeline::prepare_event;
 use sentry_plain::{Boxed, Items, Shared};
 use sentry_scope::scope::Scope;
 use sentry_sending::captures::{

@@ -1,15 +1,15 @@
 //! What comes to the queues of a client.
 ghost use Rattle.std.specs.Prelude.{◌≡◌, ◌==◌, ◌&&◌, ◌-◌, length, IfOk, OnOk, OnErr, Some};
 ghost use Rattle.sentry_plain.specs.Tables.{value_at, replace_at};
-ghost use Rattle.sentry_parts.specs.Batches.{accept, batch_on};
-ghost use Rattle.sentry_parts.specs.SessionQueues.{enqueued};
+ghost use Rattle.sentry_batches.specs.Batches.{accept, batch_on};
+ghost use Rattle.sentry_sessions.specs.SessionQueues.{enqueued};
 ghost use Rattle.sentry_state.specs.Changes.{with_client_entry, with_log_entry, with_metric_entry};
 ghost use Rattle.sentry_state.specs.Worlds.{World, ClientState, Stands, plain_client};
 
 use crate::state::{Client, State};
 use sentry_base::protocol::{Log, Metric, SessionUpdate};
+use sentry_batches::batcher::BATCH_ITEMS;
 use sentry_options::clientoptions::Callbacks;
-use sentry_parts::batcher::BATCH_ITEMS;
 use sentry_plain::Items;
 use std::alloc::AllocError;
 

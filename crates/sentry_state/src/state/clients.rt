@@ -9,13 +9,13 @@ ghost use Rattle.sentry_state.specs.Clients.{is_client_named, has_session_of, se
 
 use crate::state::{Client, Hub, Queues, State};
 use sentry_base::protocol::{ClientKey, Label};
+use sentry_batches::batcher::Batch;
+use sentry_batches::tick::LastTick;
 use sentry_client_reports::client_reports::LossBook;
 use sentry_options::clientoptions::{Callbacks, ClientOptions, SessionMode};
-use sentry_parts::batcher::Batch;
-use sentry_parts::os_attributes::os_attributes;
-use sentry_parts::session::{Session, SessionQueue};
-use sentry_parts::tick::LastTick;
+use sentry_pipeline::os_attributes::os_attributes;
 use sentry_plain::{Shared, Table};
+use sentry_sessions::session::{Session, SessionQueue};
 use std::alloc::{AllocError, Global};
 
 // A share of the options, after the `setup` of their integrations.

@@ -9,7 +9,7 @@ ghost use Rattle.sentry_state.specs.Worlds.{World, SessionState, Stands, plain_s
 use crate::state::State;
 use sentry_base::protocol::SessionKey;
 use sentry_options::clientoptions::Callbacks;
-use sentry_parts::session::Session;
+use sentry_sessions::session::Session;
 
 impl<P: Drop, C: Callbacks> State<P, C> {
     /// Whether a number is left for a session.

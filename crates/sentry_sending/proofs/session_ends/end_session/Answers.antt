@@ -1,6 +1,6 @@
 use Rattle.std.proofs.Common.{sym, ap, subst, ◌≡◌, ◌∙◌, ◌∷◌, true, rules}
-use Rattle.sentry_parts.specs.Sessions.{closed, session_of, update_of}
-use Rattle.sentry_parts.specs.declared.session.record.Session.{Session}
+use Rattle.sentry_sessions.specs.Sessions.{closed, session_of, update_of}
+use Rattle.sentry_sessions.specs.declared.session.record.Session.{Session}
 use Rattle.sentry_sending.specs.Sending.{Sending}
 use Rattle.sentry_sending.specs.SessionEnds.{queue_update}
 use Rattle.sentry_state.specs.Outcomes.{session_at}

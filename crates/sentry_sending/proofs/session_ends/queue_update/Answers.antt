@@ -1,5 +1,5 @@
 use Rattle.std.proofs.Common.{sym, ap, subst, ◌≡◌, ◌∙◌, false}
-use Rattle.sentry_parts.specs.SessionQueues.{enqueued}
+use Rattle.sentry_sessions.specs.SessionQueues.{enqueued}
 use Rattle.sentry_state.specs.Books.{pending_report}
 use Rattle.sentry_sending.specs.Sending.{Sending, envelopes_from, after_sending}
 use Rattle.sentry_state.specs.Changes.{with_client_state, with_client_entry}

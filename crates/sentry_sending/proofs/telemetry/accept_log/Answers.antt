@@ -1,8 +1,8 @@
 use Rattle.std.proofs.Common.{◌≡◌, ◌∙◌, ◌++◌, ◌-◌, ◌==◌, ap, sym, true, false, rules, refl, List, length}
 use Rattle.std.specs.Prelude.{Option, None, ◌&&◌}
 use Rattle.sentry_base.specs.declared.protocol.log.Log.{Log}
-use Rattle.sentry_parts.specs.Batches.{accept, batch_on, queued_items}
-use Rattle.sentry_parts.specs.declared.batcher.TheConstants.{BATCH_ITEMS}
+use Rattle.sentry_batches.specs.Batches.{accept, batch_on, queued_items}
+use Rattle.sentry_batches.specs.declared.batcher.TheConstants.{BATCH_ITEMS}
 use Rattle.sentry_state.specs.Books.{pending_report}
 use Rattle.sentry_sending.specs.Flushes.{batch_envelopes}
 use Rattle.sentry_sending.specs.Sending.{address}

@@ -3,7 +3,7 @@ use Rattle.sentry_state.specs.Worlds.{Stands}
 use Rattle.std.proofs.Common.{◌≡◌, ◌∙◌, refl, sym, Some, [], true, rules, subst}
 use Rattle.std.specs.Prelude.{option_map}
 use Rattle.sentry_plain.specs.Tables.{value_at}
-use Rattle.sentry_parts.specs.Sessions.{session_of, start_of}
+use Rattle.sentry_sessions.specs.Sessions.{session_of, start_of}
 use Rattle.sentry_state.specs.Outcomes.{hub_at, plain_client_at}
 use Rattle.sentry_state.specs.Changes.{is_session_number_left}
 use Rattle.sentry_state.proofs.Keeping.{session_start}

@@ -1,5 +1,5 @@
 use Rattle.std.proofs.Common.{◌≡◌, ◌∙◌, Some, ap}
-use Rattle.sentry_parts.specs.Batches.{accept}
+use Rattle.sentry_batches.specs.Batches.{accept}
 use Rattle.sentry_state.specs.declared.state.Client.{Client}
 use Rattle.sentry_state.specs.Worlds.{plain_client}
 use Rattle.sentry_state.proofs.Keeping.{client_replaced, metrics_changed}

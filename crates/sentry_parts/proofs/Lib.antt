@@ -1,4 +1,0 @@
-pub mod BatchLemmas
-pub mod SessionLemmas
-pub mod AggregateLemmas
-pub mod QueueLemmas

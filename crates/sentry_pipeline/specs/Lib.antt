@@ -1,0 +1,4 @@
+pub mod Pipeline
+pub mod OsAttributes
+pub mod DefaultAttributes
+pub mod Telemetry

@@ -1,0 +1,42 @@
+//! What becomes of a log or a metric between its capture and its batch.
+ghost use Rattle.std.specs.Prelude.{◌≡◌, IfOk};
+ghost use Rattle.sentry_pipeline.specs.Telemetry.{prepare_log, prepare_metric};
+
+use crate::pipeline::attributes::{DefaultAttribute, fill_defaults};
+use sentry_base::protocol::{Log, Metric};
+use sentry_options::clientoptions::{Callbacks, ClientOptions};
+use sentry_plain::Items;
+use sentry_scope::scope::Scope;
+use std::alloc::{AllocError, Global};
+
+/// Prepares a log for sending: it goes under the scope, gets the default attributes that it lacks, and goes through
+/// `before_send_log`. Returns `None` if that drops it.
+pub fn prepare_log<P: Drop, C: Callbacks>(
+    alloc: Global,
+    options: &ClientOptions<C>,
+    defaults: &Items<DefaultAttribute>,
+    scope: &Scope<P>,
+    mut log: Log,
+) -> Result<Option<Log>, AllocError>
+    ensures { IfOk result (λ made. made ≡ prepare_log C.meanings options.now defaults.now scope.now log) }
+{
+    scope.apply_to_log(&mut log)?;
+    fill_defaults(alloc, &mut log.attributes, defaults.as_slice())?;
+    options.callbacks.before_send_log(log)
+}
+
+/// Prepares a metric for sending: it goes under the scope, gets the default attributes that it lacks, and goes through
+/// `before_send_metric`. Returns `None` if that drops it.
+pub fn prepare_metric<P: Drop, C: Callbacks>(
+    alloc: Global,
+    options: &ClientOptions<C>,
+    defaults: &Items<DefaultAttribute>,
+    scope: &Scope<P>,
+    mut metric: Metric,
+) -> Result<Option<Metric>, AllocError>
+    ensures { IfOk result (λ made. made ≡ prepare_metric C.meanings options.now defaults.now scope.now metric) }
+{
+    scope.apply_to_metric(&mut metric, options.plain.send_default_pii)?;
+    fill_defaults(alloc, &mut metric.attributes, defaults.as_slice())?;
+    options.callbacks.before_send_metric(metric)
+}

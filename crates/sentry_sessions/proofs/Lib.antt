@@ -1,0 +1,3 @@
+pub mod SessionLemmas
+pub mod AggregateLemmas
+pub mod QueueLemmas

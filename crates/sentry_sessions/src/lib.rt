@@ -1,0 +1,4 @@
+//! Sessions, and the ended sessions that wait to be sent.
+#![tactic(auto)]
+
+pub mod session;
