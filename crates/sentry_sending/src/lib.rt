@@ -1,5 +1,5 @@
-//! What leaves an engine, and what is left of its state then: flushes of queues, sessions that end, captured events, logs
-//! and metrics.
+//! What leaves an engine, and what is left of its state then: flushes of queues, sessions that end, captured events,
+//! logs and metrics.
 #![tactic(auto)]
 
 pub mod captures;

@@ -30,7 +30,8 @@ impl<C> Client<C> {
 }
 
 impl<P: Drop, C: Callbacks> State<P, C> {
-    /// Puts the last update of a session into the queue of a client that is held. If out of memory, nothing has changed.
+    /// Puts the last update of a session into the queue of a client that is held. If out of memory, nothing has
+    /// changed.
     #[tactic(auto, using(crate::proofs::Keeping::changed_same))]
     pub fn enqueue_update(&mut self, number: u64, update: SessionUpdate) -> Result<(), AllocError>
         ensures in_world { OnOk result ((world : World P C) (client : ClientState C) → Stands self.old world →
@@ -48,8 +49,8 @@ impl<P: Drop, C: Callbacks> State<P, C> {
         Ok(())
     }
 
-    /// Puts a log into the batch of a client that is held. Returns the batch, if it was the hundredth. If out of memory,
-    /// nothing has changed.
+    /// Puts a log into the batch of a client that is held. Returns the batch, if it was the hundredth. If out of
+    /// memory, nothing has changed.
     #[tactic(auto, using(crate::proofs::Keeping::changed_same))]
     pub fn enqueue_log(&mut self, number: u64, log: Log) -> Result<Option<Items<Log>>, AllocError>
         ensures in_world { OnOk result ((world : World P C) (client : ClientState C) → Stands self.old world →
