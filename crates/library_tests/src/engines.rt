@@ -6,7 +6,7 @@ use sentry_core::protocol::{
 };
 use sentry_core::{ClientOptions, Scope, ScopeGuard};
 use sentry_plain::{Boxed, Items};
-use std::alloc::Global;
+use std::alloc::{AllocError, Global};
 use std::test::Fail;
 
 /// Where the clients of the tests send to.
@@ -127,23 +127,35 @@ const HUB: HubKey = HubKey { tag: 0, number: 0 };
 /// Two calls that make a client and a hub, one that is refused, and the capture of an event that has an id.
 fn calls(alloc: Global) -> Result<Vec<Call>, Refusal> {
     let mut calls = Items::new(alloc);
-    calls.push(Call::AddClient {
+    calls.push(add_client_call(alloc)?)?;
+    calls.push(Call::LastEventId(HUB))?;
+    calls.push(new_hub_call(alloc)?)?;
+    calls.push(capture_call(alloc)?)?;
+    Ok(calls.into_vec())
+}
+
+fn add_client_call(alloc: Global) -> Result<Call, Refusal> {
+    Ok(Call::AddClient {
         options: Boxed::new(alloc, options(alloc)?)?,
         transport: true,
         label: LABEL,
         now: 0,
-    })?;
-    calls.push(Call::LastEventId(HUB))?;
-    calls.push(Call::NewHub {
+    })
+}
+
+fn new_hub_call(alloc: Global) -> Result<Call, AllocError> {
+    Ok(Call::NewHub {
         client: Some(CLIENT),
         scope: Boxed::new(alloc, scope(alloc))?,
-    })?;
-    calls.push(Call::CaptureEvent {
+    })
+}
+
+fn capture_call(alloc: Global) -> Result<Call, AllocError> {
+    Ok(Call::CaptureEvent {
         hub: HUB,
         event: Boxed::new(alloc, Event::new(alloc, id(9), 1)?)?,
         fresh: fresh(1),
-    })?;
-    Ok(calls.into_vec())
+    })
 }
 
 /// What was answered to those calls: the refusal, the id of the event, and the number of its envelopes.
@@ -157,13 +169,18 @@ fn end_of(answers: &[Result<Out<Reply>, Refusal>]) -> Option<(Refusal, Uuid, usi
     }
 }
 
+/// What those calls come to, and the id of the last event on the engine that made them.
+fn run_calls(alloc: Global) -> Result<(Option<(Refusal, Uuid, usize)>, Option<Uuid>), Refusal> {
+    let (engine, answers) = Engine::run(alloc, 0, calls(alloc)?)?;
+    let last = engine.last_event_id(HUB)?.reply;
+    Ok((end_of(answers.as_slice()), last))
+}
+
 #[test]
 fn a_list_of_calls_answers_one_by_one(rt: HostRuntime) -> Result<(), Fail> {
-    let alloc = rt.alloc();
-    let (engine, answers) = Engine::run(alloc, 0, calls(alloc)?)?;
-    let expected = (Refusal::Stale, id(9), 1);
-    assert_eq!(rt; end_of(answers.as_slice()), Some(expected));
-    assert_eq!(rt; engine.last_event_id(HUB)?.reply, Some(id(9)));
+    let (end, last) = run_calls(rt.alloc())?;
+    assert_eq!(rt; end, Some((Refusal::Stale, id(9), 1)));
+    assert_eq!(rt; last, Some(id(9)));
     Ok(())
 }
 
@@ -193,15 +210,21 @@ fn pop_by_turns(engine: &mut Engine, guard: ScopeGuard) -> (Option<Refusal>, boo
     }
 }
 
+/// Pushes a layer onto a new hub.
+fn push_on_new_hub(engine: &mut Engine, scope: Scope) -> Result<ScopeGuard, Refusal> {
+    engine.new_hub(None, scope)?;
+    let Out { reply, sent: _ } = engine.push_scope(HUB)?;
+    Ok(reply)
+}
+
 /// The same on a new hub, onto which two layers are pushed: whether the second was, and what the pops come to.
 fn push_and_pop(
     engine: &mut Engine,
     scope: Scope,
 ) -> Result<(bool, (Option<Refusal>, bool)), Refusal> {
-    engine.new_hub(None, scope)?;
-    let Out { reply, sent: _ } = engine.push_scope(HUB)?;
+    let guard = push_on_new_hub(engine, scope)?;
     let is_pushed = engine.apply(Call::PushScope(HUB)).is_ok();
-    Ok((is_pushed, pop_by_turns(engine, reply)))
+    Ok((is_pushed, pop_by_turns(engine, guard)))
 }
 
 #[test]

@@ -1,5 +1,5 @@
-//! Tests of what no text given to a program can show: boxed callbacks, clones and `==`, builders and calls that no
-//! command makes, what a refused call hands back, and a stream that fails.
+//! Tests of what no text given to a program can show: boxed callbacks, builders and calls that no command makes, what a
+//! refused call hands back, and a stream that fails.
 #![tactic(auto)]
 
 #[cfg(test)]
@@ -9,10 +9,4 @@ mod engines;
 #[cfg(test)]
 mod options;
 #[cfg(test)]
-mod plain;
-#[cfg(test)]
-mod records;
-#[cfg(test)]
 mod streams;
-#[cfg(test)]
-mod texts;

@@ -71,8 +71,8 @@ fn options_of_which_nothing_was_set(rt: HostRuntime) -> Result<(), Fail> {
     Ok(())
 }
 
-/// Options with all of that set, and the release not taken away.
-fn set_options(alloc: Global) -> Result<ClientOptions, Refusal> {
+/// Options with the switches and limits set.
+fn set_switches(alloc: Global) -> ClientOptions {
     ClientOptions::new(alloc)
         .debug(true)
         .attach_stacktrace(true)
@@ -84,6 +84,11 @@ fn set_options(alloc: Global) -> Result<ClientOptions, Refusal> {
         .shutdown_timeout(5)
         .transport_channel_capacity(0)
         .max_request_body_size(MaxRequestBodySize::Always)
+}
+
+/// Options with all of that set, and the release not taken away.
+fn set_options(alloc: Global) -> Result<ClientOptions, Refusal> {
+    set_switches(alloc)
         .dsn(DSN)?
         .maybe_release(Some("app@1"))?
         .maybe_release(None)?

@@ -1,6 +1,7 @@
 //! The calls that commands make.
 ghost use Rattle.std.specs.Prelude.{◌≡◌, Ok, IfOk};
 ghost use Rattle.sentry_base.specs.DsnTexts.{dsn_of_text};
+ghost use Rattle.replay_run.specs.declared.command.Command.TheVariants as command;
 ghost use Rattle.replay_run.specs.Calls.{moment_of, fresh_of, client_key, hub_key, info_log, call_of};
 ghost use Rattle.replay_run.specs.Calls.{client_dsn_text, client_dsn, client_options};
 
@@ -96,6 +97,54 @@ fn options(alloc: Global, release: Option<Text>) -> Result<ClientOptions<NoCallb
     })
 }
 
+fn add_client(alloc: Global, number: u64, release: Option<Text>) -> Result<ReplayCall, AllocError>
+    ensures { IfOk result (λ call. call ≡ call_of number (command.Client release)) }
+{
+    Ok(Call::AddClient {
+        options: Boxed::new(alloc, options(alloc, release)?)?,
+        transport: true,
+        label: Label { tag: TAG, number },
+        now: moment(number),
+    })
+}
+
+fn new_hub(alloc: Global, number: u64, client: u64) -> Result<ReplayCall, AllocError>
+    ensures { IfOk result (λ call. call ≡ call_of number (command.Hub client)) }
+{
+    let fresh = fresh(number);
+    Ok(Call::NewHub {
+        client: Some(client_key(client)),
+        scope: Boxed::new(alloc, Scope::new(alloc, fresh.trace_id, fresh.span_id))?,
+    })
+}
+
+fn set_tag(
+    alloc: Global,
+    number: u64,
+    hub: u64,
+    key: Text,
+    value: Text,
+) -> Result<ReplayCall, AllocError>
+    ensures { IfOk result (λ call. call ≡ call_of number (command.Tag hub key value)) }
+{
+    let mut edits = Items::new(alloc);
+    edits.push(ScopeEdit::SetTag(key, value))?;
+    Ok(Call::Configure {
+        hub: hub_key(hub),
+        edits,
+        now: moment(number),
+    })
+}
+
+fn capture_log(alloc: Global, number: u64, hub: u64, text: Text) -> Result<ReplayCall, AllocError>
+    ensures { IfOk result (λ call. call ≡ call_of number (command.Log hub text)) }
+{
+    Ok(Call::CaptureLog {
+        hub: hub_key(hub),
+        log: Boxed::new(alloc, info_log(alloc, text, moment(number)))?,
+    })
+}
+
 /// Builds the call of the command on the line of this number.
 pub fn build_call(alloc: Global, number: u64, command: Command) -> Result<ReplayCall, AllocError>
     ensures { IfOk result (λ call. call ≡ call_of number command) }
@@ -103,25 +152,9 @@ pub fn build_call(alloc: Global, number: u64, command: Command) -> Result<Replay
     let now = moment(number);
     let fresh = fresh(number);
     match command {
-        Command::Client(release) => Ok(Call::AddClient {
-            options: Boxed::new(alloc, options(alloc, release)?)?,
-            transport: true,
-            label: Label { tag: TAG, number },
-            now,
-        }),
-        Command::Hub(client) => Ok(Call::NewHub {
-            client: Some(client_key(client)),
-            scope: Boxed::new(alloc, Scope::new(alloc, fresh.trace_id, fresh.span_id))?,
-        }),
-        Command::Tag { hub, key, value } => {
-            let mut edits = Items::new(alloc);
-            edits.push(ScopeEdit::SetTag(key, value))?;
-            Ok(Call::Configure {
-                hub: hub_key(hub),
-                edits,
-                now,
-            })
-        }
+        Command::Client(release) => add_client(alloc, number, release),
+        Command::Hub(client) => new_hub(alloc, number, client),
+        Command::Tag { hub, key, value } => set_tag(alloc, number, hub, key, value),
         Command::Message { hub, level, text } => Ok(Call::CaptureMessage {
             hub: hub_key(hub),
             message: text,
@@ -146,10 +179,7 @@ pub fn build_call(alloc: Global, number: u64, command: Command) -> Result<Replay
             now,
         }),
         Command::Flush(client) => Ok(Call::Flush(client_key(client))),
-        Command::Log { hub, text } => Ok(Call::CaptureLog {
-            hub: hub_key(hub),
-            log: Boxed::new(alloc, info_log(alloc, text, now))?,
-        }),
+        Command::Log { hub, text } => capture_log(alloc, number, hub, text),
         Command::Close(client) => Ok(Call::Close(client_key(client))),
     }
 }

@@ -60,16 +60,19 @@ fn set_names(alloc: Global, event: &mut Event) -> Result<(), AllocError> {
     Ok(())
 }
 
-fn set_details(alloc: Global, event: &mut Event, now: u64) -> Result<(), AllocError> {
+fn set_owner(alloc: Global, event: &mut Event) -> Result<(), AllocError> {
     event.fingerprint = own_list(alloc)?;
     event.user = Some(own_user(alloc)?);
-    event.tags.insert(own(alloc)?, own(alloc)?)?;
     event.extra = own_map(alloc, OWN)?;
-    let context = Context::Other(own_map(alloc, "value")?);
-    event.contexts.insert(own(alloc)?, context)?;
-    event.breadcrumbs.push(own_breadcrumb(alloc, now)?)?;
     event.sdk = Some(own_sdk(alloc)?);
     Ok(())
+}
+
+fn add_details(alloc: Global, event: &mut Event, now: u64) -> Result<(), AllocError> {
+    event.tags.insert(own(alloc)?, own(alloc)?)?;
+    let context = Context::Other(own_map(alloc, "value")?);
+    event.contexts.insert(own(alloc)?, context)?;
+    event.breadcrumbs.push(own_breadcrumb(alloc, now)?)
 }
 
 /// An event with this message, and with parts of its own for all that is filled in where it is absent.
@@ -83,6 +86,7 @@ pub fn rich_event(
     event.level = level;
     event.message = Some(Text::new(alloc, message)?);
     set_names(alloc, &mut event)?;
-    set_details(alloc, &mut event, fresh.now)?;
+    set_owner(alloc, &mut event)?;
+    add_details(alloc, &mut event, fresh.now)?;
     Ok(event)
 }

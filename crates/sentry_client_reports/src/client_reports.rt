@@ -12,8 +12,6 @@ mod reason;
 mod recorder;
 mod recording;
 mod step;
-#[cfg(test)]
-mod tests;
 
 pub use book::LossBook;
 pub use drainer::{Drained, Drainer};

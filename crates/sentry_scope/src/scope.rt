@@ -1,5 +1,5 @@
 //! Scopes: what a hub knows about the surroundings of its events.
-ghost use Rattle.std.specs.Prelude.{◌≡◌, IfOk, option_copied};
+ghost use Rattle.std.specs.Prelude.{◌≡◌, IfOk, OnOk, option_copied};
 ghost use Rattle.sentry_trace.specs.TraceHeaders.{headers_left};
 ghost use Rattle.sentry_scope.specs.Scopes.{new_scope, propagation_of, propagation_headers};
 
@@ -119,19 +119,46 @@ impl<P: Drop> Clone for Scope<P> {
     ghost is_clone = { λ old new. new ≡ old };
 
     fn clone(&self) -> Result<Scope<P>, AllocError> {
-        Ok(Scope {
-            level: self.level,
-            fingerprint: self.fingerprint.clone()?,
-            transaction: self.transaction.clone()?,
-            user: self.user.clone()?,
-            tags: self.tags.clone()?,
-            extra: self.extra.clone()?,
-            contexts: self.contexts.clone()?,
-            breadcrumbs: self.breadcrumbs.clone()?,
-            attachments: self.attachments.clone()?,
-            trace_id: self.trace_id,
-            span_id: self.span_id,
-            processors: self.processors.clone()?,
-        })
+        let mut copy = Scope::new(self.allocator(), self.trace_id, self.span_id);
+        copy.level = self.level;
+        self.clone_options(&mut copy)?;
+        self.clone_lists(&mut copy)?;
+        Ok(copy)
+    }
+}
+
+// The parts of a clone that may fail. They are written into a scope that stands, since a literal would drop each part
+// that is done at each later return.
+impl<P: Drop> Scope<P> {
+    fn clone_options(&self, copy: &mut Scope<P>) -> Result<(), AllocError>
+        ensures { OnOk result (copy.new ≡ record copy.old {
+          fingerprint = self.now.fingerprint;
+          transaction = self.now.transaction;
+          user = self.now.user;
+        }) }
+    {
+        copy.fingerprint = self.fingerprint.clone()?;
+        copy.transaction = self.transaction.clone()?;
+        copy.user = self.user.clone()?;
+        Ok(())
+    }
+
+    fn clone_lists(&self, copy: &mut Scope<P>) -> Result<(), AllocError>
+        ensures { OnOk result (copy.new ≡ record copy.old {
+          tags = self.now.tags;
+          extra = self.now.extra;
+          contexts = self.now.contexts;
+          breadcrumbs = self.now.breadcrumbs;
+          attachments = self.now.attachments;
+          processors = self.now.processors;
+        }) }
+    {
+        copy.tags = self.tags.clone()?;
+        copy.extra = self.extra.clone()?;
+        copy.contexts = self.contexts.clone()?;
+        copy.breadcrumbs = self.breadcrumbs.clone()?;
+        copy.attachments = self.attachments.clone()?;
+        copy.processors = self.processors.clone()?;
+        Ok(())
     }
 }

@@ -1,5 +1,5 @@
 //! The options other than callbacks, integrations and the sampling of traces.
-ghost use Rattle.std.specs.Prelude.{◌≡◌};
+ghost use Rattle.std.specs.Prelude.{◌≡◌, OnOk};
 ghost use Rattle.sentry_options.specs.Options.{default_plain_options};
 
 use crate::clientoptions::choices::{EventSamplingStrategy, MaxRequestBodySize, SessionMode};
@@ -136,23 +136,24 @@ impl Clone for PlainOptions {
     ghost is_clone = { λ old new. new ≡ old };
 
     fn clone(&self) -> Result<PlainOptions, AllocError> {
-        Ok(PlainOptions {
-            dsn: self.dsn.clone()?,
+        let alloc = self.in_app_include.allocator();
+        let mut copy = PlainOptions {
+            dsn: None,
             debug: self.debug,
-            release: self.release.clone()?,
-            environment: self.environment.clone()?,
+            release: None,
+            environment: None,
             event_sampling_strategy: self.event_sampling_strategy,
             org_id: self.org_id,
             strict_trace_continuation: self.strict_trace_continuation,
             max_breadcrumbs: self.max_breadcrumbs,
             attach_stacktrace: self.attach_stacktrace,
             send_default_pii: self.send_default_pii,
-            server_name: self.server_name.clone()?,
-            in_app_include: self.in_app_include.clone()?,
-            in_app_exclude: self.in_app_exclude.clone()?,
+            server_name: None,
+            in_app_include: Items::new(alloc),
+            in_app_exclude: Items::new(alloc),
             default_integrations: self.default_integrations,
-            http_proxy: self.http_proxy.clone()?,
-            https_proxy: self.https_proxy.clone()?,
+            http_proxy: None,
+            https_proxy: None,
             shutdown_timeout: self.shutdown_timeout,
             max_request_body_size: self.max_request_body_size,
             transport_channel_capacity: self.transport_channel_capacity,
@@ -162,6 +163,43 @@ impl Clone for PlainOptions {
             auto_session_tracking: self.auto_session_tracking,
             session_mode: self.session_mode,
             user_agent: self.user_agent.clone()?,
-        })
+        };
+        self.clone_options(&mut copy)?;
+        self.clone_lists(&mut copy)?;
+        Ok(copy)
+    }
+}
+
+// The parts of a clone that may fail. They are written into options that stand, since a literal would drop each part
+// that is done at each later return.
+impl PlainOptions {
+    fn clone_options(&self, copy: &mut PlainOptions) -> Result<(), AllocError>
+        ensures { OnOk result (copy.new ≡ record copy.old {
+          dsn = self.now.dsn;
+          release = self.now.release;
+          environment = self.now.environment;
+          server_name = self.now.server_name;
+          http_proxy = self.now.http_proxy;
+          https_proxy = self.now.https_proxy;
+        }) }
+    {
+        copy.dsn = self.dsn.clone()?;
+        copy.release = self.release.clone()?;
+        copy.environment = self.environment.clone()?;
+        copy.server_name = self.server_name.clone()?;
+        copy.http_proxy = self.http_proxy.clone()?;
+        copy.https_proxy = self.https_proxy.clone()?;
+        Ok(())
+    }
+
+    fn clone_lists(&self, copy: &mut PlainOptions) -> Result<(), AllocError>
+        ensures { OnOk result (copy.new ≡ record copy.old {
+          in_app_include = self.now.in_app_include;
+          in_app_exclude = self.now.in_app_exclude;
+        }) }
+    {
+        copy.in_app_include = self.in_app_include.clone()?;
+        copy.in_app_exclude = self.in_app_exclude.clone()?;
+        Ok(())
     }
 }

@@ -9,7 +9,6 @@ use sentry_plain::{Items, Shared, Text, copy_texts};
 use std::alloc::AllocError;
 
 /// A call of one setter of a scope.
-#[derive(Drop)]
 pub enum ScopeEdit<P> {
     /// `clear`, to the ids of a trace
     Clear(TraceId, SpanId),
@@ -41,6 +40,55 @@ pub enum ScopeEdit<P> {
     ClearAttachments,
     /// `add_event_processor`
     AddEventProcessor(P),
+}
+
+impl<P: Drop> Drop for ScopeEdit<P> {
+    fn drop(self) {
+        match self {
+            ScopeEdit::Clear(_, _) => {}
+            ScopeEdit::SetLevel(_) => {}
+            ScopeEdit::SetFingerprint(_) => {}
+            ScopeEdit::SetTransaction(_) => {}
+            ScopeEdit::SetUser(_) => {}
+            ScopeEdit::SetTag(_, _) => {}
+            ScopeEdit::RemoveTag(_) => {}
+            ScopeEdit::SetExtra(_, _) => {}
+            ScopeEdit::RemoveExtra(_) => {}
+            ScopeEdit::SetContext(_, _) => {}
+            ScopeEdit::RemoveContext(_) => {}
+            ScopeEdit::ClearBreadcrumbs => {}
+            ScopeEdit::AddAttachment(_) => {}
+            ScopeEdit::ClearAttachments => {}
+            ScopeEdit::AddEventProcessor(_) => {}
+        }
+    }
+}
+
+impl<P: Drop> ScopeEdit<P> {
+    // Makes the call on a scope. Only a method of this type may take an edit apart, since it has a drop of its own.
+    fn apply_to(self, scope: &mut Scope<P>) -> Result<(), AllocError>
+        ensures ok { OnOk result (scope.new ≡ edit self scope.old) }
+        ensures err { OnErr result (scope.new ≡ scope.old) }
+    {
+        match self {
+            ScopeEdit::SetTag(key, value) => return scope.tags.insert(key, value),
+            ScopeEdit::SetExtra(key, value) => return scope.extra.insert(key, value),
+            ScopeEdit::SetContext(key, context) => return scope.contexts.insert(key, context),
+            ScopeEdit::AddAttachment(attachment) => return scope.add_attachment(attachment),
+            ScopeEdit::AddEventProcessor(processor) => return scope.add_event_processor(processor),
+            ScopeEdit::Clear(trace_id, span_id) => scope.clear(trace_id, span_id),
+            ScopeEdit::SetLevel(level) => scope.set_level(level),
+            ScopeEdit::SetFingerprint(fingerprint) => scope.fingerprint = fingerprint,
+            ScopeEdit::SetTransaction(transaction) => scope.transaction = transaction,
+            ScopeEdit::SetUser(user) => scope.set_user(user),
+            ScopeEdit::RemoveTag(key) => scope.remove_tag(key.as_str()),
+            ScopeEdit::RemoveExtra(key) => scope.remove_extra(key.as_str()),
+            ScopeEdit::RemoveContext(key) => scope.remove_context(key.as_str()),
+            ScopeEdit::ClearBreadcrumbs => scope.clear_breadcrumbs(),
+            ScopeEdit::ClearAttachments => scope.clear_attachments(),
+        }
+        Ok(())
+    }
 }
 
 impl<P: Drop> Scope<P> {
@@ -192,24 +240,7 @@ impl<P: Drop> Scope<P> {
         ensures ok { OnOk result (self.new ≡ edit setter self.old) }
         ensures err { OnErr result (self.new ≡ self.old) }
     {
-        match setter {
-            ScopeEdit::SetTag(key, value) => return self.tags.insert(key, value),
-            ScopeEdit::SetExtra(key, value) => return self.extra.insert(key, value),
-            ScopeEdit::SetContext(key, context) => return self.contexts.insert(key, context),
-            ScopeEdit::AddAttachment(attachment) => return self.add_attachment(attachment),
-            ScopeEdit::AddEventProcessor(processor) => return self.add_event_processor(processor),
-            ScopeEdit::Clear(trace_id, span_id) => self.clear(trace_id, span_id),
-            ScopeEdit::SetLevel(level) => self.set_level(level),
-            ScopeEdit::SetFingerprint(fingerprint) => self.fingerprint = fingerprint,
-            ScopeEdit::SetTransaction(transaction) => self.transaction = transaction,
-            ScopeEdit::SetUser(user) => self.set_user(user),
-            ScopeEdit::RemoveTag(key) => self.remove_tag(key.as_str()),
-            ScopeEdit::RemoveExtra(key) => self.remove_extra(key.as_str()),
-            ScopeEdit::RemoveContext(key) => self.remove_context(key.as_str()),
-            ScopeEdit::ClearBreadcrumbs => self.clear_breadcrumbs(),
-            ScopeEdit::ClearAttachments => self.clear_attachments(),
-        }
-        Ok(())
+        setter.apply_to(self)
     }
 
     /// Makes the calls in turn. If memory runs out, some of them were made.

@@ -1,13 +1,12 @@
-//! What no contract says: that calls succeed with enough memory, what a drain finds, and that threads lose nothing.
+//! Losses: calls succeed with enough memory, a drain finds what was recorded before it, and threads lose nothing.
 ghost use Rattle.std.specs.Prelude.{◌≡◌};
 
-use crate::client_reports::closing::close_one;
-use crate::client_reports::draining::drain_all;
-use crate::client_reports::part::{COUNTERS, Part};
-use crate::client_reports::{Drainer, LossBook, LossWords, Recorder, TransportLossReason};
 use sentry_base::protocol::{
     Attachment, Category, ClientReport, ClientReportItem, Envelope, EnvelopeItem, Event, Label,
     Losses, Reason, Uuid,
+};
+use sentry_client_reports::client_reports::{
+    Drainer, LossBook, LossWords, Recorder, TransportLossReason,
 };
 use sentry_plain::{Items, Text};
 use std::alloc::{AllocError, Global};
@@ -32,17 +31,28 @@ fn report(
     Ok(ClientReport { items })
 }
 
-fn lost_envelope(alloc: Global) -> Result<Envelope, AllocError> {
-    let attachment = Attachment {
+fn event(alloc: Global) -> Result<EnvelopeItem, AllocError> {
+    Ok(EnvelopeItem::Event(Event::new(alloc, Uuid::nil(), 0)?))
+}
+
+fn attachment(alloc: Global) -> Result<EnvelopeItem, AllocError> {
+    Ok(EnvelopeItem::Attachment(Attachment {
         filename: Text::new(alloc, "log.txt")?,
         buffer: Items::new(alloc),
         content_type: None,
-    };
+    }))
+}
+
+fn lost_spans(alloc: Global) -> Result<EnvelopeItem, AllocError> {
     let spans = report(alloc, Category::Span, Reason::QueueOverflow, 3)?;
+    Ok(EnvelopeItem::ClientReport(spans))
+}
+
+fn lost_envelope(alloc: Global) -> Result<Envelope, AllocError> {
     let mut envelope = Envelope::new(alloc);
-    envelope.add_item(EnvelopeItem::Event(Event::new(alloc, Uuid::nil(), 0)?))?;
-    envelope.add_item(EnvelopeItem::Attachment(attachment))?;
-    envelope.add_item(EnvelopeItem::ClientReport(spans))?;
+    envelope.add_item(event(alloc)?)?;
+    envelope.add_item(attachment(alloc)?)?;
+    envelope.add_item(lost_spans(alloc)?)?;
     Ok(envelope)
 }
 
@@ -54,7 +64,7 @@ fn a_lost_envelope_counts_each_of_its_items(rt: HostRuntime) -> Result<(), Fail>
     recorder.record_lost_data(&envelope, TransportLossReason::QueueOverflow);
     let (label, losses) = drainer.drain().into_parts();
     assert!(rt; label == LABEL);
-    let mut expected = [0; COUNTERS];
+    let mut expected = Losses::none().quantities;
     expected[8] = 1;
     expected[26] = 3;
     expected[44] = 1;
@@ -64,23 +74,19 @@ fn a_lost_envelope_counts_each_of_its_items(rt: HostRuntime) -> Result<(), Fail>
 }
 
 #[test]
-fn a_drain_takes_what_was_raised_before_it(rt: HostRuntime) -> Result<(), Fail> {
-    let mut recorder = Part::open(rt.alloc())?;
-    let mut drainer = recorder.split()?;
-    recorder.add(11, 5);
-    assert!(rt; drain_all(&mut drainer) == [0; COUNTERS]);
-    recorder.raise(0);
-    assert!(rt; drain_all(&mut drainer)[11] == 5);
-    // The drain lowered the flag.
-    assert!(rt; !drainer.lower(0));
-    recorder.add(12, u64::MAX);
-    recorder.raise(0);
-    recorder.add(12, 2);
-    drop(drainer);
-    let Ok(counters) = close_one(recorder) else {
-        panic!(rt; "not closed")
-    };
-    assert!(rt; counters[12] == 1 && counters[11] == 0);
+fn a_drain_takes_what_was_recorded_since_the_last(rt: HostRuntime) -> Result<(), Fail> {
+    let alloc: Global = rt.alloc();
+    let most = report(alloc, Category::Error, Reason::SendError, u64::MAX)?;
+    let two = report(alloc, Category::Error, Reason::SendError, 2)?;
+    let (mut recorder, mut drainer) = LossWords::new(alloc, LABEL)?;
+    recorder.record_lost_data(&two, TransportLossReason::SendError);
+    let (_, losses) = drainer.drain().into_parts();
+    assert!(rt; losses == Losses::of(Category::Error, Reason::SendError, 2));
+    // a counter counts modulo 2^64
+    recorder.record_lost_data(&most, TransportLossReason::SendError);
+    recorder.record_lost_data(&two, TransportLossReason::SendError);
+    let (_, losses) = drainer.drain().into_parts();
+    assert!(rt; losses == Losses::of(Category::Error, Reason::SendError, 1));
     Ok(())
 }
 

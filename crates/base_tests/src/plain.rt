@@ -34,17 +34,29 @@ fn nested_values(alloc: Global) -> Result<ValueMap, AllocError> {
     Ok(map)
 }
 
+/// `{"truth": null}`
+fn winning_values(alloc: Global) -> Result<ValueMap, AllocError> {
+    let mut wins = ValueMap::new(alloc);
+    wins.insert(Text::new(alloc, "truth")?, Value::Null)?;
+    Ok(wins)
+}
+
+/// Whether the values are equal to their clone, and not once those that win are merged into them.
+fn are_merged(values: &mut ValueMap, wins: &ValueMap) -> Result<bool, AllocError> {
+    let copy = values.clone()?;
+    let is_copy = copy == *values && is_same(&copy, values);
+    values.merge(wins)?;
+    Ok(is_copy && copy != *values)
+}
+
 #[test]
 fn nested_values_are_merged_and_compared(rt: HostRuntime) -> Result<(), Fail> {
     let alloc = rt.alloc();
-    let mut wins = ValueMap::new(alloc);
-    wins.insert(Text::new(alloc, "truth")?, Value::Null)?;
+    let wins = winning_values(alloc)?;
     let mut merged = nested_values(alloc)?;
-    let copy = merged.clone()?;
-    let is_copy = copy == merged && is_same(&copy, &merged);
-    merged.merge(&wins)?;
-    let is_merged = copy != merged && merged.get("truth") == Some(&Value::Null);
-    assert!(rt; is_copy && is_merged && merged.remove("list").is_some());
-    assert!(rt; merged == wins);
+    assert!(rt; are_merged(&mut merged, &wins)?);
+    let is_replaced = merged.get("truth") == Some(&Value::Null);
+    let is_removed = merged.remove("list").is_some();
+    assert!(rt; is_replaced && is_removed && merged == wins);
     Ok(())
 }
