@@ -1,6 +1,6 @@
 //! How a message is handed to a client itself, without a scope.
 ghost use Rattle.std.specs.Prelude.{◌≡◌, IfOk};
-ghost use Rattle.sentry_sending.specs.Captures.{message_event};
+ghost use Rattle.sentry_captures.specs.Captures.{message_event};
 
 use crate::answer::{Answer, Reply};
 use crate::fault::Failure;

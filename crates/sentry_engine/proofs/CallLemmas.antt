@@ -23,8 +23,8 @@ use Rattle.sentry_base.specs.declared.protocol.keys.Label.{Label}
 use Rattle.sentry_state.specs.Books.{without_unused_book, with_book}
 use Rattle.sentry_engine.specs.Clients.{add_client, drop_client}
 use Rattle.sentry_state.specs.Clients.{new_client, is_client_named, has_session_of}
-use Rattle.sentry_sending.specs.Flushes.{flush_queues}
-use Rattle.sentry_sending.specs.declared.flushes.Flush.TheVariants.{All}
+use Rattle.sentry_queues.specs.Flushes.{flush_queues}
+use Rattle.sentry_queues.specs.declared.flushes.Flush.TheVariants.{All}
 use Rattle.sentry_engine.specs.Hubs.{configure, is_clear}
 use Rattle.sentry_engine.specs.Layers.{pop_scope}
 use Rattle.sentry_state.specs.Outcomes.{Outcome, IsAnswer, Does, plain_client_at, hub_at, reply_with, with_hub, with_scope, with_stack}

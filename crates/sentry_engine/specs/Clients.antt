@@ -18,9 +18,9 @@ use Rattle.sentry_client_reports.specs.LossBooks.{report_point}
 use Rattle.sentry_pipeline.specs.Pipeline.{loss_reason}
 use Rattle.sentry_pipeline.specs.Pipeline as pipeline
 use Rattle.sentry_state.specs.Books.{with_book, without_unused_book, with_report, pending_report, with_entry, with_entry_if_any}
-use Rattle.sentry_sending.specs.Captures.{lost_event, event_to_send, capture, captured_id, captured_envelopes, attachments_of}
-use Rattle.sentry_sending.specs.declared.flushes.Flush.TheVariants.{All, Due, Closing}
-use Rattle.sentry_sending.specs.Flushes.{flush_queues}
+use Rattle.sentry_captures.specs.Captures.{lost_event, event_to_send, capture, captured_id, captured_envelopes, attachments_of}
+use Rattle.sentry_queues.specs.declared.flushes.Flush.TheVariants.{All, Due, Closing}
+use Rattle.sentry_queues.specs.Flushes.{flush_queues}
 use Rattle.sentry_sending.specs.Sending.{reply_sending}
 use Rattle.sentry_state.specs.Worlds.{World}
 use Rattle.sentry_state.specs.Outcomes.{Outcome, require_some, require, reply_with, client_at, plain_client_at}

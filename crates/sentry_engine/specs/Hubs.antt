@@ -17,7 +17,7 @@ use Rattle.sentry_scope.specs.Scopes.{edit_all}
 use Rattle.sentry_scope.specs.Stacks.{one_layer}
 use Rattle.sentry_base.specs.Callbacks.{Partial}
 use Rattle.sentry_options.specs.Meanings.{Meanings}
-use Rattle.sentry_sending.specs.Captures.{message_event, capture_event}
+use Rattle.sentry_captures.specs.Captures.{message_event, capture_event}
 use Rattle.sentry_sending.specs.SessionEnds.{release_session}
 use Rattle.sentry_state.specs.Changes.{with_session, next_hub_key, with_new_hub}
 use Rattle.sentry_engine.specs.Clients.{is_enabled_client}

@@ -16,8 +16,8 @@ use Rattle.sentry_engine.specs.Layers as layers
 use Rattle.sentry_engine.specs.Losses as losses
 use Rattle.sentry_engine.specs.Sessions as sessions
 use Rattle.sentry_engine.specs.Telemetry as telemetry
-use Rattle.sentry_state.specs.Hubs.{add_breadcrumbs}
-use Rattle.sentry_sending.specs.Captures.{capture_event}
+use Rattle.sentry_changes.specs.Hubs.{add_breadcrumbs}
+use Rattle.sentry_captures.specs.Captures.{capture_event}
 
 module _ {P C T : Type 0} where
   -- an answer whose reply is put into the one type of replies

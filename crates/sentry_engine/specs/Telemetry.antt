@@ -10,7 +10,7 @@ use Rattle.sentry_scope.specs.declared.scope.Scope.{Scope}
 use Rattle.sentry_state.specs.Outcomes.{Outcome, require_some, let_some, reply_with, hub_at, plain_client_at}
 use Rattle.sentry_sending.specs.Sending.{reply_sending}
 use Rattle.sentry_state.specs.Worlds.{World}
-use Rattle.sentry_sending.specs.Telemetry.{client_log, client_metric, keep_log, keep_metric}
+use Rattle.sentry_queues.specs.Telemetry.{client_log, client_metric, keep_log, keep_metric}
 
 module _ {P C : Type 0} where
   -- a log of a client, under a scope

@@ -1,4 +1,1 @@
 pub mod SendingLemmas
-pub mod MailLemmas
-pub mod ChangeLemmas
-pub mod BatchSending

@@ -1,15 +1,24 @@
 //! How envelopes leave a client.
-ghost use Rattle.std.specs.Prelude.{◌≡◌, IfOk};
+ghost use Rattle.std.specs.Prelude.{◌≡◌, IfOk, OnOk};
 ghost use Rattle.sentry_state.specs.Worlds.{World, Stands};
-ghost use Rattle.sentry_state.specs.Books.{pending_report};
+ghost use Rattle.sentry_state.specs.Books.{pending_report, with_report};
 ghost use Rattle.sentry_sending.specs.Sending.{address, envelopes_from, after_sending};
 
-use crate::captures::add_report;
-use sentry_base::protocol::{ClientKey, ClientReport, Envelope, Label};
+use sentry_base::protocol::{ClientKey, ClientReport, Envelope, EnvelopeItem, Label};
 use sentry_options::clientoptions::Callbacks;
 use sentry_plain::Items;
 use sentry_state::state::State;
 use std::alloc::{AllocError, Global};
+
+/// Adds a report as the last item, if there is one.
+pub fn add_report(envelope: &mut Envelope, report: Option<ClientReport>) -> Result<(), AllocError>
+    ensures { OnOk result (envelope.new ≡ with_report report envelope.old) }
+{
+    match report {
+        None => Ok(()),
+        Some(report) => envelope.add_item(EnvelopeItem::ClientReport(report)),
+    }
+}
 
 // Gives the envelopes the client that is to send them, and the first of them the report.
 fn address(
@@ -28,8 +37,8 @@ fn address(
     Ok(sent)
 }
 
-// What leaves a client whose slot is occupied or not: the envelopes, the first with the pending report.
-pub(crate) fn envelopes_from<P: Drop, C: Callbacks>(
+/// What leaves a client whose slot is occupied or not: the envelopes, the first with the pending report.
+pub fn envelopes_from<P: Drop, C: Callbacks>(
     state: &State<P, C>,
     occupied: bool,
     key: ClientKey,
@@ -50,8 +59,8 @@ pub(crate) fn envelopes_from<P: Drop, C: Callbacks>(
     Ok(sent)
 }
 
-// Marks what is pending under a label as reported, once something was sent.
-pub(crate) fn mark_sent<P: Drop, C: Callbacks>(
+/// Marks what is pending under a label as reported, once something was sent.
+pub fn mark_sent<P: Drop, C: Callbacks>(
     state: &mut State<P, C>,
     label: Label,
     sent: &Items<(ClientKey, Envelope)>,

@@ -3,4 +3,3 @@ pub mod Books
 pub mod Outcomes
 pub mod Changes
 pub mod Clients
-pub mod Hubs

@@ -3,7 +3,7 @@
 ghost use Rattle.std.specs.Prelude.{◌≡◌, option_copied};
 ghost use Rattle.sentry_engine.specs.Clients as clients;
 ghost use Rattle.sentry_engine.specs.Hubs as hubs;
-ghost use Rattle.sentry_sending.specs.Captures.{capture_event};
+ghost use Rattle.sentry_captures.specs.Captures.{capture_event};
 ghost use Rattle.sentry_state.specs.Outcomes.{Does};
 
 use crate::engine::{Engine, Out};

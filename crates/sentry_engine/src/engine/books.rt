@@ -6,6 +6,7 @@ ghost use Rattle.sentry_engine.specs.Losses as call;
 
 use crate::engine::{Engine, Out};
 use sentry_base::protocol::{ClientReport, Label, Losses, Refusal};
+use sentry_changes::books::absorb_drained;
 use sentry_client_reports::client_reports::Drained;
 use sentry_options::clientoptions::Callbacks;
 
@@ -38,7 +39,7 @@ impl<P: Drop, C: Callbacks> Engine<P, C> {
         if !self.state.has_book(label) {
             return Err(Refusal::ForeignLosses);
         }
-        self.state.absorb_drained(label, losses);
+        absorb_drained(&mut self.state, label, losses);
         Ok(self.state.out(()))
     }
 

@@ -10,16 +10,17 @@ use sentry_base::dsn::Dsn;
 use sentry_base::protocol::{
     ClientKey, Draw, Envelope, Event, Fresh, Label, Refusal, SampleRate, Uuid,
 };
+use sentry_captures::captures::{
+    capture, captured_envelopes, captured_id, drop_unsent, into_box, note_capture,
+    record_lost_event,
+};
 use sentry_options::clientoptions::{Callbacks, ClientOptions};
 use sentry_pipeline::pipeline::prepare_event;
 use sentry_plain::{Boxed, Items, Shared};
+use sentry_queues::flushes::Flush;
+use sentry_queues::flushing::flush_queues;
 use sentry_scope::scope::Scope;
-use sentry_sending::captures::{
-    add_report, capture, captured_envelopes, captured_id, drop_unsent, into_box, note_capture,
-    record_lost_event,
-};
-use sentry_sending::flushes::Flush;
-use sentry_sending::flushing::flush_queues;
+use sentry_sending::sending::add_report;
 use sentry_state::state::clients::{clone_of, is_client_named, new_client};
 use std::alloc::Global;
 

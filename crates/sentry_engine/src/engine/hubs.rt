@@ -2,9 +2,9 @@
 ghost use Rattle.std.specs.Prelude.{◌≡◌, ℕ, true, false, IfOk, IfErr, Some, [], ◌∷◌, is_some, if◌then◌else◌};
 ghost use Rattle.std.specs.List.{list_any};
 ghost use Rattle.sentry_state.specs.Worlds.{World, Stands};
-ghost use Rattle.sentry_state.specs.Hubs.{add_breadcrumbs};
+ghost use Rattle.sentry_changes.specs.Hubs.{add_breadcrumbs};
 ghost use Rattle.sentry_state.specs.Outcomes.{Does, DoesWithoutMemory, hub_at};
-ghost use Rattle.sentry_sending.specs.Captures.{capture_event, message_event};
+ghost use Rattle.sentry_captures.specs.Captures.{capture_event, message_event};
 ghost use Rattle.sentry_engine.specs.Hubs.{is_clear};
 ghost use Rattle.sentry_engine.specs.Hubs as call;
 
@@ -14,10 +14,11 @@ use sentry_base::protocol::{
     Breadcrumb, ClientKey, ErrorLink, Event, Fresh, HubKey, Level, Refusal, Uuid,
 };
 use sentry_base::utils::event_from_error;
+use sentry_captures::captures::capture_on_hub;
+use sentry_changes::hubs;
 use sentry_options::clientoptions::Callbacks;
 use sentry_plain::{Boxed, Text};
 use sentry_scope::scope::{Scope, ScopeEdit, Stack};
-use sentry_sending::captures::capture_on_hub;
 use sentry_sending::session_ends::release_session;
 use std::alloc::{AllocError, Global};
 
@@ -77,11 +78,11 @@ impl<P: Drop, C: Callbacks> Engine<P, C> {
         if !self.state.holds(client) {
             return Err(Refusal::Stale);
         }
-        if !self.state.has_hub_number() {
+        if !hubs::has_hub_number(&self.state) {
             return Err(Refusal::Full);
         }
         let stack = Stack::from_client_and_scope(self.state.alloc, client, scope);
-        let key = self.state.insert_hub(stack)?;
+        let key = hubs::insert_hub(&mut self.state, stack)?;
         Ok(self.state.out(key))
     }
 
@@ -94,7 +95,7 @@ impl<P: Drop, C: Callbacks> Engine<P, C> {
         if self.state.hub_at(hub).is_none() {
             return Err(Refusal::Stale);
         }
-        self.state.edit_scope(hub.number, edit)?;
+        hubs::edit_scope(&mut self.state, hub.number, edit)?;
         Ok(self.state.out(()))
     }
 
@@ -109,7 +110,7 @@ impl<P: Drop, C: Callbacks> Engine<P, C> {
         };
         let mut scope = held.stack.top.scope.clone()?;
         scope.edit_all(edits)?;
-        self.state.set_scope(hub.number, scope);
+        hubs::set_scope(&mut self.state, hub.number, scope);
         Ok(self.state.out(()))
     }
 
@@ -130,7 +131,7 @@ impl<P: Drop, C: Callbacks> Engine<P, C> {
         let mut scope = held.stack.top.scope.clone()?;
         scope.edit_all(edits)?;
         let sent = release_session(&mut self.state, hub.number, now)?;
-        self.state.set_scope(hub.number, scope);
+        hubs::set_scope(&mut self.state, hub.number, scope);
         Ok(Out { reply: (), sent })
     }
 
@@ -168,7 +169,7 @@ impl<P: Drop, C: Callbacks> Engine<P, C> {
     ) -> Result<Out<()>, Refusal>
         ensures { Does self.old self.new result (add_breadcrumbs C.meanings hub breadcrumbs.items) }
     {
-        self.state.add_breadcrumbs(hub, breadcrumbs)
+        hubs::add_breadcrumbs(&mut self.state, hub, breadcrumbs)
     }
 
     /// The id that the last capture on a hub answered, if its top layer had a client at one.
@@ -262,7 +263,7 @@ impl<P: EventCallback + Drop, C: Callbacks> Engine<P, C> {
     }
 
     // The same as `capture_message`, of a text that needs no copy.
-    #[tactic(auto, unfolding(crate::specs::Hubs::capture_message, sentry_sending::specs::Captures::capture_event))]
+    #[tactic(auto, unfolding(crate::specs::Hubs::capture_message, sentry_captures::specs::Captures::capture_event))]
     pub(crate) fn capture_text(
         &mut self,
         hub: HubKey,
@@ -281,7 +282,7 @@ impl<P: EventCallback + Drop, C: Callbacks> Engine<P, C> {
     /// Captures an event of a message and a level on a hub, as `capture_event` does.
     ///
     /// `Stale`: the hub isn't held. `OutOfMemory`.
-    #[tactic(auto, unfolding(crate::specs::Hubs::capture_message, sentry_sending::specs::Captures::capture_event))]
+    #[tactic(auto, unfolding(crate::specs::Hubs::capture_message, sentry_captures::specs::Captures::capture_event))]
     pub fn capture_message(
         &mut self,
         hub: HubKey,
@@ -301,7 +302,7 @@ impl<P: EventCallback + Drop, C: Callbacks> Engine<P, C> {
     /// are given outermost first.
     ///
     /// `Stale`: the hub isn't held. `OutOfMemory`.
-    #[tactic(auto, unfolding(crate::specs::Hubs::capture_error, sentry_sending::specs::Captures::capture_event))]
+    #[tactic(auto, unfolding(crate::specs::Hubs::capture_error, sentry_captures::specs::Captures::capture_event))]
     pub fn capture_error(
         &mut self,
         hub: HubKey,

@@ -6,6 +6,7 @@ ghost use Rattle.sentry_engine.specs.Layers as call;
 
 use crate::engine::{Engine, Out};
 use sentry_base::protocol::{ClientKey, HubKey, Refusal};
+use sentry_changes::hubs;
 use sentry_options::clientoptions::Callbacks;
 use sentry_scope::scope::Stack;
 use sentry_sending::session_ends::release_session;
@@ -48,7 +49,7 @@ impl<P: Drop, C: Callbacks> Engine<P, C> {
         if self.state.hub_at(hub).is_none() {
             return Err(Refusal::Stale);
         }
-        let depth = self.state.push_layer(hub.number)?;
+        let depth = hubs::push_layer(&mut self.state, hub.number)?;
         Ok(self.state.out(ScopeGuard { hub, depth }))
     }
 
@@ -65,11 +66,11 @@ impl<P: Drop, C: Callbacks> Engine<P, C> {
         let Some(held) = self.state.hub_at(hub) else {
             return Err(Refusal::Stale);
         };
-        if !held.is_top_layer(depth) {
+        if !hubs::is_top_layer(held, depth) {
             return Err(Refusal::OutOfOrder);
         }
         let sent = release_session(&mut self.state, hub.number, now)?;
-        self.state.pop_layer(hub.number);
+        hubs::pop_layer(&mut self.state, hub.number);
         Ok(Out { reply: (), sent })
     }
 
@@ -105,11 +106,11 @@ impl<P: Drop, C: Callbacks> Engine<P, C> {
         let Some(held) = self.state.hub_at(hub) else {
             return Err(Refusal::Stale);
         };
-        if !self.state.has_hub_number() {
+        if !hubs::has_hub_number(&self.state) {
             return Err(Refusal::Full);
         }
         let stack = Stack::from_top(&held.stack)?;
-        let key = self.state.insert_hub(stack)?;
+        let key = hubs::insert_hub(&mut self.state, stack)?;
         Ok(self.state.out(key))
     }
 
@@ -149,7 +150,7 @@ impl<P: Drop, C: Callbacks> Engine<P, C> {
         if !self.state.holds(client) {
             return Err(Refusal::Stale);
         }
-        self.state.set_client(hub.number, client);
+        hubs::set_client(&mut self.state, hub.number, client);
         Ok(self.state.out(()))
     }
 }

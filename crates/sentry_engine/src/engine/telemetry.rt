@@ -5,8 +5,8 @@ ghost use Rattle.sentry_engine.specs.Telemetry as call;
 use crate::engine::{Engine, Out};
 use sentry_base::protocol::{ClientKey, HubKey, Log, MetricDraft, Refusal};
 use sentry_options::clientoptions::Callbacks;
+use sentry_queues::telemetry::{client_log, client_metric, keep_log, keep_metric};
 use sentry_scope::scope::Scope;
-use sentry_sending::telemetry::{client_log, client_metric, keep_log, keep_metric};
 
 impl<P: Drop, C: Callbacks> Engine<P, C> {
     /// Captures a log of a client, under a scope: it gets what the scope and the client fill in, goes through

@@ -26,6 +26,6 @@ returns g c = λ world here.
     ∙ value_replaced key.number c.self.inside.state.hubs unnamed hub there in
     let set = c.set_scope.ensures.in_world after unnamed released.1 still in
     let scope = c.in_ok-edit_all.ensures ∙ ap (edit_all c.args.edits.items) c.in_ok-scope.ensures.cases in
-    let stands = subst (λ (w : World g.row.P.Denot g.row.C.Denot). Stands c.set_scope.new.self w)
+    let stands = subst (λ (w : World g.row.P.Denot g.row.C.Denot). Stands c.set_scope.new.state w)
     (ap (λ edited. with_hub after key (with_scope unnamed edited)) scope) set in
     replied _ _ _ _ _ _ (configure_is key c.args.edits.items c.args.now world hub found c.requires) released.0 stands

@@ -1,0 +1,48 @@
+use Rattle.std.proofs.Common.{◌≡◌, ◌∙◌, ◌++◌, ◌-◌, ◌==◌, ap, sym, true, false, rules, refl, List, length}
+use Rattle.std.specs.Prelude.{Option, None, ◌&&◌}
+use Rattle.sentry_base.specs.declared.protocol.log.Log.{Log}
+use Rattle.sentry_batches.specs.Batches.{accept, batch_on, queued_items}
+use Rattle.sentry_batches.specs.declared.batcher.TheConstants.{BATCH_ITEMS}
+use Rattle.sentry_state.specs.Books.{pending_report}
+use Rattle.sentry_queues.specs.Flushes.{batch_envelopes}
+use Rattle.sentry_sending.specs.Sending.{address}
+use Rattle.sentry_queues.specs.Telemetry.{accept_log}
+use Rattle.sentry_state.specs.Changes.{with_log_entry}
+use Rattle.sentry_state.specs.Worlds.{ClientState}
+use Rattle.sentry_state.specs.declared.state.Client.{Client}
+use Rattle.sentry_queues.proofs.BatchSending.{and_true, unsent_item}
+use Rattle.sentry_queues.proofs.ChangeLemmas.{client_changed, client_changed_unsent, sent_if_occupied}
+use Rattle.sentry_queues.proofs.telemetry.accept_log.Goals as goal
+
+-- the slot is empty, or the log is not the hundredth
+pub returns-then-not-sends_next_log-clause-in_world : goal.returns-then-not-sends_next_log-clause-in_world
+unfolding accept_log
+returns-then-not-sends_next_log-clause-in_world g c = λ world s.
+    let stays : (c.in-Some.client.now.occupied && length c.in-Some.client.now.queues.logs.items == BATCH_ITEMS - 1) ≡ false = search rules in
+    client_changed_unsent c.args.key
+    (λ (client : ClientState g.row.C.Denot). batch_envelopes (batch_on (accept c.args.log) client.queues.logs) None)
+    (with_log_entry (accept c.args.log)) c.args.state.now c.enqueue_log.new.self world s c.in-Some.client.now
+    (c.in-Some.ensures world s) c.if-client.false c.new-then-not-sends_next_log.result c.new-then-not-sends_next_log.ensures (λ client there is. (
+      unsent_item c.args.key c.in-Some.client.now.occupied (pending_report world c.in-Some.client.now.label)
+          (λ (logs : Option (List Log)). batch_envelopes logs None) refl (queued_items client.queues.logs) c.args.log
+          (ap (λ (kept : Client g.row.C.Denot). c.in-Some.client.now.occupied && length kept.queues.logs.items == BATCH_ITEMS - 1) (sym is) ∙ stays),
+      c.in_ok-enqueue_log.ensures.in_world world client s there,
+    ))
+
+-- the hundredth log of an occupied slot
+pub returns-clause-in_world : goal.returns-clause-in_world
+unfolding accept_log
+returns-clause-in_world g c = λ world s.
+    let leaves : (c.in-Some.client.now.occupied && length c.in-Some.client.now.queues.logs.items == BATCH_ITEMS - 1) ≡ true = search rules in
+    client_changed c.args.key
+    (λ (client : ClientState g.row.C.Denot). batch_envelopes (batch_on (accept c.args.log) client.queues.logs) None)
+    (with_log_entry (accept c.args.log)) c.args.state.now c.mark_sent.new.state world s c.in-Some.client.now
+    (c.in-Some.ensures world s) c.if-client.false c.finish-sent.result (λ client there is.
+    let pending = pending_report world c.in-Some.client.now.label in
+    let batch = c.in_ok-logs.ensures.batch client there in
+    let mailed = c.in_ok-mail.ensures.sent world s (batch_envelopes c.in_ok-logs.logs None) in
+    let stands = c.in_ok-logs.ensures.in_world world client s there in (
+      sent_if_occupied c.args.key c.in-Some.client.now.occupied pending _ _ (and_true _ _ leaves)
+          (c.finish-sent.ensures ∙ (mailed ∙ (λ i. address c.args.key pending (c.new-2.ensures i ++ batch_envelopes (batch i) None)))),
+      c.mark_sent.ensures.in_world _ stands,
+    ))
