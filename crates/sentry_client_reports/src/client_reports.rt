@@ -12,6 +12,8 @@ mod reason;
 mod recorder;
 mod recording;
 mod step;
+#[cfg(test)]
+mod tests;
 
 pub use book::LossBook;
 pub use drainer::{Drained, Drainer};
