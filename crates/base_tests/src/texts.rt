@@ -1,9 +1,9 @@
 //! Headers, DSNs and errors, where no command makes the call.
 use crate::records::is_its_clone;
-use sentry_base::dsn::{Dsn, IntoDsn, ParseDsnError, ProjectId};
 use sentry_base::protocol::{ErrorLink, Refusal, SpanId, TraceId, Uuid};
-use sentry_base::utils::event_from_error;
 use sentry_plain::Text;
+use sentry_texts::dsn::{Dsn, IntoDsn, ParseDsnError, ProjectId};
+use sentry_texts::utils::event_from_error;
 use sentry_trace::headers::{SentryTrace, TracePropagationContext, parse_headers};
 use std::alloc::{AllocError, Global};
 use std::borrow::CowStr;

@@ -1,5 +1,5 @@
-//! Recorders in threads of their own.
-use sentry_base::protocol::{Category, Label, LossSource, Losses, Reason, Refusal};
+//! Recorders in threads of their own, and drains.
+use sentry_base::protocol::{CATEGORIES, Category, Label, LossSource, Losses, Reason, Refusal};
 use sentry_client_reports::client_reports::{Drainer, LossWords, Recorder, TransportLossReason};
 use std::alloc::Global;
 use std::thread;
@@ -7,23 +7,37 @@ use std::thread::Threads;
 
 const LABEL: Label = Label { tag: 1, number: 0 };
 
-// What is recorded: an event's loss, without the event.
-struct LostEvent;
+// What is recorded: the loss of an item of a category, without the item.
+#[derive(Drop)]
+struct LostItem {
+    category: Category,
+}
 
-impl LossSource for LostEvent {
-    ghost use Rattle.sentry_base.specs.declared.protocol.losses.Category.TheVariants.{Error};
+impl LossSource for LostItem {
     ghost use Rattle.sentry_base.specs.Losses.{loss_of};
 
-    ghost losses_under = { λ _ reason. loss_of Error reason 1 };
+    ghost losses_under = { λ item reason. loss_of item.category reason 1 };
 
     fn losses(&self, reason: Reason) -> Losses {
-        Losses::of(Category::Error, reason, 1)
+        Losses::of(self.category, reason, 1)
     }
 }
 
-fn record_many(mut recorder: Recorder, times: u64) {
+// A thread's recorder, and what it loses.
+#[derive(Drop)]
+struct Job {
+    recorder: Recorder,
+    category: Category,
+}
+
+fn record_many(job: Job, times: u64) {
+    let Job {
+        mut recorder,
+        category,
+    } = job;
+    let item = LostItem { category };
     for _ in 0..times {
-        recorder.record_lost_data(&LostEvent, TransportLossReason::NetworkError);
+        recorder.record_lost_data(&item, TransportLossReason::NetworkError);
     }
 }
 
@@ -36,16 +50,53 @@ fn drain_many(drainer: &mut Drainer, drains: u64) -> Losses {
     sums
 }
 
-fn split_many(alloc: Global, first: Recorder, threads: u64) -> Result<Vec<Recorder>, Refusal> {
-    let mut recorders = Vec::new(alloc);
+// Into which counters threads record.
+#[derive(Clone, Copy)]
+pub enum Spread {
+    /// All into one.
+    OneCategory,
+    /// Each into one of its own category, for up to seven threads.
+    OwnCategories,
+}
+
+fn category_of(spread: Spread, thread: u64) -> Category {
+    match spread {
+        Spread::OneCategory => Category::Error,
+        Spread::OwnCategories => Category::at(thread as usize % CATEGORIES),
+    }
+}
+
+fn split_many(
+    alloc: Global,
+    first: Recorder,
+    threads: u64,
+    spread: Spread,
+) -> Result<Vec<Job>, Refusal> {
+    let mut jobs = Vec::new(alloc);
     let mut last = first;
-    for _ in 1..threads {
-        let (one, other) = last.split().map_err(|(refusal, _)| refusal)?;
-        recorders.push(one).map_err(|_| Refusal::OutOfMemory)?;
+    for thread in 1..threads {
+        let (recorder, other) = last.split().map_err(|(refusal, _)| refusal)?;
+        let category = category_of(spread, thread);
+        jobs.push(Job { recorder, category })
+            .map_err(|_| Refusal::OutOfMemory)?;
         last = other;
     }
-    recorders.push(last).map_err(|_| Refusal::OutOfMemory)?;
-    Ok(recorders)
+    let category = category_of(spread, 0);
+    jobs.push(Job {
+        recorder: last,
+        category,
+    })
+    .map_err(|_| Refusal::OutOfMemory)?;
+    Ok(jobs)
+}
+
+// The losses of all categories.
+fn total(losses: &Losses) -> u64 {
+    let mut sum = 0u64;
+    for category in 0..CATEGORIES {
+        sum = sum.wrapping_add(losses.get(Category::at(category), Reason::NetworkError));
+    }
+    sum
 }
 
 /// The losses that were drained and what stood at the end; none where the words could not be closed.
@@ -55,13 +106,14 @@ pub fn count_losses<R: Threads + Sync>(
     threads: u64,
     times: u64,
     drains: u64,
+    spread: Spread,
 ) -> Result<Option<u64>, Refusal> {
     let (recorder, mut drainer) = LossWords::new(alloc, LABEL)?;
-    let recorders = split_many(alloc, recorder, threads)?;
+    let jobs = split_many(alloc, recorder, threads, spread)?;
     let lent = &mut drainer;
     let (recorded, mut sums) = thread::join(
         rt,
-        || thread::map_vec(rt, recorders, &|recorder| record_many(recorder, times)),
+        || thread::map_vec(rt, jobs, &|job: Job| record_many(job, times)),
         || drain_many(lent, drains),
     );
     let _ = recorded?;
@@ -69,5 +121,26 @@ pub fn count_losses<R: Threads + Sync>(
         return Ok(None);
     };
     sums.add(&standing);
-    Ok(Some(sums.get(Category::Error, Reason::NetworkError)))
+    Ok(Some(total(&sums)))
+}
+
+/// The losses that so many drains of words without any find, which is none.
+pub fn drain_quiet(alloc: Global, drains: u64) -> Result<u64, Refusal> {
+    let (_recorder, mut drainer) = LossWords::new(alloc, LABEL)?;
+    Ok(total(&drain_many(&mut drainer, drains)))
+}
+
+/// The losses that so many drains find, where one is recorded before each.
+pub fn drain_raised(alloc: Global, drains: u64) -> Result<u64, Refusal> {
+    let (mut recorder, mut drainer) = LossWords::new(alloc, LABEL)?;
+    let item = LostItem {
+        category: Category::Error,
+    };
+    let mut found = 0u64;
+    for _ in 0..drains {
+        recorder.record_lost_data(&item, TransportLossReason::NetworkError);
+        let (_label, losses) = drainer.drain().into_parts();
+        found = found.wrapping_add(losses.get(Category::Error, Reason::NetworkError));
+    }
+    Ok(found)
 }

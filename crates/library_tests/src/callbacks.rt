@@ -102,6 +102,72 @@ impl Integration for Multiplies {
     }
 }
 
+/// Drops every event.
+#[derive(Drop)]
+struct DropsAll;
+
+impl Integration for DropsAll {
+    ghost use Rattle.std.specs.Prelude.{None, codes};
+
+    ghost meaning = { λ _. record {
+      name = codes "drops all";
+      setup = λ options. options;
+      process_event = λ _ event. None;
+    } };
+
+    fn name(&self) -> &str {
+        "drops all"
+    }
+
+    fn setup(&self, _options: &mut PlainOptions) -> Result<(), AllocError> {
+        Ok(())
+    }
+
+    fn process_event(
+        &self,
+        _event: Event,
+        _options: &PlainOptions,
+    ) -> Result<Option<Event>, AllocError> {
+        Ok(None)
+    }
+}
+
+/// When the client is added whose integration `Starves` is. No event that a test captures is of this moment.
+const ADDED: u64 = 77;
+
+/// Is refused its memory for every event but that of `add_client`.
+#[derive(Drop)]
+struct Starves;
+
+impl Integration for Starves {
+    ghost use Rattle.std.specs.Prelude.{Some, codes};
+
+    ghost meaning = { λ _. record {
+      name = codes "starves";
+      setup = λ options. options;
+      process_event = λ _ event. Some event;
+    } };
+
+    fn name(&self) -> &str {
+        "starves"
+    }
+
+    fn setup(&self, _options: &mut PlainOptions) -> Result<(), AllocError> {
+        Ok(())
+    }
+
+    fn process_event(
+        &self,
+        event: Event,
+        _options: &PlainOptions,
+    ) -> Result<Option<Event>, AllocError> {
+        if event.timestamp != ADDED {
+            return Err(AllocError);
+        }
+        Ok(Some(event))
+    }
+}
+
 /// A callback that adds to the moment, or, at 0, is refused its memory.
 fn boxed_adds(alloc: Global, number: u64) -> Result<BoxedEventCallback, AllocError> {
     let callback: BoxedEventCallback = Box::new(alloc, Adds(number))?;
@@ -109,7 +175,7 @@ fn boxed_adds(alloc: Global, number: u64) -> Result<BoxedEventCallback, AllocErr
 }
 
 /// A callback that drops every event.
-fn boxed_drops(alloc: Global) -> Result<BoxedEventCallback, AllocError> {
+pub(crate) fn boxed_drops(alloc: Global) -> Result<BoxedEventCallback, AllocError> {
     let callback: BoxedEventCallback = Box::new(alloc, Drops)?;
     Ok(callback)
 }
@@ -130,6 +196,18 @@ fn boxed_multiplies(
     Ok(integration)
 }
 
+/// An integration that drops every event.
+fn boxed_drops_all(alloc: Global) -> Result<BoxedIntegration, AllocError> {
+    let integration: BoxedIntegration = Box::new(alloc, DropsAll)?;
+    Ok(integration)
+}
+
+/// An integration that is refused its memory for every event that is captured.
+fn boxed_starves(alloc: Global) -> Result<BoxedIntegration, AllocError> {
+    let integration: BoxedIntegration = Box::new(alloc, Starves)?;
+    Ok(integration)
+}
+
 /// A scope after calls of its setters, of which the first adds a processor.
 fn scope_with(alloc: Global, processor: BoxedEventCallback) -> Result<Scope, Refusal> {
     let mut scope = scope(alloc);
@@ -137,7 +215,7 @@ fn scope_with(alloc: Global, processor: BoxedEventCallback) -> Result<Scope, Ref
     scope.set_level(Some(Level::Warning));
     scope.set_tag("a", "1")?;
     scope.set_tag("b", "2")?;
-    scope.remove_tag("b");
+    scope.remove_tag("b")?;
     Ok(scope)
 }
 
@@ -227,6 +305,49 @@ fn boxed_callbacks_run_in_order(rt: HostRuntime) -> Result<(), Fail> {
     Ok(())
 }
 
+#[test]
+fn a_hub_without_a_client_answers_the_nil_id(rt: HostRuntime) -> Result<(), Fail> {
+    let alloc = rt.alloc();
+    let mut engine = Engine::new(alloc, 0);
+    let hub = engine.new_hub(None, scope(alloc))?.reply;
+    let outcome = capture_on(alloc, &mut engine, hub)?;
+    assert_eq!(rt; outcome, (Uuid::nil(), None, None));
+    Ok(())
+}
+
+/// What an event at moment 1 comes to on a hub of a client with these integrations, which a `before_send` follows that is
+/// refused its memory for every event, so that a call of it shows.
+fn capture_behind(
+    alloc: Global,
+    first: BoxedIntegration,
+    second: BoxedIntegration,
+) -> Result<Outcome, Refusal> {
+    let options = options(alloc)?
+        .before_send(boxed_adds(alloc, 0)?)?
+        .add_integration(first)?
+        .add_integration(second)?;
+    let mut engine = Engine::new(alloc, 0);
+    let client = engine.add_client(options, true, LABEL, ADDED)?.reply;
+    let hub = engine.new_hub(Some(client), scope(alloc))?.reply;
+    capture_on(alloc, &mut engine, hub)
+}
+
+#[test]
+fn nothing_runs_after_an_integration_that_drops(rt: HostRuntime) -> Result<(), Fail> {
+    let alloc = rt.alloc();
+    // the second one is refused its memory for every event too
+    let outcome = capture_behind(alloc, boxed_drops_all(alloc)?, boxed_starves(alloc)?)?;
+    assert_eq!(rt; outcome, dropped());
+    let refusal = capture_behind(
+        alloc,
+        boxed_multiplies(alloc, 1, None)?,
+        boxed_starves(alloc)?,
+    )
+    .err();
+    assert_eq!(rt; refusal, Some(Refusal::OutOfMemory));
+    Ok(())
+}
+
 /// What a client with the callbacks above answers and sends of an event at moment 1 that it captures under a scope.
 fn client_capture(
     alloc: Global,
@@ -268,7 +389,9 @@ fn breadcrumbs_kept(
     let hub = add_client_and_hub(&mut engine, options, true, scope(alloc))?;
     let breadcrumbs = breadcrumbs_below(alloc, count)?;
     let refusal = engine.add_breadcrumbs(hub, breadcrumbs).err();
-    Ok((refusal, engine.scope(hub)?.reply.breadcrumbs.len()))
+    let scope = engine.scope(hub)?.reply;
+    let kept = scope.breadcrumbs.get().map_or(0, |trail| trail.len());
+    Ok((refusal, kept))
 }
 
 #[test]

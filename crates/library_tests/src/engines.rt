@@ -1,6 +1,6 @@
 //! Calls whose keys, labels or lists no command can name, and what a refused call hands back.
 use sentry_core::client_report::{Drained, LossWords, TransportLossReason};
-use sentry_core::engine::{Call, Engine, Out, Reply};
+use sentry_core::engine::{Call, ClientCall, Engine, HubCall, Out, Reply};
 use sentry_core::protocol::{
     ClientKey, Draw, Event, Fresh, HubKey, Label, Refusal, SpanId, TraceId, Uuid,
 };
@@ -128,34 +128,34 @@ const HUB: HubKey = HubKey { tag: 0, number: 0 };
 fn calls(alloc: Global) -> Result<Vec<Call>, Refusal> {
     let mut calls = Items::new(alloc);
     calls.push(add_client_call(alloc)?)?;
-    calls.push(Call::LastEventId(HUB))?;
+    calls.push(Call::Hub(HubCall::LastEventId(HUB)))?;
     calls.push(new_hub_call(alloc)?)?;
     calls.push(capture_call(alloc)?)?;
     Ok(calls.into_vec())
 }
 
 fn add_client_call(alloc: Global) -> Result<Call, Refusal> {
-    Ok(Call::AddClient {
+    Ok(Call::Client(ClientCall::AddClient {
         options: Boxed::new(alloc, options(alloc)?)?,
         transport: true,
         label: LABEL,
         now: 0,
-    })
+    }))
 }
 
 fn new_hub_call(alloc: Global) -> Result<Call, AllocError> {
-    Ok(Call::NewHub {
+    Ok(Call::Hub(HubCall::NewHub {
         client: Some(CLIENT),
         scope: Boxed::new(alloc, scope(alloc))?,
-    })
+    }))
 }
 
 fn capture_call(alloc: Global) -> Result<Call, AllocError> {
-    Ok(Call::CaptureEvent {
+    Ok(Call::Hub(HubCall::CaptureEvent {
         hub: HUB,
         event: Boxed::new(alloc, Event::new(alloc, id(9), 1)?)?,
         fresh: fresh(1),
-    })
+    }))
 }
 
 /// What was answered to those calls: the refusal, the id of the event, and the number of its envelopes.
@@ -195,11 +195,11 @@ fn pop_by_turns(engine: &mut Engine, guard: ScopeGuard) -> (Option<Refusal>, boo
     let Some((refusal, guard)) = refused_pop(engine, guard) else {
         return (None, false);
     };
-    let top = Call::PopScope {
+    let top = Call::Hub(HubCall::PopScope {
         hub: HUB,
         depth: 2,
         now: 0,
-    };
+    });
     let is_popped = engine.apply(top).is_ok();
     match refused_pop(engine, guard) {
         None => (Some(refusal), is_popped),
@@ -223,7 +223,7 @@ fn push_and_pop(
     scope: Scope,
 ) -> Result<(bool, (Option<Refusal>, bool)), Refusal> {
     let guard = push_on_new_hub(engine, scope)?;
-    let is_pushed = engine.apply(Call::PushScope(HUB)).is_ok();
+    let is_pushed = engine.apply(Call::Hub(HubCall::PushScope(HUB))).is_ok();
     Ok((is_pushed, pop_by_turns(engine, guard)))
 }
 

@@ -7,6 +7,12 @@ mod callbacks;
 #[cfg(test)]
 mod engines;
 #[cfg(test)]
+mod failures;
+#[cfg(test)]
+mod keys;
+#[cfg(test)]
+mod laws;
+#[cfg(test)]
 mod options;
 #[cfg(test)]
 mod streams;

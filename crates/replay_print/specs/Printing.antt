@@ -19,6 +19,7 @@ use Rattle.sentry_base.specs.declared.protocol.session.SessionAggregates.{Sessio
 use Rattle.sentry_base.specs.declared.protocol.session.SessionStatus.{SessionStatus}
 use Rattle.sentry_base.specs.declared.protocol.session.SessionStatus.TheVariants as session_status
 use Rattle.sentry_base.specs.declared.protocol.session.SessionUpdate.{SessionUpdate}
+use Rattle.sentry_base.specs.declared.protocol.transaction.Transaction.{Transaction}
 
 -- the word for a level
 abbrev pub level_word : Level → Bytes
@@ -62,6 +63,16 @@ session_text update =
 abbrev pub aggregates_text : SessionAggregates → Bytes
 aggregates_text aggregates = codes "aggregates " ++ decimal (length aggregates.aggregates)
 
+-- how many spans a transaction has, and its name
+abbrev pub spans_text : ℕ → Bytes → Bytes
+spans_text count name = codes " spans=" ++ decimal count ++ codes " " ++ name
+
+-- the id in hexadecimal digits, the tags, how many spans there are, and the name or a dash; no command sends one
+abbrev pub transaction_text : Transaction → Bytes
+transaction_text transaction =
+    codes "transaction " ++ simple_text lower transaction.event_id ++ codes " " ++ tags_text transaction.tags
+    ++ spans_text (length transaction.spans) (unwrap_or transaction.name (codes "-"))
+
 -- the name of an attachment; no command sends one yet
 abbrev pub attachment_text : Attachment → Bytes
 attachment_text attachment = codes "attachment " ++ attachment.filename
@@ -83,6 +94,7 @@ abbrev pub item_text : EnvelopeItem → Bytes
 item_text (item.Event event) = event_text event
 item_text (item.SessionUpdate update) = session_text update
 item_text (item.SessionAggregates aggregates) = aggregates_text aggregates
+item_text (item.Transaction transaction) = transaction_text transaction
 item_text (item.Attachment attachment) = attachment_text attachment
 item_text (item.Logs logs) = batch_text (codes "logs") (length logs)
 item_text (item.Metrics metrics) = batch_text (codes "metrics") (length metrics)

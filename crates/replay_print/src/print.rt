@@ -1,14 +1,14 @@
 //! What is printed of envelopes.
-ghost use Rattle.std.specs.Prelude.{◌≡◌, ◌++◌, OnOk, string_bytes};
+ghost use Rattle.std.specs.Prelude.{◌≡◌, ◌++◌, OnOk, codes, string_bytes, unwrap_or};
 ghost use Rattle.std.specs.List.{join_by};
 ghost use Rattle.sentry_plain.specs.Texts.{Bytes};
 ghost use Rattle.replay_print.specs.Printing.{level_word};
 ghost use Rattle.replay_print.specs.Printing.{status_word, bool_word, session_text, aggregates_text};
-ghost use Rattle.replay_print.specs.Printing.{tag_text, tags_text, event_text, attachment_text, batch_text, loss_text, report_text, item_text, envelope_line};
+ghost use Rattle.replay_print.specs.Printing.{tag_text, tags_text, event_text, spans_text, transaction_text, attachment_text, batch_text, loss_text, report_text, item_text, envelope_line};
 
 use sentry_base::protocol::{
     Attachment, ClientKey, ClientReport, ClientReportItem, Envelope, EnvelopeItem, Event, Level,
-    SessionAggregates, SessionStatus, SessionUpdate,
+    SessionAggregates, SessionStatus, SessionUpdate, Transaction,
 };
 use sentry_plain::{Text, TextMap};
 use std::alloc::AllocError;
@@ -126,6 +126,33 @@ impl Print for SessionAggregates {
     }
 }
 
+fn name_or_dash(name: &Option<Text>) -> &str
+    ensures { result.now ≡ unwrap_or name.now (codes "-") }
+{
+    match name {
+        Some(name) => name.as_str(),
+        None => "-",
+    }
+}
+
+// How many spans a transaction has, and its name.
+fn print_spans(count: usize, name: &str, text: &mut String) -> Result<(), AllocError>
+    ensures { OnOk result (string_bytes text.new ≡ string_bytes text.old ++ spans_text count name.now) }
+{
+    write!(text, " spans={count} {name}")
+}
+
+impl Print for Transaction {
+    ghost shown = { transaction_text };
+
+    fn print(&self, text: &mut String) -> Result<(), AllocError> {
+        let id = self.event_id.simple();
+        write!(text, "transaction {id} ")?;
+        print_tags(&self.tags, text)?;
+        print_spans(self.spans.len(), name_or_dash(&self.name), text)
+    }
+}
+
 impl Print for Attachment {
     ghost shown = { attachment_text };
 
@@ -170,6 +197,7 @@ impl Print for EnvelopeItem {
             EnvelopeItem::Event(event) => event.print(text),
             EnvelopeItem::SessionUpdate(update) => update.print(text),
             EnvelopeItem::SessionAggregates(aggregates) => aggregates.print(text),
+            EnvelopeItem::Transaction(transaction) => transaction.print(text),
             EnvelopeItem::Attachment(attachment) => attachment.print(text),
             EnvelopeItem::Logs(logs) => print_batch("logs", logs.len(), text),
             EnvelopeItem::Metrics(metrics) => print_batch("metrics", metrics.len(), text),

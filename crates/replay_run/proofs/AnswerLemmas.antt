@@ -2,7 +2,7 @@
 use Rattle.std.proofs.Common.{◌≡◌, false}
 use Rattle.sentry_state.specs.Worlds.{Stands}
 use Rattle.sentry_state.specs.Outcomes.{DoesWith}
-use Rattle.sentry_engine.specs.Runs.{step, takes_no_memory}
+use Rattle.sentry_calls.specs.Steps.{step, takes_no_memory}
 use Rattle.sentry_engine.proofs.RunLemmas.{may_from_does}
 use Rattle.replay_run.specs.Engines.{same_event, no_callbacks, ReplayState, ReplayWorld, ReplayCall, ReplayAnswer}
 use Rattle.replay_run.specs.Replays.{is_out_of_memory, MayAnswer}

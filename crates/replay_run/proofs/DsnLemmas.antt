@@ -3,8 +3,8 @@ use Rattle.std.proofs.Common.{◌≡◌, refl, inl, inr, ◌⊎◌}
 use Rattle.std.specs.Prelude.{Result, Ok, Err, IfOk}
 use Rattle.std.specs.Result.{result_or}
 use Rattle.url.proofs.OnLiterals.{url_on_literals}
-use Rattle.sentry_base.specs.DsnTexts.{dsn_of_text, GivesDsn, IsRefusedAsTooLong}
-use Rattle.sentry_base.specs.DsnParts.{DsnParts}
+use Rattle.sentry_texts.specs.DsnTexts.{dsn_of_text, GivesDsn, IsRefusedAsTooLong}
+use Rattle.sentry_texts.specs.DsnParts.{DsnParts}
 use Rattle.sentry_base.specs.declared.protocol.refusal.Refusal.{Refusal}
 use Rattle.replay_run.specs.Calls.{client_dsn_text, client_dsn}
 

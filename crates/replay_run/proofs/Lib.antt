@@ -4,3 +4,4 @@ pub mod DsnLemmas
 pub mod LineLemmas
 pub mod ReadingLemmas
 pub mod ReplayLemmas
+pub mod WriteLemmas

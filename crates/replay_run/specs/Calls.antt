@@ -2,8 +2,8 @@
 use Rattle.std.specs.Prelude.{ℕ, ◌*◌, ◌-◌, ◌^◌, min, true, Option, Some, None, [], ◌∷◌, codes}
 use Rattle.std.specs.Int.{to_be_bytes, w64, w128}
 use Rattle.sentry_plain.specs.Texts.{Bytes}
-use Rattle.sentry_base.specs.declared.dsn.Scheme.TheVariants.{Https}
-use Rattle.sentry_base.specs.DsnParts.{DsnParts}
+use Rattle.sentry_texts.specs.declared.dsn.Scheme.TheVariants.{Https}
+use Rattle.sentry_texts.specs.DsnParts.{DsnParts}
 use Rattle.sentry_base.specs.Envelopes.{empty_envelope}
 use Rattle.sentry_base.specs.declared.protocol.fresh.Fresh.{Fresh}
 use Rattle.sentry_base.specs.declared.protocol.keys.ClientKey.{ClientKey}
@@ -15,7 +15,9 @@ use Rattle.sentry_options.specs.Options.{default_plain_options, default_options_
 use Rattle.sentry_options.specs.declared.clientoptions.ClientOptions.{ClientOptions}
 use Rattle.sentry_scope.specs.Scopes.{new_scope}
 use Rattle.sentry_scope.specs.declared.scope.edit.ScopeEdit.TheVariants.{SetTag}
-use Rattle.sentry_engine.specs.declared.call.Call.TheVariants.{AddClient, NewHub, Configure, CaptureMessage, SendEnvelope, ReleaseHub, StartSession, EndSessionWithStatus, Flush, CaptureLog, Close}
+use Rattle.sentry_calls.specs.declared.call.Call.TheVariants.{Client, Hub}
+use Rattle.sentry_calls.specs.declared.call.clients.ClientCall.TheVariants.{AddClient, SendEnvelope, Flush, Close}
+use Rattle.sentry_calls.specs.declared.call.hubs.HubCall.TheVariants.{NewHub, Configure, CaptureMessage, ReleaseHub, StartSession, EndSessionWithStatus, CaptureLog}
 use Rattle.replay_run.specs.declared.engine.NoCallbacks.{NoCallbacks}
 use Rattle.replay_run.specs.declared.command.Command.{Command}
 use Rattle.replay_run.specs.declared.command.Command.TheVariants as command
@@ -75,15 +77,16 @@ info_log now text = record {
 -- the call of the command on the line of this number; a client's label is the number of its line
 abbrev pub call_of : ℕ → Command → ReplayCall
 call_of number (command.Client release) =
-    AddClient (client_options release) true (record { tag = 0; number = number }) (moment_of number)
+    Client (AddClient (client_options release) true (record { tag = 0; number = number }) (moment_of number))
 call_of number (command.Hub client) =
-    NewHub (Some (client_key client)) (new_scope (fresh_of number).trace_id (fresh_of number).span_id)
-call_of number (command.Tag hub key value) = Configure (hub_key hub) (SetTag key value ∷ []) (moment_of number)
-call_of number (command.Message hub level text) = CaptureMessage (hub_key hub) text level (fresh_of number)
-call_of number (command.Empty client) = SendEnvelope (client_key client) empty_envelope
-call_of number (command.Release hub) = ReleaseHub (hub_key hub) (moment_of number)
-call_of number (command.Session hub) = StartSession (hub_key hub) (fresh_of number)
-call_of number (command.End hub) = EndSessionWithStatus (hub_key hub) Exited (moment_of number)
-call_of number (command.Flush client) = Flush (client_key client)
-call_of number (command.Log hub text) = CaptureLog (hub_key hub) (info_log (moment_of number) text)
-call_of number (command.Close client) = Close (client_key client)
+    Hub (NewHub (Some (client_key client)) (new_scope (fresh_of number).trace_id (fresh_of number).span_id))
+call_of number (command.Tag hub key value) =
+    Hub (Configure (hub_key hub) (SetTag key value ∷ []) (moment_of number))
+call_of number (command.Message hub level text) = Hub (CaptureMessage (hub_key hub) text level (fresh_of number))
+call_of number (command.Empty client) = Client (SendEnvelope (client_key client) empty_envelope)
+call_of number (command.Release hub) = Hub (ReleaseHub (hub_key hub) (moment_of number))
+call_of number (command.Session hub) = Hub (StartSession (hub_key hub) (fresh_of number))
+call_of number (command.End hub) = Hub (EndSessionWithStatus (hub_key hub) Exited (moment_of number))
+call_of number (command.Flush client) = Client (Flush (client_key client))
+call_of number (command.Log hub text) = Hub (CaptureLog (hub_key hub) (info_log (moment_of number) text))
+call_of number (command.Close client) = Client (Close (client_key client))

@@ -5,8 +5,8 @@ use Rattle.sentry_base.specs.Callbacks.{Partial}
 use Rattle.sentry_options.specs.Meanings.{Meanings}
 use Rattle.sentry_state.specs.declared.state.State.{State}
 use Rattle.sentry_state.specs.declared.state.Out.{Out}
-use Rattle.sentry_engine.specs.declared.call.Call.{Call}
-use Rattle.sentry_engine.specs.declared.call.Reply.{Reply}
+use Rattle.sentry_calls.specs.declared.call.Call.{Call}
+use Rattle.sentry_calls.specs.declared.call.Reply.{Reply}
 use Rattle.sentry_state.specs.Worlds.{World}
 use Rattle.replay_run.specs.declared.engine.NoProcessor.{NoProcessor}
 use Rattle.replay_run.specs.declared.engine.NoCallbacks.{NoCallbacks}
@@ -15,7 +15,7 @@ use Rattle.replay_run.specs.declared.engine.NoCallbacks.{NoCallbacks}
 abbrev pub same_event : NoProcessor → Partial
 same_event processor event = Some event
 
--- no integrations, and no callback
+-- no integrations, no callback and no sampler
 abbrev pub no_callbacks : NoCallbacks → Meanings
 no_callbacks callbacks = record {
   integrations = [];
@@ -23,6 +23,7 @@ no_callbacks callbacks = record {
   before_breadcrumb = None;
   before_send_log = None;
   before_send_metric = None;
+  traces_sampler = None;
 }
 
 -- what contracts see of the engine

@@ -1,17 +1,17 @@
--- What is printed for a list of lines.
+-- What is printed for an input.
 use Rattle.std.specs.Prelude.{◌≡◌, ◌≢◌, ℕ, ◌+◌, ◌-◌, ◌^◌, ◌++◌, min, Bool, true, false, Option, Some, None, Ok, Err, List, [], ◌∷◌}
 use Rattle.std.specs.Io.KnownBytes.{Appends, Keeps}
 use Rattle.sentry_plain.specs.Texts.{Bytes}
 use Rattle.sentry_base.specs.declared.protocol.refusal.Refusal.TheVariants as refusal
 use Rattle.sentry_state.specs.Worlds.{Stands, first_world}
-use Rattle.sentry_engine.specs.Runs.{May}
+use Rattle.sentry_calls.specs.Runs.{May}
 use Rattle.replay_run.specs.declared.command.Command.{Command}
 use Rattle.replay_run.specs.declared.fault.ReplayFault.TheVariants.{BadCommand, OutOfMemory, InputOutput}
 use Rattle.replay_run.specs.Calls.{call_of}
 use Rattle.replay_run.specs.Commands.{Spells}
 use Rattle.replay_run.specs.Engines.{same_event, no_callbacks, ReplayState, ReplayWorld, ReplayCall, ReplayAnswer}
 use Rattle.replay_run.specs.Faults.{ReplayEnd}
-use Rattle.replay_run.specs.Lines.{lines_of}
+use Rattle.replay_run.specs.Lines.{HasLine, IsOfOneLine}
 use Rattle.replay_run.specs.Answers.{answer_text}
 
 -- the number of the next line, which stops at 2^64-1
@@ -42,24 +42,47 @@ pub record IsBadLine (line : Bytes) : Type 0 where
   pub some : line ≢ []
   pub none : (command : Command) → Spells line command → ⊥
 
--- a run over these lines may print this and end so, where the first line has this number and finds
--- the engine in this world
-pub data Replays : ReplayWorld → ℕ → List Bytes → Bytes → ReplayEnd → Type 0 where
-  -- no line is left
-  at_end : {world : ReplayWorld} {number : ℕ} → Replays world number [] [] (Ok tt)
+-- a run over this input, whose first line has this number and finds the engine in this world, may
+-- print this, leave this of the input unread, and end so
+pub data Replays : ReplayWorld → ℕ → Bytes → Bytes → Bytes → ReplayEnd → Type 0 where
+  -- the input is at its end
+  at_end : {world : ReplayWorld} {number : ℕ} → Replays world number [] [] [] (Ok tt)
   -- the first line prints something, and then the others do
-  after_line : {world next : ReplayWorld} {number : ℕ} {line : Bytes} {lines : List Bytes}
-      {end : ReplayEnd} (printed more : Bytes)
+  after_line : {world : ReplayWorld} {number : ℕ} {input unread : Bytes} {end : ReplayEnd}
+      (next : ReplayWorld) (line rest printed more : Bytes)
+      → HasLine input line rest
       → Prints world number line printed next
-      → Replays next (next_number number) lines more end
-      → Replays world number (line ∷ lines) (printed ++ more) end
-  -- the first line ends the run
-  at_bad_line : {world : ReplayWorld} {number : ℕ} {line : Bytes} {lines : List Bytes}
+      → Replays next (next_number number) rest more unread end
+      → Replays world number input (printed ++ more) unread end
+  -- the first line is bad
+  at_bad_line : {world : ReplayWorld} {number : ℕ} {input rest : Bytes} (line : Bytes)
+      → HasLine input line rest
       → IsBadLine line
-      → Replays world number (line ∷ lines) [] (Err (BadCommand number))
-  -- the run may be out of memory anywhere
-  out_of_memory : {world : ReplayWorld} {number : ℕ} {lines : List Bytes}
-      → Replays world number lines [] (Err OutOfMemory)
+      → Replays world number input [] rest (Err (BadCommand number))
+  -- memory is refused for the first line, of which some or all was read: it prints nothing
+  out_of_memory : {world : ReplayWorld} {number : ℕ} {input unread : Bytes} (part : Bytes)
+      → input ≡ part ++ unread
+      → IsOfOneLine part
+      → Replays world number input [] unread (Err OutOfMemory)
+  -- the first line can't be read to its end: what was read of it prints nothing
+  at_failed_read : {world : ReplayWorld} {number : ℕ} {input unread : Bytes} (part : Bytes)
+      → input ≡ part ++ unread
+      → IsOfOneLine part
+      → Replays world number input [] unread (Err InputOutput)
+  -- what the first line prints can't be written to its end: a beginning of it is
+  at_failed_write : {world : ReplayWorld} {number : ℕ} {input rest : Bytes} (next : ReplayWorld)
+      (line written lost : Bytes)
+      → HasLine input line rest
+      → Prints world number line (written ++ lost) next
+      → Replays world number input written rest (Err InputOutput)
+
+-- a writer that held these bytes before holds these after the text was written, or a beginning of it
+-- where writing failed
+abbrev pub WritesText : Option Bytes → Option Bytes → Bytes → ReplayEnd → Type 0
+WritesText before after text (Ok done) = Appends before after text
+WritesText before after text (Err InputOutput) =
+    (written lost : Bytes) × (text ≡ written ++ lost) × Appends before after written
+WritesText before after text (Err other) = ⊥
 
 -- an engine executed the line of this number, and a writer held these bytes before and after
 abbrev pub ExecutesLine : ReplayState → ReplayState → Option Bytes → Option Bytes → ℕ → Bytes
@@ -71,13 +94,14 @@ ExecutesLine old new before after number line (Ok done) =
 ExecutesLine old new before after number line (Err (BadCommand at)) =
     (at ≡ number) × IsBadLine line × Keeps before after
 ExecutesLine old new before after number line (Err OutOfMemory) = Keeps before after
-ExecutesLine old new before after number line (Err InputOutput) = Unit {0}
+ExecutesLine old new before after number line (Err InputOutput) =
+    (world : ReplayWorld) → Stands old world
+    → (written lost : Bytes) × (next : ReplayWorld) × Prints world number line (written ++ lost) next
+    × Appends before after written
 
--- where the input is known, what a run over its lines may print was written, unless reading or
--- writing failed
-abbrev pub Writes : Option Bytes → Option Bytes → Option Bytes → ReplayEnd → Type 0
-Writes None before after end = Unit {0}
-Writes (Some input) before after (Err InputOutput) = Unit {0}
-Writes (Some input) before after end =
-    (printed : Bytes) × Appends before after printed
-    × Replays (first_world 0) 1 (lines_of input) printed end
+-- where the input is known: what a run over it may print was written, and what it leaves is unread
+abbrev pub Writes : Option Bytes → Option Bytes → Option Bytes → Option Bytes → ReplayEnd → Type 0
+Writes None left before after end = Unit {0}
+Writes (Some input) left before after end =
+    (printed unread : Bytes) × (left ≡ Some unread) × Appends before after printed
+    × Replays (first_world 0) 1 input printed unread end

@@ -1,21 +1,21 @@
 //! The calls that commands make.
 ghost use Rattle.std.specs.Prelude.{◌≡◌, Ok, IfOk};
-ghost use Rattle.sentry_base.specs.DsnTexts.{dsn_of_text};
+ghost use Rattle.sentry_texts.specs.DsnTexts.{dsn_of_text};
 ghost use Rattle.replay_run.specs.declared.command.Command.TheVariants as command;
 ghost use Rattle.replay_run.specs.Calls.{moment_of, fresh_of, client_key, hub_key, info_log, call_of};
 ghost use Rattle.replay_run.specs.Calls.{client_dsn_text, client_dsn, client_options};
 
 use crate::command::Command;
 use crate::engine::{NoCallbacks, ReplayCall};
-use sentry_base::dsn::Dsn;
 use sentry_base::protocol::{
     ClientKey, Draw, Envelope, Fresh, HubKey, Label, Log, LogLevel, SessionStatus, SpanId, TraceId,
     Uuid,
 };
-use sentry_engine::call::Call;
+use sentry_engine::call::{Call, ClientCall, HubCall};
 use sentry_options::clientoptions::{ClientOptions, PlainOptions, TracesSamplingStrategy};
 use sentry_plain::{Boxed, Items, Text, TextMap};
 use sentry_scope::scope::{Scope, ScopeEdit};
+use sentry_texts::dsn::Dsn;
 use std::alloc::{AllocError, Global};
 
 /// The tag of the engine, which all of its keys carry.
@@ -100,22 +100,22 @@ fn options(alloc: Global, release: Option<Text>) -> Result<ClientOptions<NoCallb
 fn add_client(alloc: Global, number: u64, release: Option<Text>) -> Result<ReplayCall, AllocError>
     ensures { IfOk result (λ call. call ≡ call_of number (command.Client release)) }
 {
-    Ok(Call::AddClient {
+    Ok(Call::Client(ClientCall::AddClient {
         options: Boxed::new(alloc, options(alloc, release)?)?,
         transport: true,
         label: Label { tag: TAG, number },
         now: moment(number),
-    })
+    }))
 }
 
 fn new_hub(alloc: Global, number: u64, client: u64) -> Result<ReplayCall, AllocError>
     ensures { IfOk result (λ call. call ≡ call_of number (command.Hub client)) }
 {
     let fresh = fresh(number);
-    Ok(Call::NewHub {
+    Ok(Call::Hub(HubCall::NewHub {
         client: Some(client_key(client)),
         scope: Boxed::new(alloc, Scope::new(alloc, fresh.trace_id, fresh.span_id))?,
-    })
+    }))
 }
 
 fn set_tag(
@@ -129,20 +129,20 @@ fn set_tag(
 {
     let mut edits = Items::new(alloc);
     edits.push(ScopeEdit::SetTag(key, value))?;
-    Ok(Call::Configure {
+    Ok(Call::Hub(HubCall::Configure {
         hub: hub_key(hub),
         edits,
         now: moment(number),
-    })
+    }))
 }
 
 fn capture_log(alloc: Global, number: u64, hub: u64, text: Text) -> Result<ReplayCall, AllocError>
     ensures { IfOk result (λ call. call ≡ call_of number (command.Log hub text)) }
 {
-    Ok(Call::CaptureLog {
+    Ok(Call::Hub(HubCall::CaptureLog {
         hub: hub_key(hub),
         log: Boxed::new(alloc, info_log(alloc, text, moment(number)))?,
-    })
+    }))
 }
 
 /// Builds the call of the command on the line of this number.
@@ -155,31 +155,31 @@ pub fn build_call(alloc: Global, number: u64, command: Command) -> Result<Replay
         Command::Client(release) => add_client(alloc, number, release),
         Command::Hub(client) => new_hub(alloc, number, client),
         Command::Tag { hub, key, value } => set_tag(alloc, number, hub, key, value),
-        Command::Message { hub, level, text } => Ok(Call::CaptureMessage {
+        Command::Message { hub, level, text } => Ok(Call::Hub(HubCall::CaptureMessage {
             hub: hub_key(hub),
             message: text,
             level,
             fresh,
-        }),
-        Command::Empty(client) => Ok(Call::SendEnvelope {
+        })),
+        Command::Empty(client) => Ok(Call::Client(ClientCall::SendEnvelope {
             client: client_key(client),
             envelope: Envelope::new(alloc),
-        }),
-        Command::Release(hub) => Ok(Call::ReleaseHub {
+        })),
+        Command::Release(hub) => Ok(Call::Hub(HubCall::ReleaseHub {
             hub: hub_key(hub),
             now,
-        }),
-        Command::Session(hub) => Ok(Call::StartSession {
+        })),
+        Command::Session(hub) => Ok(Call::Hub(HubCall::StartSession {
             hub: hub_key(hub),
             fresh,
-        }),
-        Command::End(hub) => Ok(Call::EndSessionWithStatus {
+        })),
+        Command::End(hub) => Ok(Call::Hub(HubCall::EndSessionWithStatus {
             hub: hub_key(hub),
             status: SessionStatus::Exited,
             now,
-        }),
-        Command::Flush(client) => Ok(Call::Flush(client_key(client))),
+        })),
+        Command::Flush(client) => Ok(Call::Client(ClientCall::Flush(client_key(client)))),
         Command::Log { hub, text } => capture_log(alloc, number, hub, text),
-        Command::Close(client) => Ok(Call::Close(client_key(client))),
+        Command::Close(client) => Ok(Call::Client(ClientCall::Close(client_key(client)))),
     }
 }

@@ -7,6 +7,7 @@ use sentry_engine::call::{Answer, Call};
 use sentry_engine::engine::Engine;
 use sentry_options::clientoptions::{Callbacks, PlainOptions};
 use sentry_plain::{Items, Text};
+use sentry_trace::performance::TransactionContext;
 use std::alloc::{AllocError, Global};
 
 pub type ReplayEngine = Engine<NoProcessor, NoCallbacks>;
@@ -71,5 +72,9 @@ impl Callbacks for NoCallbacks {
 
     fn before_send_metric(&self, metric: Metric) -> Result<Option<Metric>, AllocError> {
         Ok(Some(metric))
+    }
+
+    fn traces_rate(&self, _context: &TransactionContext) -> Result<u32, AllocError> {
+        Ok(0)
     }
 }

@@ -9,6 +9,7 @@ mod lines;
 mod print;
 mod run;
 mod word;
+mod write;
 
 pub use call::client_dsn_has_its_parts;
 pub use command::line_spells_at_most_one_command;

@@ -1,7 +1,7 @@
 //! The lines of the input.
 ghost use Rattle.std.specs.Prelude.{◌≡◌, ◌≢◌, ℕ, IfOk, IfErr};
 ghost use Rattle.std.specs.Io.BufRead.{strip_last};
-ghost use Rattle.replay_run.specs.Lines.{TakesLine};
+ghost use Rattle.replay_run.specs.Lines.{TakesLine, TakesOfOneLine};
 
 use crate::fault::ReplayFault;
 use std::io::{BufRead, Error, ErrorKind};
@@ -27,10 +27,13 @@ fn read_fault(error: &Error) -> ReplayFault
     }
 }
 
-/// Reads the next line into `line`, without its line feed. The answer is false at the end of the input.
+/// Reads the next line into `line`, without its line feed. The answer is false at the end of the input. Where a read
+/// fails, or memory is refused for the line, what was read of it is of no use.
+#[tactic(auto, using(crate::proofs::LineLemmas::none_taken, crate::proofs::LineLemmas::of_one_line))]
 pub fn next_line<R: BufRead>(reader: &mut R, line: &mut Vec<u8>) -> Result<bool, ReplayFault>
     ensures taken { IfOk result (λ found.
         TakesLine (R.remaining reader.old) (R.remaining reader.new) found line.new.items) }
+    ensures of_one_line { TakesOfOneLine (R.remaining reader.old) (R.remaining reader.new) }
     ensures fault { IfErr result (λ fault. (number : ℕ) → fault ≢ ReplayFault.BadCommand number) }
 {
     line.clear();

@@ -11,6 +11,7 @@ use crate::engine::{ReplayAnswer, ReplayEngine};
 use crate::fault::ReplayFault;
 use crate::lines::next_line;
 use crate::print::print_answer;
+use crate::write::write_text;
 use sentry_base::protocol::Refusal;
 use sentry_engine::engine::Engine;
 use std::alloc::{AllocError, Global};
@@ -64,22 +65,26 @@ fn execute_line<W: Write>(
     let answer = execute(alloc, engine, number, command)?;
     text.clear();
     print_answer(&answer, text)?;
-    match writer.write_all(text.as_bytes()) {
-        Ok(()) => Ok(()),
-        Err(_) => Err(ReplayFault::InputOutput),
-    }
+    write_text(writer, text.as_bytes())
 }
 
 /// Reads commands, one a line, executes them on a new engine, and writes one line for each envelope.
 ///
 /// Each line is read, executed and printed before the next one is read, so the memory in use is that of the engine and
-/// of the longest line. After 2^64-1 lines the run ends with `InputOutput`.
+/// of the longest line.
+///
+/// # Errors
+///
+/// `BadCommand` on a line that isn't empty and spells no command, `OutOfMemory` where memory is refused, `InputOutput`
+/// where a read or a write fails, or after 2^64-1 lines. What was written then is what the lines before print. After a
+/// failed write a beginning of what its line prints follows.
 pub fn run_replay<R: BufRead, W: Write>(
     alloc: Global,
     reader: &mut R,
     writer: &mut W,
 ) -> Result<(), ReplayFault>
-    ensures { Writes (R.remaining reader.old) (W.contents writer.old) (W.contents writer.new) result }
+    ensures { Writes (R.remaining reader.old) (R.remaining reader.new)
+        (W.contents writer.old) (W.contents writer.new) result }
 {
     let mut engine = Engine::new(alloc, TAG);
     let mut line = Vec::new(alloc);

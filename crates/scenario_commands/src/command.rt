@@ -12,7 +12,10 @@ use crate::metrics::MetricCommand;
 use crate::scopes::ScopeCommand;
 use crate::sessions::SessionCommand;
 use crate::settings::Setting;
+use crate::span_edits::SpanEditCommand;
+use crate::spans::SpanCommand;
 use crate::texts::TextCommand;
+use crate::transactions::TransactionCommand;
 use crate::words::Words;
 
 /// What a line asks for, by the group of its form. Each group has a file of its own.
@@ -30,6 +33,9 @@ pub enum Command<'a> {
     Session(SessionCommand),
     Log(LogCommand<'a>),
     Metric(MetricCommand<'a>),
+    Transaction(TransactionCommand<'a>),
+    Span(SpanCommand<'a>),
+    SpanEdit(SpanEditCommand<'a>),
     Header(HeaderCommand<'a>),
     Text(TextCommand<'a>),
 }
@@ -40,10 +46,13 @@ impl<'a> Command<'a> {
     pub fn read(line: &'a str) -> Option<Command<'a>> {
         let mut words = Words::new(line);
         let name = words.word()?;
-        match read_of_hub(name, words) {
-            Some(command) => Some(command),
-            None => read_of_client(name, words),
+        if let Some(command) = read_of_hub(name, words) {
+            return Some(command);
         }
+        if let Some(command) = read_of_span(name, words) {
+            return Some(command);
+        }
+        read_of_client(name, words)
     }
 }
 
@@ -71,6 +80,17 @@ fn read_of_hub<'a>(name: &str, words: Words<'a>) -> Option<Command<'a>> {
         return Some(Command::Log(command));
     }
     MetricCommand::read(name, words).map(Command::Metric)
+}
+
+// The groups of forms on transactions and spans.
+fn read_of_span<'a>(name: &str, words: Words<'a>) -> Option<Command<'a>> {
+    if let Some(command) = TransactionCommand::read(name, words) {
+        return Some(Command::Transaction(command));
+    }
+    if let Some(command) = SpanCommand::read(name, words) {
+        return Some(Command::Span(command));
+    }
+    SpanEditCommand::read(name, words).map(Command::SpanEdit)
 }
 
 // The groups of forms on clients alone, and on no part of the engine.

@@ -19,7 +19,10 @@ pub mod quantities;
 pub mod scopes;
 pub mod sessions;
 pub mod settings;
+pub mod span_edits;
+pub mod spans;
 pub mod texts;
+pub mod transactions;
 mod words;
 
 pub use command::Command;

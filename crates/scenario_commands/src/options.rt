@@ -13,6 +13,8 @@ pub enum ClientOption<'a> {
     Filter(Filter, &'a str),
     /// An integration that adds a context `os`.
     OsIntegration,
+    /// Gives rates by the name of a transaction.
+    TracesSampler,
     Transport(bool),
     Dsn(&'a str),
     NoDsn,
@@ -28,6 +30,10 @@ pub enum PlainOption {
     Organization(u64),
     SessionMode(SessionMode),
     MaxBreadcrumbs(u64),
+    MaxSpans(u64),
+    MaxBatchItems(u64),
+    EnableLogs(bool),
+    EnableMetrics(bool),
 }
 
 /// What drops by the beginning of a text.
@@ -57,6 +63,7 @@ impl<'a> ClientOption<'a> {
             "before_log" => Some(ClientOption::Filter(Filter::BeforeSendLog, value)),
             "before_metric" => Some(ClientOption::Filter(Filter::BeforeSendMetric, value)),
             "integration" => integration(value),
+            "traces" => traces(value),
             "transport" => Some(ClientOption::Transport(flag(value)?)),
             "dsn" => Some(dsn(value)),
             _ => Some(ClientOption::Plain(PlainOption::read(name, value)?)),
@@ -69,12 +76,15 @@ impl PlainOption {
     fn read(name: &str, value: &str) -> Option<PlainOption> {
         match name {
             "rate" => rate(value).map(PlainOption::SampleRate),
-            "traces" => rate(value).map(PlainOption::TracesSampleRate),
             "strict" => flag(value).map(PlainOption::StrictTraceContinuation),
             "pii" => flag(value).map(PlainOption::SendDefaultPii),
             "org" => number(value).map(PlainOption::Organization),
             "mode" => mode(value).map(PlainOption::SessionMode),
             "crumbs" => number(value).map(PlainOption::MaxBreadcrumbs),
+            "maxspans" => number(value).map(PlainOption::MaxSpans),
+            "maxbatch" => number(value).map(PlainOption::MaxBatchItems),
+            "logs" => flag(value).map(PlainOption::EnableLogs),
+            "metrics" => flag(value).map(PlainOption::EnableMetrics),
             _ => None,
         }
     }
@@ -85,6 +95,13 @@ fn rate(value: &str) -> Option<u32> {
     match value {
         "1" => Some(SampleRate::ALL),
         _ => Some(small(number(value)?)),
+    }
+}
+
+fn traces(value: &str) -> Option<ClientOption<'_>> {
+    match value {
+        "fn" => Some(ClientOption::TracesSampler),
+        _ => Some(ClientOption::Plain(PlainOption::TracesSampleRate(rate(value)?))),
     }
 }
 

@@ -1,4 +1,5 @@
 //! Lines that edit the top scope of a hub.
+use crate::spans::SpanName;
 use crate::words::Words;
 use sentry_base::protocol::Level;
 
@@ -37,6 +38,8 @@ pub enum ScopeChange<'a> {
     ClearAttachments,
     /// `dropper H REST`: a processor that drops messages which begin so.
     AddDropper(&'a str),
+    /// `setspan H SPAN` or `setspan H -`
+    SetSpan(Option<SpanName>),
 }
 
 /// What a key and a text are set as.
@@ -104,6 +107,7 @@ fn read_other_change<'a>(name: &str, words: &mut Words<'a>) -> Option<ScopeChang
         "nouser" => Some(ScopeChange::SetUser(None)),
         "nocrumbs" => Some(ScopeChange::ClearBreadcrumbs),
         "noattach" => Some(ScopeChange::ClearAttachments),
+        "setspan" => Some(ScopeChange::SetSpan(words.span_or_none()?)),
         _ => None,
     }
 }
@@ -113,7 +117,8 @@ fn read_set_entry<'a>(role: Role, words: &mut Words<'a>) -> Option<ScopeChange<'
     Some(ScopeChange::SetEntry(role, entry))
 }
 
-fn read_entry<'a>(words: &mut Words<'a>) -> Option<Entry<'a>> {
+/// A key, and the rest of the line as its value.
+pub(crate) fn read_entry<'a>(words: &mut Words<'a>) -> Option<Entry<'a>> {
     Some(Entry {
         key: words.word()?,
         value: words.rest()?,

@@ -1,5 +1,6 @@
 //! The words of a line.
 use crate::attributes::AttributeWords;
+use crate::spans::SpanName;
 use sentry_base::protocol::{Draw, Level};
 
 /// The word that stands for none.
@@ -87,6 +88,19 @@ impl<'a> Words<'a> {
         }
     }
 
+    /// The next word, as a transaction or a span.
+    pub fn span(&mut self) -> Option<SpanName> {
+        span(self.word()?)
+    }
+
+    /// The next word, as a transaction or a span, or `-` for none.
+    pub fn span_or_none(&mut self) -> Option<Option<SpanName>> {
+        match self.word()? {
+            NONE => Some(None),
+            word => Some(Some(span(word)?)),
+        }
+    }
+
     /// The next word, as a whole number that may be below 0.
     pub fn integer(&mut self) -> Option<i64> {
         integer(self.word()?)
@@ -136,6 +150,14 @@ fn integer(word: &str) -> Option<i64> {
         return None;
     }
     word.parse().ok()
+}
+
+// `tN` or `sN`.
+fn span(word: &str) -> Option<SpanName> {
+    match word.strip_prefix("t") {
+        Some(digits) => number(digits).map(SpanName::Transaction),
+        None => number(word.strip_prefix("s")?).map(SpanName::Span),
+    }
 }
 
 /// A number as one of 32 bits, or the largest of those.

@@ -1,8 +1,14 @@
 //! Contexts.
 use crate::Shown;
-use crate::lists::push_labeled;
+use crate::lists::{MapStyle, push_labeled};
 use sentry_base::protocol::{Context, SpanId, SpanStatus, TraceContext};
 use std::alloc::AllocError;
+
+/// `KEY:CONTEXT`, joined by semicolons.
+pub const CONTEXTS: MapStyle = MapStyle {
+    between: ":",
+    separator: ";",
+};
 
 impl Shown for Context {
     fn push_to(&self, text: &mut String) -> Result<(), AllocError> {
@@ -19,9 +25,8 @@ impl Shown for Context {
 
 impl Shown for TraceContext {
     fn push_to(&self, text: &mut String) -> Result<(), AllocError> {
-        let trace = self.trace_id;
-        write!(text, "T{trace}/")?;
-        self.span_id.push_to(text)?;
+        self.trace_id.push_to(text)?;
+        push_labeled(text, "/", &self.span_id)?;
         push_labeled(text, "/", &self.parent_span_id)?;
         push_labeled(text, "/op=", &self.op)?;
         push_labeled(text, "/description=", &self.description)?;

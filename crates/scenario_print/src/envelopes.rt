@@ -58,6 +58,7 @@ impl Shown for EnvelopeItem {
             EnvelopeItem::Event(event) => event.push_to(text),
             EnvelopeItem::SessionUpdate(update) => update.push_to(text),
             EnvelopeItem::SessionAggregates(aggregates) => aggregates.push_to(text),
+            EnvelopeItem::Transaction(transaction) => transaction.push_to(text),
             EnvelopeItem::Attachment(attachment) => attachment.push_to(text),
             EnvelopeItem::Logs(logs) => push_batch(text, "logs", logs),
             EnvelopeItem::Metrics(metrics) => push_batch(text, "metrics", metrics),

@@ -1,14 +1,9 @@
 //! Events.
 use crate::Shown;
-use crate::lists::{MapStyle, PLAIN, push_joined, push_labeled, push_list, push_map};
+use crate::contexts::CONTEXTS;
+use crate::lists::{PLAIN, push_joined, push_labeled, push_list, push_map};
 use sentry_base::protocol::{Breadcrumb, ClientSdkInfo, Event, Exception, Level, User};
 use std::alloc::AllocError;
-
-/// `KEY:CONTEXT`, joined by semicolons.
-const CONTEXTS: MapStyle = MapStyle {
-    between: ":",
-    separator: ";",
-};
 
 impl Shown for Event {
     fn push_to(&self, text: &mut String) -> Result<(), AllocError> {

@@ -9,6 +9,7 @@ mod options;
 mod replies;
 mod sessions;
 mod telemetry;
+mod transactions;
 mod values;
 
 pub use envelopes::push_envelope;

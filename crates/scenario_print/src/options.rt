@@ -2,7 +2,7 @@
 use crate::Shown;
 use crate::lists::{NONE, push_labeled};
 use sentry_options::clientoptions::{
-    ClientOptions, EventSamplingStrategy, SessionMode, TracesSamplingStrategy,
+    ClientOptions, EventSamplingStrategy, PlainOptions, SessionMode, TracesSamplingStrategy,
 };
 use std::alloc::AllocError;
 
@@ -19,9 +19,17 @@ impl<C> Shown for ClientOptions<C> {
         push_labeled(text, " pii=", &plain.send_default_pii)?;
         push_labeled(text, " org=", &plain.org_id)?;
         push_labeled(text, " mode=", &plain.session_mode)?;
-        let crumbs = plain.max_breadcrumbs;
-        write!(text, " crumbs={crumbs}")
+        push_limits(text, plain)?;
+        push_labeled(text, " logs=", &plain.enable_logs)?;
+        push_labeled(text, " metrics=", &plain.enable_metrics)
     }
+}
+
+fn push_limits(text: &mut String, options: &PlainOptions) -> Result<(), AllocError> {
+    let crumbs = options.max_breadcrumbs;
+    let spans = options.max_spans;
+    let items = options.max_batch_items;
+    write!(text, " crumbs={crumbs} maxspans={spans} maxbatch={items}")
 }
 
 impl Shown for EventSamplingStrategy {
@@ -36,6 +44,7 @@ impl Shown for TracesSamplingStrategy {
     fn push_to(&self, text: &mut String) -> Result<(), AllocError> {
         match self {
             TracesSamplingStrategy::FixedRate(rate) => rate.push_to(text),
+            TracesSamplingStrategy::Function => text.push_str("fn"),
             TracesSamplingStrategy::Disabled => text.push_str(NONE),
         }
     }

@@ -1,9 +1,9 @@
 //! The lines of what commands answer by themselves.
 use crate::Shown;
 use crate::lists::{push_joined, push_labeled};
-use sentry_base::dsn::{Dsn, ParseDsnError};
 use sentry_base::protocol::{ClientKey, ClientReport, OrganizationId, Refusal, Uuid};
 use sentry_plain::Boxed;
+use sentry_texts::dsn::{Dsn, ParseDsnError};
 use sentry_trace::headers::{HeaderParseError, TracePropagationContext};
 use std::alloc::AllocError;
 
@@ -14,28 +14,30 @@ pub fn push_line<T: Shown>(text: &mut String, name: &str, value: &T) -> Result<(
     text.push_str("\n")
 }
 
-/// The same for a value of the client or the hub of this number, which stands after the name.
-pub fn push_line_of<T: Shown>(
+/// The same for a value of something that is named, as a client or a hub by its number or a span by its key. The name
+/// of that stands after the name of the reply.
+pub fn push_line_of<K: Shown, T: Shown>(
     text: &mut String,
     name: &str,
-    number: u64,
+    owner: &K,
     value: &T,
 ) -> Result<(), AllocError> {
-    write!(text, "{name} {number} ")?;
-    value.push_to(text)?;
+    text.push_str(name)?;
+    push_labeled(text, " ", owner)?;
+    push_labeled(text, " ", value)?;
     text.push_str("\n")
 }
 
 /// The same with `none` where there is no value.
-pub fn push_line_if_any<T: Shown>(
+pub fn push_line_if_any<K: Shown, T: Shown>(
     text: &mut String,
     name: &str,
-    number: u64,
+    owner: &K,
     value: &Option<T>,
 ) -> Result<(), AllocError> {
     match value {
-        Some(value) => push_line_of(text, name, number, value),
-        None => writeln!(text, "{name} {number} none"),
+        Some(value) => push_line_of(text, name, owner, value),
+        None => push_line_of(text, name, owner, &"none"),
     }
 }
 

@@ -1,5 +1,5 @@
 -- The callbacks of a scenario, as partial functions on events, breadcrumbs, logs and metrics.
-use Rattle.std.specs.Prelude.{Bool, ◌==◌, Option, Some, None, [], if◌then◌else◌, codes, unwrap_or}
+use Rattle.std.specs.Prelude.{ℕ, Bool, true, false, ◌==◌, Option, Some, None, [], if◌then◌else◌, codes, unwrap_or}
 use Rattle.std.specs.List.{starts_with}
 use Rattle.sentry_plain.specs.Texts.{Bytes, put}
 use Rattle.sentry_plain.specs.Defaults.{with_default}
@@ -10,11 +10,13 @@ use Rattle.sentry_base.specs.declared.protocol.metric.Metric.{Metric}
 use Rattle.sentry_base.specs.declared.protocol.context.Context.TheVariants as context
 use Rattle.sentry_base.specs.Callbacks.{Partial, PartialOnBreadcrumbs, PartialOnLogs, PartialOnMetrics}
 use Rattle.sentry_options.specs.Meanings.{IntegrationMeaning}
+use Rattle.sentry_trace.specs.declared.performance.context.TransactionContext.{TransactionContext}
 use Rattle.scenario_run.specs.declared.callbacks.Handler.{Handler}
 use Rattle.scenario_run.specs.declared.callbacks.Handler.TheVariants as handler
 use Rattle.scenario_run.specs.declared.callbacks.BreadcrumbFilter.{BreadcrumbFilter}
 use Rattle.scenario_run.specs.declared.callbacks.LogFilter.{LogFilter}
 use Rattle.scenario_run.specs.declared.callbacks.MetricFilter.{MetricFilter}
+use Rattle.scenario_run.specs.declared.callbacks.NameSampler.{NameSampler}
 use Rattle.scenario_run.specs.declared.callbacks.Extension.{Extension}
 use Rattle.scenario_run.specs.declared.callbacks.Extension.TheVariants as extension
 
@@ -62,3 +64,19 @@ extend (extension.Drop prefix) = record {
   setup = λ options. options;
   process_event = λ options. drop_if_begins prefix;
 }
+
+-- none of the traces that were decided against, and all others
+abbrev pub rate_of_decision : Option Bool → ℕ
+rate_of_decision (Some false) = 0
+rate_of_decision (Some true) = 1000000
+rate_of_decision None = 1000000
+
+-- by the beginning of the name; the rate of `above` is more than all
+abbrev pub rate_by_name : Bytes → Option Bool → ℕ
+rate_by_name name decision =
+    if begins_with name (codes "drop") then 0 else
+    if begins_with name (codes "parent") then rate_of_decision decision else
+    if begins_with name (codes "above") then 1500000 else 1000000
+
+abbrev pub rate_of_context : NameSampler → TransactionContext → ℕ
+rate_of_context sampler context = rate_by_name context.name context.sampled

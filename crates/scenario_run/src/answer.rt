@@ -1,11 +1,14 @@
 //! What commands come to.
 use crate::callbacks::Callbacks;
 use crate::headers::Header;
-use sentry_base::dsn::{Dsn, ParseDsnError};
-use sentry_base::protocol::{ClientKey, ClientReport, Envelope, Event, Refusal, Uuid};
+use sentry_base::protocol::{
+    ClientKey, ClientReport, Envelope, Event, Refusal, SpanId, SpanStatus, TraceContext,
+    TransactionOrSpanKey, Uuid, ValueMap,
+};
 use sentry_engine::engine::Out;
 use sentry_options::clientoptions::ClientOptions;
 use sentry_plain::{Boxed, Items, Shared};
+use sentry_texts::dsn::{Dsn, ParseDsnError};
 use sentry_trace::headers::{HeaderParseError, TracePropagationContext};
 use std::alloc::Global;
 use url::Url;
@@ -65,6 +68,30 @@ pub enum Reply<'a> {
     HubHeaders {
         hub: u64,
         headers: Items<Header>,
+    },
+    TraceContext {
+        span: TransactionOrSpanKey,
+        context: TraceContext,
+    },
+    Sampled {
+        span: TransactionOrSpanKey,
+        is_sampled: bool,
+    },
+    SpanHeaders {
+        span: TransactionOrSpanKey,
+        headers: Items<Header>,
+    },
+    Status {
+        span: TransactionOrSpanKey,
+        status: Option<SpanStatus>,
+    },
+    SpanId {
+        span: TransactionOrSpanKey,
+        id: SpanId,
+    },
+    Data {
+        span: TransactionOrSpanKey,
+        values: ValueMap,
     },
     Dsn(Result<Option<Dsn>, ParseDsnError>),
     DebugType(&'a str),

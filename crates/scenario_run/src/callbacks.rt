@@ -2,16 +2,26 @@
 ghost use Rattle.std.specs.Prelude.{◌≡◌, IfOk};
 ghost use Rattle.scenario_run.specs.Callbacks.{handle, extend, keep_or_drop, keep_or_drop_log, keep_or_drop_metric};
 ghost use Rattle.scenario_run.specs.Callbacks.{drop_if_begins, text_or_empty, begins_with, set_tag, add_os};
+ghost use Rattle.scenario_run.specs.Callbacks.{rate_of_decision, rate_by_name, rate_of_context};
 
 use sentry_base::callbacks::{BreadcrumbCallback, EventCallback, LogCallback, MetricCallback};
-use sentry_base::protocol::{Breadcrumb, Context, Event, Log, Metric};
+use sentry_base::protocol::{Breadcrumb, Context, Event, Log, Metric, SampleRate};
 use sentry_options::clientoptions::{ClientCallbacks, PlainOptions};
 use sentry_options::integration::Integration;
+use sentry_options::sampler::TracesSampler;
 use sentry_plain::Text;
+use sentry_trace::performance::TransactionContext;
 use std::alloc::{AllocError, Global};
 
 /// The callbacks of a client.
-pub type Callbacks = ClientCallbacks<Handler, Extension, BreadcrumbFilter, LogFilter, MetricFilter>;
+pub type Callbacks = ClientCallbacks<
+    Handler,
+    Extension,
+    BreadcrumbFilter,
+    LogFilter,
+    MetricFilter,
+    NameSampler,
+>;
 
 /// An event processor or `before_send`.
 #[derive(Drop)]
@@ -112,6 +122,45 @@ impl MetricCallback for MetricFilter {
         }
         Ok(Some(metric))
     }
+}
+
+/// A sampler that goes by the name of a transaction.
+#[derive(Drop)]
+pub struct NameSampler;
+
+impl TracesSampler for NameSampler {
+    ghost rate_of = { rate_of_context };
+
+    fn rate(&self, context: &TransactionContext) -> Result<u32, AllocError> {
+        Ok(rate_by_name(context.name(), context.sampled()))
+    }
+}
+
+/// None of the traces that were decided against, and all others.
+fn rate_of_decision(decision: Option<bool>) -> u32
+    ensures { result ≡ rate_of_decision decision }
+{
+    match decision {
+        Some(false) => 0,
+        Some(true) | None => SampleRate::ALL,
+    }
+}
+
+/// None of the traces whose name begins with `drop`; of those whose name begins with `parent` those that were not
+/// decided against; and all others. The rate of a name that begins with `above` is more than all.
+fn rate_by_name(name: &str, decision: Option<bool>) -> u32
+    ensures { result ≡ rate_by_name name.now decision }
+{
+    if begins_with(name, "drop") {
+        return 0;
+    }
+    if begins_with(name, "parent") {
+        return rate_of_decision(decision);
+    }
+    if begins_with(name, "above") {
+        return 1_500_000;
+    }
+    SampleRate::ALL
 }
 
 /// A text, or the empty one in place of none.

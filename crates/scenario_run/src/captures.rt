@@ -34,25 +34,12 @@ fn exception_event(
     Ok(event)
 }
 
-fn error_link(alloc: Global, debug: &str, shown: String) -> Result<ErrorLink, AllocError> {
-    let mut quoted = String::new(alloc);
-    write!(quoted, "{shown:?}")?;
-    Ok(ErrorLink {
-        debug: Text::new(alloc, debug)?,
-        shown: Text::from_string(shown),
-        quoted: Text::from_string(quoted),
-    })
-}
-
 /// An error with a cause.
 fn error_links(alloc: Global, message: &str) -> Result<[ErrorLink; 2], AllocError> {
-    let mut shown = String::new(alloc);
-    write!(shown, "{message}")?;
-    let mut cause = String::new(alloc);
-    write!(cause, "cause of {message}")?;
+    let cause = format!(in alloc; "cause of {message}")?;
     Ok([
-        error_link(alloc, "Fault { .. }", shown)?,
-        error_link(alloc, "Cause(..)", cause)?,
+        ErrorLink::new(alloc, "Fault { .. }", message)?,
+        ErrorLink::new(alloc, "Cause(..)", cause.as_str())?,
     ])
 }
 

@@ -1,13 +1,11 @@
 //! What is done with headers.
 use crate::answer::{Answer, Reply};
-use crate::callbacks::Handler;
 use crate::fault::Failure;
 use crate::scenario::{Scenario, hub_key};
 use scenario_commands::headers::HeaderCommand;
 use sentry_base::protocol::Refusal;
 use sentry_plain::{Items, Text};
-use sentry_scope::scope::Scope;
-use sentry_trace::headers::TracePropagationContext;
+use sentry_trace::headers::{TraceHeadersIter, TracePropagationContext};
 use std::alloc::{AllocError, Global};
 
 /// A header that is kept for a later line, or printed.
@@ -53,17 +51,22 @@ impl Scenario {
     // The headers that pass on the trace of a hub's top scope.
     fn headers_of_hub<'a>(&self, hub: u64) -> Result<Reply<'a>, Refusal> {
         let scope = self.engine.scope(hub_key(hub))?.reply;
-        let headers = headers_of_scope(self.alloc, &scope)?;
+        let headers = scope.iter_trace_propagation_headers(self.engine.spans())?;
+        let headers = collect_headers(self.alloc, headers)?;
         Ok(Reply::HubHeaders { hub, headers })
     }
 }
 
-fn headers_of_scope(alloc: Global, scope: &Scope<Handler>) -> Result<Items<Header>, AllocError> {
-    let mut headers = Items::new(alloc);
-    for (name, value) in scope.iter_trace_propagation_headers()? {
+/// A list of the headers.
+pub fn collect_headers(
+    alloc: Global,
+    headers: TraceHeadersIter,
+) -> Result<Items<Header>, AllocError> {
+    let mut list = Items::new(alloc);
+    for (name, value) in headers {
         let name = Text::new(alloc, name)?;
         let value = Text::from_string(value);
-        headers.push(Header { name, value })?;
+        list.push(Header { name, value })?;
     }
-    Ok(headers)
+    Ok(list)
 }

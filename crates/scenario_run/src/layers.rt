@@ -3,7 +3,7 @@ use crate::answer::Answer;
 use crate::fault::Failure;
 use crate::scenario::{Scenario, client_key, hub_key};
 use scenario_commands::layers::LayerCommand;
-use sentry_engine::call::Call;
+use sentry_engine::call::{Call, HubCall};
 use sentry_engine::engine::Out;
 
 impl Scenario {
@@ -47,11 +47,11 @@ impl Scenario {
 
     fn pop_scope<'a>(&mut self, hub: u64, depth: Option<u64>) -> Result<Answer<'a>, Failure> {
         let depth = self.depth_to_pop(hub, depth);
-        let call = Call::PopScope {
+        let call = Call::Hub(HubCall::PopScope {
             hub: hub_key(hub),
             depth,
             now: self.moment(),
-        };
+        });
         let out = self.engine.apply(call)?;
         self.set_depth(hub, depth.saturating_sub(1));
         Ok(Answer::of_sent(out))

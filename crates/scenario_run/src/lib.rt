@@ -26,7 +26,10 @@ mod scenario;
 mod scopes;
 mod sessions;
 mod settings;
+mod span_edits;
+mod spans;
 mod texts;
+mod transactions;
 
 pub use fault::ScenarioFault;
 pub use run::run_scenario;

@@ -6,7 +6,6 @@ use crate::scenario::{Scenario, client_key, hub_key};
 use scenario_commands::attributes::Capturer;
 use scenario_commands::logs::LogCommand;
 use sentry_base::protocol::Log;
-use sentry_plain::Text;
 use std::alloc::AllocError;
 
 impl Scenario {
@@ -26,12 +25,8 @@ impl Scenario {
 
     // The log, at the moment of the line.
     fn log(&self, command: &LogCommand<'_>) -> Result<Log, AllocError> {
-        Ok(Log {
-            level: command.level,
-            body: Text::new(self.alloc, command.body)?,
-            trace_id: None,
-            timestamp: self.moment(),
-            attributes: attributes(self.alloc, command.attribute)?,
-        })
+        let mut log = Log::new(self.alloc, command.level, command.body, self.moment())?;
+        log.attributes = attributes(self.alloc, command.attribute)?;
+        Ok(log)
     }
 }

@@ -6,7 +6,7 @@ use scenario_commands::losses::{Kind, LossCommand};
 use scenario_commands::quantities::losses_of_words;
 use sentry_base::protocol::{Envelope, Losses};
 use sentry_client_reports::client_reports::{LossWords, TransportLossReason};
-use sentry_engine::call::Call;
+use sentry_engine::call::{Call, ClientCall};
 use sentry_plain::Boxed;
 
 impl Scenario {
@@ -53,10 +53,10 @@ impl Scenario {
             Some(words) => losses_of_words(words).ok_or(Failure::BadCommand)?,
             None => Losses::none(),
         };
-        let call = Call::Absorb {
+        let call = Call::Client(ClientCall::Absorb {
             label: self.label(client),
             losses: Boxed::new(self.alloc, losses)?,
-        };
+        });
         Ok(Answer::of_sent(self.engine.apply(call)?))
     }
 

@@ -1,5 +1,7 @@
 //! How options are made of those that a `client` line names.
-use crate::callbacks::{BreadcrumbFilter, Callbacks, Extension, Handler, LogFilter, MetricFilter};
+use crate::callbacks::{
+    BreadcrumbFilter, Callbacks, Extension, Handler, LogFilter, MetricFilter, NameSampler,
+};
 use scenario_commands::options::{ClientOption, Filter, OptionWords, PlainOption};
 use sentry_base::protocol::{OrganizationId, Refusal};
 use sentry_options::clientoptions::ClientOptions;
@@ -65,6 +67,7 @@ fn set_option(
             set_filter(options, filter, Text::new(alloc, prefix)?)
         }
         ClientOption::OsIntegration => options.add_integration(Extension::Os),
+        ClientOption::TracesSampler => options.traces_sampler(NameSampler),
         ClientOption::Transport(_) => Ok(options),
         ClientOption::Dsn(text) => options.with_dsn(text),
         ClientOption::NoDsn => options.with_dsn(()),
@@ -85,6 +88,10 @@ fn set_plain(
         PlainOption::Organization(number) => Ok(options.org_id(OrganizationId(number))),
         PlainOption::SessionMode(mode) => Ok(options.session_mode(mode)),
         PlainOption::MaxBreadcrumbs(count) => Ok(options.max_breadcrumbs(count as usize)),
+        PlainOption::MaxSpans(count) => Ok(options.max_spans(count as usize)),
+        PlainOption::MaxBatchItems(count) => Ok(options.max_batch_items(count as usize)),
+        PlainOption::EnableLogs(enabled) => Ok(options.enable_logs(enabled)),
+        PlainOption::EnableMetrics(enabled) => Ok(options.enable_metrics(enabled)),
     }
 }
 

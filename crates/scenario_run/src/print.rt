@@ -29,19 +29,25 @@ impl Shown for Reply<'_> {
             Reply::Refused(refusal) => push_line(text, "refused", refusal),
             Reply::Sample(decision) => push_line(text, "sample", decision),
             Reply::Options { client, options } => {
-                push_line_of(text, "options", *client, options.get())
+                push_line_of(text, "options", client, options.get())
             }
-            Reply::ClientDsn { client, dsn } => push_line_if_any(text, "clientdsn", *client, dsn),
+            Reply::ClientDsn { client, dsn } => push_line_if_any(text, "clientdsn", client, dsn),
             Reply::Enabled { client, is_enabled } => {
-                push_line_of(text, "enabled", *client, is_enabled)
+                push_line_of(text, "enabled", client, is_enabled)
             }
-            Reply::Prepared { client, event } => push_line_if_any(text, "prepare", *client, event),
+            Reply::Prepared { client, event } => push_line_if_any(text, "prepare", client, event),
             Reply::Report { client, report } => push_report(text, *client, report),
-            Reply::Bound { hub, client } => push_line_of(text, "bound", *hub, client),
+            Reply::Bound { hub, client } => push_line_of(text, "bound", hub, client),
             Reply::LastEvent { hub, id } => push_last_event(text, *hub, *id),
-            Reply::Active { hub, is_active } => push_line_of(text, "active", *hub, is_active),
+            Reply::Active { hub, is_active } => push_line_of(text, "active", hub, is_active),
             Reply::Headers(parsed) => push_parsed_headers(text, parsed),
-            Reply::HubHeaders { hub, headers } => push_hub_headers(text, *hub, headers.as_slice()),
+            Reply::HubHeaders { hub, headers } => push_headers(text, hub, headers.as_slice()),
+            Reply::TraceContext { span, context } => push_line_of(text, "trace", span, context),
+            Reply::Sampled { span, is_sampled } => push_line_of(text, "sampled", span, is_sampled),
+            Reply::SpanHeaders { span, headers } => push_headers(text, span, headers.as_slice()),
+            Reply::Status { span, status } => push_line_of(text, "getstatus", span, status),
+            Reply::SpanId { span, id } => push_line_of(text, "spanid", span, id),
+            Reply::Data { span, values } => push_line_of(text, "data", span, values),
             Reply::Dsn(read) => push_dsn_answer(text, read),
             Reply::DebugType(name) => push_line(text, "debugtype", name),
             Reply::Sensitive(is_sensitive) => push_line(text, "sensitive", is_sensitive),
@@ -50,8 +56,14 @@ impl Shown for Reply<'_> {
     }
 }
 
-fn push_hub_headers(text: &mut String, hub: u64, headers: &[Header]) -> Result<(), AllocError> {
-    write!(text, "headers {hub}")?;
+// The headers of a hub or of a span.
+fn push_headers<K: Shown>(
+    text: &mut String,
+    owner: &K,
+    headers: &[Header],
+) -> Result<(), AllocError> {
+    text.push_str("headers ")?;
+    owner.push_to(text)?;
     for header in headers {
         push_header(text, header)?;
     }

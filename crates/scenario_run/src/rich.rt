@@ -27,13 +27,9 @@ fn own_map(alloc: Global, key: &str) -> Result<ValueMap, AllocError> {
 }
 
 fn own_user(alloc: Global) -> Result<User, AllocError> {
-    Ok(User {
-        id: Some(own(alloc)?),
-        email: None,
-        username: None,
-        ip_address: None,
-        data_: ValueMap::new(alloc),
-    })
+    let mut user = User::new(alloc);
+    user.id = Some(own(alloc)?);
+    Ok(user)
 }
 
 fn own_sdk(alloc: Global) -> Result<ClientSdkInfo, AllocError> {

@@ -11,7 +11,7 @@ use sentry_plain::{Items, Table};
 use std::alloc::Global;
 
 /// The tag of the one engine, by which its keys are told.
-const TAG: u64 = 0;
+pub const TAG: u64 = 0;
 
 const NANOSECONDS: u64 = 1_000_000_000;
 
@@ -124,6 +124,9 @@ impl Scenario {
             Command::Session(command) => self.perform_on_session(*command),
             Command::Log(command) => self.capture_log(command),
             Command::Metric(command) => self.capture_metric(command),
+            Command::Transaction(command) => self.start_transaction(command),
+            Command::Span(command) => self.perform_on_span(command),
+            Command::SpanEdit(command) => self.edit_span(command),
             Command::Header(command) => self.perform_on_headers(command),
             Command::Text(command) => self.read_text(command),
         }

@@ -3,6 +3,7 @@ use crate::answer::Answer;
 use crate::callbacks::Handler;
 use crate::fault::Failure;
 use crate::scenario::{Scenario, hub_key};
+use crate::spans::span_key;
 use scenario_commands::scopes::{Entry, Identity, Role, ScopeChange, ScopeCommand};
 use sentry_base::protocol::{Attachment, Context, Fresh, User, Value, ValueMap};
 use sentry_plain::{Items, Text};
@@ -39,13 +40,11 @@ fn user(alloc: Global, identity: Option<Identity<'_>>) -> Result<Option<User>, A
     let Some(identity) = identity else {
         return Ok(None);
     };
-    Ok(Some(User {
-        id: text_or_none(alloc, identity.id)?,
-        email: text_or_none(alloc, identity.email)?,
-        username: text_or_none(alloc, identity.username)?,
-        ip_address: None,
-        data_: ValueMap::new(alloc),
-    }))
+    let mut user = User::new(alloc);
+    user.id = text_or_none(alloc, identity.id)?;
+    user.email = text_or_none(alloc, identity.email)?;
+    user.username = text_or_none(alloc, identity.username)?;
+    Ok(Some(user))
 }
 
 /// A context that is a map of `value` to a text.
@@ -107,6 +106,7 @@ fn edit(
             let text = Text::new(alloc, prefix);
             text.map(Handler::Drop).map(ScopeEdit::AddEventProcessor)
         }
+        ScopeChange::SetSpan(span) => Ok(ScopeEdit::SetSpan(span.map(span_key))),
     }
 }
 

@@ -3,9 +3,9 @@ use crate::answer::{Answer, Reply};
 use crate::fault::Failure;
 use crate::scenario::Scenario;
 use scenario_commands::texts::TextCommand;
-use sentry_base::dsn::IntoDsn;
 use sentry_base::protocol::Refusal;
-use sentry_base::utils::{is_sensitive_header, parse_type_from_debug, scrub_pii_from_url};
+use sentry_texts::dsn::IntoDsn;
+use sentry_texts::utils::{is_sensitive_header, parse_type_from_debug, scrub_pii_from_url};
 use std::alloc::Global;
 use url::{ParseError, Url};
 

@@ -26,13 +26,15 @@ use Rattle.sentry_client_reports.specs.LossBooks.{LossEntry, engine_losses, repo
 use Rattle.sentry_pipeline.specs.Pipeline.{Prepared, prepare_event, loss_reason}
 use Rattle.sentry_pipeline.specs.declared.pipeline.Preparation.{Preparation}
 use Rattle.sentry_pipeline.specs.declared.pipeline.Preparation.TheVariants.{Kept, SampledOut, Dropped}
+use Rattle.sentry_span_table.specs.declared.table.records.SpanTable.{SpanTable}
 use Rattle.sentry_state.specs.declared.state.Client.{Client}
 use Rattle.sentry_sessions.specs.declared.session.record.Session.{Session}
 use Rattle.sentry_sessions.specs.Sessions.{event_reached, hand_out, pending_update}
-use Rattle.sentry_state.specs.Books.{with_report, pending_report, with_entry_if_any}
+use Rattle.sentry_state.specs.Books.{pending_report, with_entry_if_any}
+use Rattle.sentry_base.specs.Envelopes.{with_report}
 use Rattle.sentry_state.specs.Outcomes.{named_session, Outcome, require_some, let_some, reply_with, hub_at, plain_client_at, with_hub}
 use Rattle.sentry_state.specs.Changes.{with_session_entry}
-use Rattle.sentry_state.specs.Worlds.{World, SessionState, plain_session}
+use Rattle.sentry_state.specs.Worlds.{World, SessionState, plain_session, span_table}
 use Rattle.sentry_base.specs.declared.protocol.keys.HubKey.{HubKey}
 use Rattle.sentry_base.specs.declared.protocol.refusal.Refusal.TheVariants.{Stale}
 use Rattle.std.specs.Option.{option_map, is_some}
@@ -73,9 +75,9 @@ capture_of_prepared prepared = record {
 
 -- on an empty slot nothing runs, and nothing is lost
 unfoldable pub capture : {P C : Type 0}
-    → (P → Partial) → (C → Meanings) → Client C → Option (Scope P) → Fresh → Event → Capture
-capture gives meanings client scope fresh event =
-    if client.occupied then capture_of_prepared (prepare_event gives meanings client.options scope fresh event)
+    → (P → Partial) → (C → Meanings) → SpanTable → Client C → Option (Scope P) → Fresh → Event → Capture
+capture gives meanings spans client scope fresh event =
+    if client.occupied then capture_of_prepared (prepare_event gives meanings spans client.options scope fresh event)
     else record { reached = None; event = None; entry = None }
 
 -- the id that a capture replies: that of the event that is sent, or the nil one
@@ -177,7 +179,7 @@ module _ {P C : Type 0} where
       require_some Stale world (hub_at world key) (λ hub.
       let_some hub.stack.top.client (reply_with nil_id [] world) (λ client_key.
       let_some (plain_client_at world client_key) (reply_with nil_id [] world) (λ client.
-      let made = capture gives meanings client (Some hub.stack.top.scope) fresh event in
+      let made = capture gives meanings (span_table world) client (Some hub.stack.top.scope) fresh event in
       let id = captured_id made.event in
       let session = capture_named_session world hub.stack.top.session client made in
       reply_with id

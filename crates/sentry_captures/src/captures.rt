@@ -5,7 +5,8 @@ ghost use Rattle.sentry_base.specs.Envelopes.{empty_envelope, with_item};
 ghost use Rattle.sentry_base.specs.declared.protocol.envelope.EnvelopeItem.TheVariants as item;
 ghost use Rattle.sentry_base.specs.declared.protocol.event.Event.{Event};
 ghost use Rattle.sentry_pipeline.specs.Pipeline.{loss_reason};
-ghost use Rattle.sentry_state.specs.Books.{pending_report, with_report, with_entry, with_entry_if_any};
+ghost use Rattle.sentry_state.specs.Books.{pending_report, with_entry, with_entry_if_any};
+ghost use Rattle.sentry_base.specs.Envelopes.{with_report};
 ghost use Rattle.sentry_state.specs.Outcomes.{Does, named_session};
 ghost use Rattle.sentry_state.specs.Worlds.{World, SessionState, Stands, plain_session};
 ghost use Rattle.sentry_captures.specs.Captures.{capture, capture_entry, captured_id, captured_envelopes, sent_event};
@@ -22,8 +23,8 @@ use sentry_options::clientoptions::{Callbacks, SessionMode};
 use sentry_pipeline::pipeline::{Preparation, prepare_event};
 use sentry_plain::{Boxed, Items};
 use sentry_scope::scope::Scope;
-use sentry_sending::sending::add_report;
 use sentry_sessions::session::Session;
+use sentry_span_table::table::SpanTable;
 use sentry_state::state::{Client, Out, State};
 use std::alloc::{AllocError, Global};
 
@@ -33,24 +34,25 @@ use std::alloc::{AllocError, Global};
 pub fn capture<P: EventCallback + Drop, C: Callbacks>(
     alloc: Global,
     client: &Client<C>,
+    spans: &SpanTable,
     scope: Option<&Scope<P>>,
     fresh: Fresh,
     event: &mut Option<Event>,
 ) -> Result<Option<Preparation>, AllocError>
     ensures entry { (given : Event) → event.old ≡ Some given → IfOk result (λ preparation.
         option_map (λ p. capture_entry (loss_reason p)) preparation
-        ≡ (capture P.gives C.meanings client.now (option_copied scope.entry) fresh given).entry) }
+        ≡ (capture P.gives C.meanings spans.now client.now (option_copied scope.entry) fresh given).entry) }
     ensures reached { (given : Event) → event.old ≡ Some given → OnOk result (event.new ≡
-        (capture P.gives C.meanings client.now (option_copied scope.entry) fresh given).reached) }
+        (capture P.gives C.meanings spans.now client.now (option_copied scope.entry) fresh given).reached) }
     ensures event { (given : Event) → event.old ≡ Some given → IfOk result (λ preparation.
         sent_event preparation event.new
-        ≡ (capture P.gives C.meanings client.now (option_copied scope.entry) fresh given).event) }
+        ≡ (capture P.gives C.meanings spans.now client.now (option_copied scope.entry) fresh given).event) }
 {
     if !client.occupied {
         *event = None;
         return Ok(None);
     }
-    let preparation = prepare_event(alloc, client.options.get(), scope, fresh, event)?;
+    let preparation = prepare_event(alloc, client.options.get(), spans, scope, fresh, event)?;
     Ok(Some(preparation))
 }
 
@@ -90,16 +92,6 @@ fn count_reached(session: &mut Session, event: &Option<Event>)
     }
 }
 
-/// The value in a box, if there is one: it is cheap to hand on.
-pub fn into_box<T: Drop>(alloc: Global, value: Option<T>) -> Result<Option<Boxed<T>>, AllocError>
-    ensures { IfOk result (λ boxed. boxed ≡ value) }
-{
-    match value {
-        None => Ok(None),
-        Some(value) => Ok(Some(Boxed::new(alloc, value)?)),
-    }
-}
-
 // What a capture does to a session: the update that goes out with the event, and the session after it.
 #[tactic(auto, unfolding(crate::specs::Captures::capture_session))]
 fn capture_session(
@@ -117,7 +109,7 @@ fn capture_session(
     if !takes {
         return Ok((None, after));
     }
-    let update = into_box(alloc, after.create_envelope_item()?)?;
+    let update = Boxed::from_option(alloc, after.create_envelope_item()?)?;
     Ok((update, after))
 }
 
@@ -192,7 +184,7 @@ fn event_envelope(
     };
     add_update(&mut envelope, update)?;
     add_attachments(&mut envelope, attachments)?;
-    add_report(&mut envelope, report)?;
+    envelope.add_report(report)?;
     Ok(envelope)
 }
 
@@ -314,7 +306,8 @@ pub fn capture_on_hub<P: EventCallback + Drop, C: Callbacks>(
     let label = client.label;
     let scope = Some(&held.stack.top.scope);
     let name = held.stack.top.session;
-    let preparation = capture(state.alloc, client, scope, fresh, event)?;
+    let spans = state.span_table();
+    let preparation = capture(state.alloc, client, spans, scope, fresh, event)?;
     let takes = takes_update(client, &preparation, event);
     let (update, session) = capture_named_session(state, name, takes, event)?;
     drop_unsent(&preparation, event);

@@ -3,6 +3,7 @@ use sentry_base::callbacks::{
     BoxedBreadcrumbCallback, BoxedEventCallback, BoxedLogCallback, BoxedMetricCallback,
 };
 use sentry_options::integration::BoxedIntegration;
+use sentry_options::sampler::BoxedTracesSampler;
 
 /// The callbacks of a client.
 pub type ClientCallbacks = sentry_options::clientoptions::ClientCallbacks<
@@ -11,6 +12,7 @@ pub type ClientCallbacks = sentry_options::clientoptions::ClientCallbacks<
     BoxedBreadcrumbCallback,
     BoxedLogCallback,
     BoxedMetricCallback,
+    BoxedTracesSampler,
 >;
 
 /// The options of a client.

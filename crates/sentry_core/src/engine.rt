@@ -1,6 +1,7 @@
 //! The engine over boxed callbacks.
 use crate::boxed::ClientCallbacks;
 use sentry_base::callbacks::BoxedEventCallback;
+pub use sentry_engine::call::{SpanCall, SpanReply};
 pub use sentry_engine::engine::Out;
 
 /// An engine.
@@ -8,6 +9,12 @@ pub type Engine = sentry_engine::engine::Engine<BoxedEventCallback, ClientCallba
 
 /// A call of an engine, with its arguments.
 pub type Call = sentry_engine::call::Call<BoxedEventCallback, ClientCallbacks>;
+
+/// A call on a client, or on a label of losses.
+pub type ClientCall = sentry_engine::call::ClientCall<BoxedEventCallback, ClientCallbacks>;
+
+/// A call on a hub.
+pub type HubCall = sentry_engine::call::HubCall<BoxedEventCallback>;
 
 /// What a call replies.
 pub type Reply = sentry_engine::call::Reply<BoxedEventCallback, ClientCallbacks>;

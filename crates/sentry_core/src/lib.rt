@@ -5,6 +5,8 @@
 mod boxed;
 pub mod client_report;
 pub mod engine;
+pub mod laws;
+pub mod queueing;
 pub mod types;
 pub mod utils;
 
@@ -13,10 +15,9 @@ pub use sentry_base::callbacks::{
     BoxedBreadcrumbCallback, BoxedEventCallback, BoxedLogCallback, BoxedMetricCallback,
     BreadcrumbCallback, EventCallback, LogCallback, MetricCallback,
 };
-pub use sentry_base::dsn::IntoDsn;
 pub use sentry_base::protocol;
 pub use sentry_base::protocol::{Breadcrumb, Envelope, Level, User};
-pub use sentry_base::utils::{event_from_error, parse_type_from_debug};
+pub use sentry_batches::batcher::Batch;
 pub use sentry_batches::metrics;
 pub use sentry_engine::engine::ScopeGuard;
 pub use sentry_options::clientoptions::{
@@ -24,8 +25,16 @@ pub use sentry_options::clientoptions::{
     UserAgent,
 };
 pub use sentry_options::integration::{BoxedIntegration, Integration};
+pub use sentry_options::sampler::{BoxedTracesSampler, TracesSampler};
 pub use sentry_plain::{Boxed, Items, Shared, Text, TextMap};
+pub use sentry_sessions::session::{Session, SessionQueue};
+pub use sentry_span_table::table::SpanTable;
+pub use sentry_texts::dsn::IntoDsn;
+pub use sentry_texts::utils::{event_from_error, parse_type_from_debug};
 pub use sentry_trace::headers::{
     HeaderParseError, SentryTrace, TraceHeader, TraceHeadersIter, TracePropagationContext,
     parse_headers,
+};
+pub use sentry_trace::performance::{
+    CustomTransactionContext, TransactionContext, TransactionContextBuilder,
 };

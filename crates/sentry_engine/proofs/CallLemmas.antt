@@ -1,8 +1,9 @@
 -- What calls come to, once it is known what they found.
 use Rattle.std.proofs.lemmas.Bool.Decides.{nat_tests}
 use Rattle.std.proofs.Common.{arith, ◌≡◌, refl, ap, sym, subst, ◌∙◌, ℕ, ◌+◌, ◌-◌, ◌^◌, Bool, true, false, List, []}
-use Rattle.std.specs.Prelude.{Some, None, Result, Ok, Err, IsErr, is_ok, nat_lt, ◌==◌, ◌&&◌}
+use Rattle.std.specs.Prelude.{Option, Some, None, Result, Ok, Err, IsErr, is_ok, nat_lt, ◌==◌, ◌&&◌}
 use Rattle.std.specs.List.{list_any}
+use Rattle.std.specs.Option.{option_map}
 use Rattle.std.specs.Result.{IsErrAnd}
 use Rattle.sentry_base.specs.declared.protocol.refusal.Refusal.{Refusal}
 use Rattle.sentry_state.specs.declared.state.Out.{Out}
@@ -15,28 +16,30 @@ use Rattle.sentry_plain.specs.Tables.{without, put}
 use Rattle.sentry_sessions.specs.Sessions.{start_of}
 use Rattle.sentry_sessions.specs.declared.session.record.SessionStart.{SessionStart}
 use Rattle.sentry_options.specs.Meanings.{Meanings}
+use Rattle.sentry_scope.specs.EditLists.{all_name_held_spans, renames_after}
 use Rattle.sentry_scope.specs.Scopes.{edit_all}
 use Rattle.sentry_options.specs.declared.clientoptions.ClientOptions.{ClientOptions}
 use Rattle.sentry_scope.specs.Stacks.{depth, pop}
 use Rattle.sentry_scope.specs.declared.scope.edit.ScopeEdit.{ScopeEdit}
 use Rattle.sentry_base.specs.declared.protocol.keys.Label.{Label}
 use Rattle.sentry_state.specs.Books.{without_unused_book, with_book}
-use Rattle.sentry_engine.specs.Clients.{add_client, drop_client}
-use Rattle.sentry_state.specs.Clients.{new_client, is_client_named, has_session_of}
+use Rattle.sentry_calls.specs.Clients.{add_client, clone_client, drop_client}
+use Rattle.sentry_state.specs.Clients.{clone_from, new_client, is_client_named, has_session_of}
 use Rattle.sentry_queues.specs.Flushes.{flush_queues}
 use Rattle.sentry_queues.specs.declared.flushes.Flush.TheVariants.{All}
-use Rattle.sentry_engine.specs.Hubs.{configure, is_clear}
-use Rattle.sentry_engine.specs.Layers.{pop_scope}
-use Rattle.sentry_state.specs.Outcomes.{Outcome, IsAnswer, Does, plain_client_at, hub_at, reply_with, with_hub, with_scope, with_stack}
+use Rattle.sentry_calls.specs.Hubs.{configure, is_clear, with_names}
+use Rattle.sentry_calls.specs.Layers.{pop_scope}
+use Rattle.sentry_state.specs.Outcomes.{Outcome, IsAnswer, Does, client_at, plain_client_at, hub_at, reply_with, with_hub, with_scope, with_stack}
 use Rattle.sentry_sending.specs.Sending.{reply_sending}
 use Rattle.sentry_sending.specs.SessionEnds.{release_session}
 use Rattle.sentry_state.specs.Changes.{with_session, is_session_number_left}
-use Rattle.sentry_engine.specs.Sessions.{start_session}
+use Rattle.sentry_calls.specs.Sessions.{start_session}
 use Rattle.sentry_sending.specs.Sessions.{replace_session}
-use Rattle.sentry_state.specs.Worlds.{World, ClientState, Stands}
+use Rattle.sentry_span_table.specs.SpanTables.{has_transaction_of}
+use Rattle.sentry_state.specs.Worlds.{World, ClientState, Stands, plain_client, span_table}
 use Rattle.sentry_state.specs.declared.state.Client.{Client}
 use Rattle.sentry_state.specs.declared.state.State.{State}
-use Rattle.sentry_state.specs.declared.state.Hub.{Hub}
+use Rattle.sentry_hub_table.specs.declared.hub.Hub.{Hub}
 
 and_left : (a b : Bool) → (a && b) ≡ true → a ≡ true
 and_left true b e = refl
@@ -53,6 +56,12 @@ is_above deep pushed top =
     let above : nat_lt 0 pushed ≡ true = and_right (deep == pushed) (nat_lt 0 pushed) top in
     grind (arith, nat_tests)
 
+-- a client that is found as an engine keeps it
+found_of_plain : {C : Type 0} (found : Option (ClientState C)) (kept : Client C) → option_map plain_client found ≡ Some kept
+    → (client : ClientState C) × (found ≡ Some client) × (kept ≡ plain_client client)
+found_of_plain None kept is = absurd cc
+found_of_plain (Some client) kept is = let same : kept ≡ plain_client client = cc in (client, refl, same)
+
 module _ {P C : Type 0} where
   -- the world without a client, and without its book where that is unused
   abbrev pub dropped : ClientKey → Label → World P C → World P C
@@ -61,9 +70,11 @@ module _ {P C : Type 0} where
   -- a client that nothing names is flushed and dropped
   pub drop_client_is : (key : ClientKey) (world : World P C) (kept : Client C) → plain_client_at world key ≡ Some kept
       → is_client_named key world.hubs ≡ false → has_session_of key world.sessions ≡ false
+      → has_transaction_of (span_table world) key ≡ false
       → drop_client key world ≡ reply_with tt (flush_queues All key world).sent (dropped key kept.label (flush_queues All key world).after)
   unfolding drop_client
-  drop_client_is key world kept found unnamed no_session = rw found (rw unnamed (rw no_session refl))
+  drop_client_is key world kept found unnamed no_session no_transaction =
+      rw found (rw unnamed (rw no_session (rw no_transaction refl)))
 
   -- the top layer of a hub that is not the only one is popped
   pub pop_scope_is : (key : HubKey) (pushed now : ℕ) (world : World P C) (hub : Hub P) → hub_at world key ≡ Some hub
@@ -87,12 +98,23 @@ module _ {P C : Type 0} where
 
   -- edits one of which clears the scope
   pub configure_is : (key : HubKey) (edits : List (ScopeEdit P)) (now : ℕ) (world : World P C) (hub : Hub P) → hub_at world key ≡ Some hub
-      → list_any is_clear edits ≡ true
+      → all_name_held_spans (span_table world) edits ≡ true → list_any is_clear edits ≡ true
       → configure key edits now world
       ≡ reply_with tt (release_session key.number hub now world).sent
-      (with_hub (release_session key.number hub now world).after key (with_scope (with_session hub None) (edit_all edits hub.stack.top.scope)))
+      (with_names (renames_after (span_table world) edits hub.stack.top.scope [])
+      (with_hub (release_session key.number hub now world).after key (with_scope (with_session hub None) (edit_all edits hub.stack.top.scope))))
   unfolding configure
-  configure_is key edits now world hub found clears = rw found (rw clears refl)
+  configure_is key edits now world hub found held clears = rw found (rw held (rw clears refl))
+
+  -- edits none of which clears the scope
+  pub configure_kept_is : (key : HubKey) (edits : List (ScopeEdit P)) (now : ℕ) (world : World P C) (hub : Hub P) → hub_at world key ≡ Some hub
+      → all_name_held_spans (span_table world) edits ≡ true → list_any is_clear edits ≡ false
+      → configure key edits now world
+      ≡ reply_with tt []
+      (with_names (renames_after (span_table world) edits hub.stack.top.scope [])
+      (with_hub world key (with_scope hub (edit_all edits hub.stack.top.scope))))
+  unfolding configure
+  configure_kept_is key edits now world hub found held kept = rw found (rw held (rw kept refl))
 
   -- a call whose outcome is known, where the engine stands for the world after it
   pub replied : {T : Type 0} (outcome : Outcome P C T) (reply : T) (sent handed : List (ClientKey × Envelope)) (after : World P C) (new : State P C)
@@ -124,6 +146,26 @@ module _ {P C : Type 0} where
       (with_client_and_book (new_client meanings options transport label now) label world)
   unfolding add_client
   add_client_is meanings options transport label now world own left = rw own (rw left refl)
+
+  -- the world with one more client, whose label has a book
+  abbrev pub with_client : ClientState C → World P C → World P C
+  with_client client world = record world {
+    next = record world.next { client = world.next.client + 1 };
+    clients = put world.clients world.next.client client;
+  }
+
+  -- a client that is cloned
+  pub clone_client_is : (key : ClientKey) (now : ℕ) (world : World P C) (client : ClientState C) → client_at world key ≡ Some client
+      → nat_lt world.next.client (2 ^ 64 - 1) ≡ true
+      → clone_client key now world
+      ≡ reply_with (record { tag = world.tag; number = world.next.client }) [] (with_client (clone_from now client) world)
+  unfolding clone_client
+  clone_client_is key now world client found left = rw found (rw left refl)
+
+  -- a client that is found under a key, as an engine keeps it
+  pub state_of_plain : (world : World P C) (key : ClientKey) (kept : Client C) → plain_client_at world key ≡ Some kept
+      → (client : ClientState C) × (client_at world key ≡ Some client) × (kept ≡ plain_client client)
+  state_of_plain world key kept is = found_of_plain (client_at world key) kept is
 
   -- a call that is refused since it is out of memory, and changed nothing
   pub refused_for_memory : {T : Type 0} (old new : State P C) (result : Result (Out T) Refusal) (outcome : World P C → Outcome P C T)

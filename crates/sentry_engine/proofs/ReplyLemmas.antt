@@ -5,11 +5,10 @@ use Rattle.sentry_base.specs.declared.protocol.refusal.Refusal.{Refusal}
 use Rattle.sentry_base.specs.declared.protocol.refusal.Refusal.TheVariants.{OutOfMemory, Stale, OutOfOrder, StillNamed, ScopesOpen, InvalidDsn, InvalidRate, ForeignLosses, Full}
 use Rattle.sentry_state.specs.declared.state.Out.{Out}
 use Rattle.sentry_state.specs.declared.state.State.{State}
-use Rattle.sentry_engine.specs.declared.call.Reply.{Reply}
+use Rattle.sentry_calls.specs.declared.call.Reply.{Reply}
 use Rattle.sentry_state.specs.Worlds.{World}
 use Rattle.sentry_state.specs.Outcomes.{Outcome, IsAnswer, DoesWith}
-use Rattle.sentry_engine.specs.Replies.{IsMapped}
-use Rattle.sentry_engine.specs.Runs.{map_answer, map_reply}
+use Rattle.sentry_span_calls.specs.Replies.{map_answer, map_reply}
 
 module _ {P C T : Type 0} where
   is_ok-map_answer : (f : T → Reply P C) (answer : Result (Out T) Refusal) → is_ok answer ≡ true → is_ok (map_answer f answer) ≡ true
@@ -29,23 +28,14 @@ module _ {P C T : Type 0} where
   IsAnswer-map_answer b f expected (Err ForeignLosses) h = ap (map_answer f) h
   IsAnswer-map_answer b f expected (Err Full) h = ap (map_answer f) h
 
-  mapped : (f : T → Reply P C) (gives : T → Reply P C → Type 0) → ((x : T) (y : Reply P C) → gives x y → y ≡ f x)
-      → (answer : Result (Out T) Refusal) (result : Result (Out (Reply P C)) Refusal) → IsMapped gives answer result → map_answer f answer ≡ result
-  mapped f gives given (Ok out) (Ok result) h =
-      let reply : result.reply ≡ f out.reply = given out.reply result.reply h.0 in
-      λ i. Ok (record { reply = sym reply i; sent = sym h.1 i })
-  mapped f gives given (Err refusal) (Err same) h = ap Err (sym h)
-  mapped f gives given (Ok out) (Err refusal) h = absurd h
-  mapped f gives given (Err refusal) (Ok out) h = absurd h
-
   does_mapped : (b : Bool) (f : T → Reply P C) (old new : State P C) (answer : Result (Out T) Refusal) (outcome : World P C → Outcome P C T)
       → DoesWith b old new answer outcome → DoesWith b old new (map_answer f answer) (λ world. map_reply f (outcome world))
   does_mapped b f old new (Ok out) outcome d = λ world s. (IsAnswer-map_answer b f (outcome world).answer (Ok out) (d world s).0, (d world s).1)
   does_mapped b f old new (Err refusal) outcome d = (d.0, λ world s. IsAnswer-map_answer b f (outcome world).answer (Err refusal) (d.1 world s))
 
   -- a call did the same with its reply put into the one type of replies
-  pub does_replying : (b : Bool) (f : T → Reply P C) (gives : T → Reply P C → Type 0) (given : (x : T) (y : Reply P C) → gives x y → y ≡ f x)
-      (old new : State P C) (answer : Result (Out T) Refusal) (result : Result (Out (Reply P C)) Refusal) (outcome : World P C → Outcome P C T)
-      → DoesWith b old new answer outcome → IsMapped gives answer result → DoesWith b old new result (λ world. map_reply f (outcome world))
-  does_replying b f gives given old new answer result outcome d h =
-      subst (λ r. DoesWith b old new r (λ world. map_reply f (outcome world))) (mapped f gives given answer result h) (does_mapped b f old new answer outcome d)
+  pub does_replying : (b : Bool) (f : T → Reply P C) (old new : State P C) (answer : Result (Out T) Refusal)
+      (result : Result (Out (Reply P C)) Refusal) (outcome : World P C → Outcome P C T)
+      → DoesWith b old new answer outcome → result ≡ map_answer f answer → DoesWith b old new result (λ world. map_reply f (outcome world))
+  does_replying b f old new answer result outcome d is =
+      subst (λ r. DoesWith b old new r (λ world. map_reply f (outcome world))) (sym is) (does_mapped b f old new answer outcome d)

@@ -5,13 +5,14 @@ use Rattle.std.specs.Prelude.{Result, Ok, Err}
 use Rattle.sentry_base.specs.declared.protocol.refusal.Refusal.{Refusal}
 use Rattle.sentry_state.specs.declared.state.Out.{Out}
 use Rattle.sentry_state.specs.declared.state.State.{State}
-use Rattle.sentry_engine.specs.declared.call.Call.{Call}
-use Rattle.sentry_engine.specs.declared.call.Reply.{Reply}
+use Rattle.sentry_calls.specs.declared.call.Call.{Call}
+use Rattle.sentry_calls.specs.declared.call.Reply.{Reply}
 use Rattle.sentry_base.specs.Callbacks.{Partial}
 use Rattle.sentry_options.specs.Meanings.{Meanings}
 use Rattle.sentry_state.specs.Worlds.{World, Stands}
 use Rattle.sentry_state.specs.Outcomes.{DoesWith}
-use Rattle.sentry_engine.specs.Runs.{step, takes_no_memory, May, Run}
+use Rattle.sentry_calls.specs.Runs.{May, Run}
+use Rattle.sentry_calls.specs.Steps.{step, takes_no_memory}
 
 module _ {P C : Type 0} (gives : P → Partial) (meanings : C → Meanings) where
   -- what a call did is a step that the definition allows, to a world that the engine stands for

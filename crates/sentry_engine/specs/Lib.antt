@@ -1,8 +1,2 @@
-pub mod Losses
+pub mod Ends
 pub mod Replies
-pub mod Clients
-pub mod Hubs
-pub mod Layers
-pub mod Sessions
-pub mod Telemetry
-pub mod Runs

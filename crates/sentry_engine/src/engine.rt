@@ -4,10 +4,13 @@ ghost use Rattle.sentry_state.specs.Worlds.{Stands, first_world, starting_world}
 
 mod books;
 mod clients;
+mod facts;
 mod flushing;
 mod hubs;
 mod layers;
+mod names;
 mod sessions;
+mod spans;
 mod telemetry;
 
 pub use layers::ScopeGuard;

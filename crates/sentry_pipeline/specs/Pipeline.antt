@@ -5,6 +5,7 @@ use Rattle.std.specs.Str.{bytes_eq}
 use Rattle.sentry_base.specs.Events.{is_nil}
 use Rattle.sentry_base.specs.declared.protocol.event.Event.{Event}
 use Rattle.sentry_base.specs.declared.protocol.sdk.ClientSdkInfo.{ClientSdkInfo}
+use Rattle.sentry_span_table.specs.declared.table.records.SpanTable.{SpanTable}
 use Rattle.sentry_scope.specs.declared.scope.Scope.{Scope}
 use Rattle.sentry_options.specs.declared.clientoptions.plain.PlainOptions.{PlainOptions}
 use Rattle.sentry_options.specs.declared.clientoptions.ClientOptions.{ClientOptions}
@@ -62,9 +63,9 @@ continue_or_drop place (Some event) go = go event
 
 module _ {P : Type 0} where
   -- the event with what the scope fills in, if there is one
-  abbrev pub fill_if_any : Option (Scope P) → Event → Event
-  fill_if_any None event = event
-  fill_if_any (Some scope) event = fill scope event
+  abbrev pub fill_if_any : SpanTable → Option (Scope P) → Event → Event
+  fill_if_any spans None event = event
+  fill_if_any spans (Some scope) event = fill spans scope event
 
   -- the event through the processors of the scope, if there is one
   abbrev pub process_if_any : (P → Partial) → Option (Scope P) → Partial
@@ -77,11 +78,11 @@ sample (FixedRate rate) draw = if nat_lt draw rate then Kept else SampledOut
 
 -- the event as it comes through all callbacks and whether it is to be sent, or the place that dropped it
 unfoldable pub prepare_event : {P C : Type 0}
-    → (P → Partial) → (C → Meanings) → ClientOptions C → Option (Scope P) → Fresh → Event → Prepared
-prepare_event gives meanings options scope fresh event =
+    → (P → Partial) → (C → Meanings) → SpanTable → ClientOptions C → Option (Scope P) → Fresh → Event → Prepared
+prepare_event gives meanings spans options scope fresh event =
     let client = meanings options.callbacks in
     let identified = with_sdk (sdk_info client) (with_id fresh.uuid event) in
-    continue_or_drop EventProcessor (process_if_any gives scope (fill_if_any scope identified)) (λ processed.
+    continue_or_drop EventProcessor (process_if_any gives scope (fill_if_any spans scope identified)) (λ processed.
     continue_or_drop Integration (process_by_all client.integrations options.plain processed) (λ integrated.
     continue_or_drop BeforeSend (call_if_any client.before_send (with_defaults options.plain integrated)) (λ made.
     record { preparation = sample options.plain.event_sampling_strategy fresh.draw; event = Some made })))

@@ -1,8 +1,9 @@
 -- What becomes of a log or a metric between its capture and its batch, whatever the options say of logs and metrics.
-use Rattle.std.specs.Prelude.{Bool, Option, List}
+use Rattle.std.specs.Prelude.{Option, List}
 use Rattle.sentry_base.specs.declared.protocol.log.Log.{Log}
 use Rattle.sentry_base.specs.declared.protocol.metric.Metric.{Metric}
 use Rattle.sentry_options.specs.declared.clientoptions.ClientOptions.{ClientOptions}
+use Rattle.sentry_span_table.specs.declared.table.records.SpanTable.{SpanTable}
 use Rattle.sentry_scope.specs.declared.scope.Scope.{Scope}
 use Rattle.sentry_options.specs.Meanings.{Meanings, call_on_item}
 use Rattle.sentry_scope.specs.Fills.{fill_log, fill_metric}
@@ -19,12 +20,12 @@ with_metric_defaults defaults metric = record metric { attributes = fill_default
 
 module _ {P C : Type 0} (meanings : C → Meanings) where
   -- the log as it is to be sent, or `None` if the callback drops it
-  abbrev pub prepare_log : ClientOptions C → List DefaultAttribute → Scope P → Log → Option Log
-  prepare_log options defaults scope log =
-      call_on_item (meanings options.callbacks).before_send_log (with_log_defaults defaults (fill_log scope log))
+  abbrev pub prepare_log : SpanTable → ClientOptions C → List DefaultAttribute → Scope P → Log → Option Log
+  prepare_log spans options defaults scope log =
+      call_on_item (meanings options.callbacks).before_send_log (with_log_defaults defaults (fill_log spans scope log))
 
   -- the metric as it is to be sent, or `None` if the callback drops it
-  abbrev pub prepare_metric : ClientOptions C → List DefaultAttribute → Scope P → Metric → Option Metric
-  prepare_metric options defaults scope metric =
+  abbrev pub prepare_metric : SpanTable → ClientOptions C → List DefaultAttribute → Scope P → Metric → Option Metric
+  prepare_metric spans options defaults scope metric =
       call_on_item (meanings options.callbacks).before_send_metric
-      (with_metric_defaults defaults (fill_metric options.plain.send_default_pii scope metric))
+      (with_metric_defaults defaults (fill_metric spans options.plain.send_default_pii scope metric))

@@ -16,6 +16,7 @@ use sentry_options::clientoptions::{
 use sentry_options::constants::{PACKAGE_NAME, SDK_NAME, VERSION};
 use sentry_plain::{Items, Text};
 use sentry_scope::scope::Scope;
+use sentry_span_table::table::SpanTable;
 use std::alloc::{AllocError, Global};
 pub use telemetry::{prepare_log, prepare_metric};
 
@@ -64,8 +65,8 @@ fn fill_in_id(fresh: Uuid, event: &mut Event)
     }
 }
 
-// What every event of a client says of the SDK.
-fn sdk_info<C: Callbacks>(alloc: Global, callbacks: &C) -> Result<ClientSdkInfo, AllocError>
+/// What every event and transaction of a client says of the SDK.
+pub fn sdk_info<C: Callbacks>(alloc: Global, callbacks: &C) -> Result<ClientSdkInfo, AllocError>
     ensures { IfOk result (λ info. info ≡ sdk_info (C.meanings callbacks.now)) }
 {
     let mut packages = Items::new(alloc);
@@ -126,18 +127,19 @@ fn fill_in_defaults(
 fn fill_in_before_callbacks<P: Drop, C: Callbacks>(
     alloc: Global,
     callbacks: &C,
+    spans: &SpanTable,
     scope: Option<&Scope<P>>,
     fresh: Uuid,
     event: &mut Event,
 ) -> Result<(), AllocError>
-    ensures { OnOk result (event.new ≡ fill_if_any (option_copied scope.entry)
+    ensures { OnOk result (event.new ≡ fill_if_any spans.now (option_copied scope.entry)
         (with_sdk (sdk_info (C.meanings callbacks.now)) (with_id fresh event.old))) }
 {
     fill_in_id(fresh, event);
     fill_in_sdk(alloc, callbacks, event)?;
     match scope {
         None => Ok(()),
-        Some(scope) => scope.fill_event(event),
+        Some(scope) => scope.fill_event(spans, event),
     }
 }
 
@@ -173,20 +175,21 @@ fn sample(strategy: EventSamplingStrategy, draw: Draw) -> Preparation
 pub fn prepare_event<P: EventCallback + Drop, C: Callbacks>(
     alloc: Global,
     options: &ClientOptions<C>,
+    spans: &SpanTable,
     scope: Option<&Scope<P>>,
     fresh: Fresh,
     event: &mut Option<Event>,
 ) -> Result<Preparation, AllocError>
     ensures preparation { (captured : Event) → event.old ≡ Some captured → IfOk result (λ preparation. preparation ≡
-        (prepare_event P.gives C.meanings options.now (option_copied scope.entry) fresh captured).preparation) }
+        (prepare_event P.gives C.meanings spans.now options.now (option_copied scope.entry) fresh captured).preparation) }
     ensures event { (captured : Event) → event.old ≡ Some captured → OnOk result (event.new ≡
-        (prepare_event P.gives C.meanings options.now (option_copied scope.entry) fresh captured).event) }
+        (prepare_event P.gives C.meanings spans.now options.now (option_copied scope.entry) fresh captured).event) }
 {
     let callbacks = &options.callbacks;
     let Some(captured) = event else {
         return Ok(Preparation::Kept);
     };
-    fill_in_before_callbacks(alloc, callbacks, scope, fresh.uuid, captured)?;
+    fill_in_before_callbacks(alloc, callbacks, spans, scope, fresh.uuid, captured)?;
     process_by_scope(scope, event)?;
     if event.is_none() {
         return Ok(Preparation::Dropped(Place::EventProcessor));

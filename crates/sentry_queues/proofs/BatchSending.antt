@@ -1,33 +1,31 @@
 -- Whether a batch is sent when an item joins it.
-use Rattle.std.proofs.Common.{◌≡◌, refl, ap, ◌∙◌, sym, List, [], ◌∷◌, ◌++◌, length, Bool, true, false, arith, ◌==◌, ◌-◌, length-append}
+use Rattle.std.proofs.Common.{◌≡◌, refl, ap, ◌∙◌, sym, ℕ, List, [], ◌∷◌, ◌++◌, length, Bool, true, false, arith, ◌==◌, ◌-◌}
 use Rattle.std.proofs.lemmas.Bool.Decides.{nat_tests}
-use Rattle.std.specs.Prelude.{Option, Some, None, ◌&&◌, if◌then◌else◌}
+use Rattle.std.specs.Prelude.{Option, Some, None, is_some, nat_le, ◌&&◌}
 use Rattle.sentry_base.specs.declared.protocol.client_report.ClientReport.{ClientReport}
 use Rattle.sentry_base.specs.declared.protocol.envelope.Envelope.{Envelope}
 use Rattle.sentry_base.specs.declared.protocol.keys.ClientKey.{ClientKey}
 use Rattle.sentry_batches.specs.Batches.{if_full}
-use Rattle.sentry_batches.specs.declared.batcher.TheConstants.{BATCH_ITEMS}
+use Rattle.sentry_batches.proofs.BatchLemmas.{next_full}
 use Rattle.sentry_sending.specs.Sending.{address, envelopes_from}
 
 pub and_true : (a b : Bool) → (a && b) ≡ true → a ≡ true
 and_true true b e = refl
 and_true false b e = e
 
-module _ {T : Type 0} where
-  not_hundredth : (b : Bool) (items : List T) (item : T) → (length (items ++ item ∷ []) == BATCH_ITEMS) ≡ b
-      → (length items == BATCH_ITEMS - 1) ≡ false → (if b then Some (items ++ item ∷ []) else None) ≡ None
-  not_hundredth true items item e h =
-      let more = length-append items (item ∷ []) in
-      absurd (grind (arith, nat_tests))
-  not_hundredth false items item e h = refl
+no_batch : {T : Type 0} (batch : Option (List T)) → is_some batch ≡ false → batch ≡ None
+no_batch None none = refl
+no_batch (Some items) none = absurd cc
 
-  -- nothing leaves where the slot is empty, or the item is not the hundredth
+module _ {T : Type 0} where
+  -- nothing leaves where the slot is empty, or one more item doesn't make the batch full
   pub unsent_item : (key : ClientKey) (occupied : Bool) (report : Option ClientReport) (envelopes : Option (List T) → List Envelope) → [] ≡ envelopes None
-      → (items : List T) (item : T) → (occupied && length items == BATCH_ITEMS - 1) ≡ false
-      → [] ≡ envelopes_from occupied key report (envelopes (if_full (items ++ item ∷ [])))
-  unsent_item key true report envelopes none items item h =
-      ap (address key report) (none ∙ ap envelopes (sym (not_hundredth (length (items ++ item ∷ []) == BATCH_ITEMS) items item refl h)))
-  unsent_item key false report envelopes none items item h = refl
+      → (limit : ℕ) (items : List T) (item : T) → (occupied && nat_le (limit - 1) (length items)) ≡ false
+      → [] ≡ envelopes_from occupied key report (envelopes (if_full limit (items ++ item ∷ [])))
+  unsent_item key true report envelopes none limit items item h =
+      ap (address key report)
+      (none ∙ ap envelopes (sym (no_batch (if_full limit (items ++ item ∷ [])) (sym (next_full limit items item) ∙ h))))
+  unsent_item key false report envelopes none limit items item h = refl
 
 module _ {T : Type 0} where
   pub none_if_empty : (items : List T) → (length items == 0) ≡ true → items ≡ []

@@ -4,7 +4,7 @@ use Rattle.std.specs.Prelude.{Option, None}
 use Rattle.sentry_base.specs.declared.protocol.client_report.ClientReport.{ClientReport}
 use Rattle.sentry_base.specs.declared.protocol.envelope.Envelope.{Envelope}
 use Rattle.sentry_base.specs.declared.protocol.keys.ClientKey.{ClientKey}
-use Rattle.sentry_state.specs.Books.{with_report}
+use Rattle.sentry_base.specs.Envelopes.{with_report}
 use Rattle.sentry_sending.specs.Sending.{address, report_left}
 
 -- after the first envelope there is no report

@@ -7,7 +7,7 @@ use Rattle.sentry_base.specs.declared.protocol.envelope.EnvelopeItem.TheVariants
 use Rattle.sentry_base.specs.declared.protocol.keys.ClientKey.{ClientKey}
 use Rattle.sentry_base.specs.declared.protocol.log.Log.{Log}
 use Rattle.sentry_base.specs.declared.protocol.metric.Metric.{Metric}
-use Rattle.sentry_options.specs.declared.clientoptions.choices.SessionMode.{SessionMode}
+use Rattle.sentry_options.specs.declared.clientoptions.plain.PlainOptions.{PlainOptions}
 use Rattle.sentry_batches.specs.Batches.{tick_history, batch_on_tick}
 use Rattle.sentry_batches.specs.declared.batcher.TheConstants.{BATCH_INTERVAL}
 use Rattle.sentry_sessions.specs.SessionQueues.{QueueEntry, Waiting, flushed, queue_of, envelopes_of, envelope_of}
@@ -55,19 +55,21 @@ abbrev pub batch_envelopes : Option (List Log) → Option (List Metric) → List
 batch_envelopes logs metrics =
     envelope_if_some (option_map item.Logs logs) (envelope_if_some (option_map item.Metrics metrics) [])
 
--- the logs that a flush hands out, if it does
-abbrev pub flushed_logs : Flush → QueueHistories → Option (List Log)
-flushed_logs flush queues = batch_on_tick (is_flushed flush BATCH_INTERVAL queues.log_tick) queues.logs
+-- the logs that a flush hands out of a batch with this limit, if it does
+abbrev pub flushed_logs : ℕ → Flush → QueueHistories → Option (List Log)
+flushed_logs limit flush queues = batch_on_tick limit (is_flushed flush BATCH_INTERVAL queues.log_tick) queues.logs
 
 -- the metrics that a flush hands out, if it does
-abbrev pub flushed_metrics : Flush → QueueHistories → Option (List Metric)
-flushed_metrics flush queues = batch_on_tick (is_flushed flush BATCH_INTERVAL queues.metric_tick) queues.metrics
+abbrev pub flushed_metrics : ℕ → Flush → QueueHistories → Option (List Metric)
+flushed_metrics limit flush queues =
+    batch_on_tick limit (is_flushed flush BATCH_INTERVAL queues.metric_tick) queues.metrics
 
--- the envelopes of a flush
-abbrev pub flushed_envelopes : Flush → SessionMode → QueueHistories → List Envelope
-flushed_envelopes flush mode queues =
-    session_envelopes (is_flushed flush SESSION_INTERVAL queues.session_tick) (queue_of mode queues.sessions)
-    ++ batch_envelopes (flushed_logs flush queues) (flushed_metrics flush queues)
+-- the envelopes of a flush of a client with these options
+abbrev pub flushed_envelopes : Flush → PlainOptions → QueueHistories → List Envelope
+flushed_envelopes flush options queues =
+    session_envelopes (is_flushed flush SESSION_INTERVAL queues.session_tick) (queue_of options.session_mode queues.sessions)
+    ++ batch_envelopes (flushed_logs options.max_batch_items flush queues)
+    (flushed_metrics options.max_batch_items flush queues)
 
 -- ---- what is left
 
@@ -105,5 +107,5 @@ module _ {P C : Type 0} where
   flush_queues flush key world =
       send_some world (client_at world key) (λ client.
       if client.closed then send_nothing world else
-      send key client (flushed_envelopes flush client.options.plain.session_mode client.queues)
+      send key client (flushed_envelopes flush client.options.plain client.queues)
       (with_client_state world key (after_flush flush client)))

@@ -4,6 +4,7 @@ use Rattle.sentry_base.specs.declared.protocol.keys.ClientKey.{ClientKey}
 use Rattle.sentry_state.specs.Outcomes.{client_at}
 use Rattle.sentry_sending.specs.Sending.{Sending, send, send_nothing, send_some}
 use Rattle.sentry_state.specs.Worlds.{World}
+use Rattle.sentry_span_table.specs.declared.table.records.SpanTable.{SpanTable}
 use Rattle.sentry_scope.specs.declared.scope.Scope.{Scope}
 use Rattle.sentry_options.specs.Meanings.{Meanings}
 use Rattle.sentry_base.specs.declared.protocol.keys.Label.{Label}
@@ -30,22 +31,24 @@ dropped_item category = engine_losses (loss_of category reason.BeforeSend 1)
 
 module _ {P C : Type 0} where
   -- the log as a client would send it, or `None` if its callback drops it
-  unfoldable pub client_log : (C → Meanings) → Client C → Scope P → Log → Option Log
-  client_log meanings client scope log =
-      prepare_log meanings client.options (default_log_attributes client.options.plain client.os) scope log
+  unfoldable pub client_log : (C → Meanings) → SpanTable → Client C → Scope P → Log → Option Log
+  client_log meanings spans client scope log =
+      prepare_log meanings spans client.options (default_log_attributes client.options.plain client.os) scope log
 
   -- the metric of a draft at this moment as a client would send it, or `None` if its callback drops it
-  unfoldable pub client_metric : (C → Meanings) → Client C → Scope P → ℕ → MetricDraft → Option Metric
-  client_metric meanings client scope now draft =
-      prepare_metric meanings client.options (default_metric_attributes client.options.plain) scope
+  unfoldable pub client_metric : (C → Meanings) → SpanTable → Client C → Scope P → ℕ → MetricDraft → Option Metric
+  client_metric meanings spans client scope now draft =
+      prepare_metric meanings spans client.options (default_metric_attributes client.options.plain) scope
       (metric_of scope.trace_id now draft)
 
-  -- a log joins the batch of a client, which sends it with the hundredth; a closed client drops it
+  -- a log joins the batch of a client, which is sent when it has as many as the client's limit says; a closed client
+  -- drops it
   unfoldable pub accept_log : ClientKey → Log → World P C → Sending P C
   accept_log key log world =
       send_some world (client_at world key) (λ client.
       if client.closed then send_nothing world else
-      send key client (batch_envelopes (batch_on (accept log) client.queues.logs) None)
+      send key client
+      (batch_envelopes (batch_on client.options.plain.max_batch_items (accept log) client.queues.logs) None)
       (with_client_state world key (with_log_entry (accept log) client)))
 
   -- the same of a metric
@@ -53,7 +56,8 @@ module _ {P C : Type 0} where
   accept_metric key metric world =
       send_some world (client_at world key) (λ client.
       if client.closed then send_nothing world else
-      send key client (batch_envelopes None (batch_on (accept metric) client.queues.metrics))
+      send key client
+      (batch_envelopes None (batch_on client.options.plain.max_batch_items (accept metric) client.queues.metrics))
       (with_client_state world key (with_metric_entry (accept metric) client)))
 
   -- a log that came through the callback is accepted, and one that didn't is lost

@@ -2,7 +2,7 @@
 ghost use Rattle.std.specs.Prelude.{◌≡◌, false, IfOk, OnErr, Some, None};
 ghost use Rattle.sentry_queues.specs.declared.flushes.Flush.{Flush};
 ghost use Rattle.sentry_plain.specs.Tables.{value_at, replace_at};
-ghost use Rattle.sentry_options.specs.declared.clientoptions.choices.SessionMode.{SessionMode};
+ghost use Rattle.sentry_options.specs.declared.clientoptions.plain.PlainOptions.{PlainOptions};
 ghost use Rattle.sentry_queues.specs.declared.flushes.Flush.TheVariants.{All, Due};
 ghost use Rattle.sentry_queues.specs.Flushes.{is_flushed, is_closing, session_envelopes, flushed_logs, flushed_metrics};
 ghost use Rattle.sentry_queues.specs.Flushes.{flush_sessions, flush_histories, after_flush, flush_queues};
@@ -54,18 +54,18 @@ fn session_envelopes(
 
 // Whether a log or a metric waits. If not, no flush hands one out.
 fn has_batch(queues: &Queues) -> bool
-    ensures logs { (mode : SessionMode) (before : QueueHistories) (flush : Flush) →
-        queues.now ≡ plain_queues mode before → result ≡ false → flushed_logs flush before ≡ None }
-    ensures metrics { (mode : SessionMode) (before : QueueHistories) (flush : Flush) →
-        queues.now ≡ plain_queues mode before → result ≡ false → flushed_metrics flush before ≡ None }
+    ensures logs { (options : PlainOptions) (before : QueueHistories) (flush : Flush) →
+        queues.now ≡ plain_queues options before → result ≡ false → flushed_logs options.max_batch_items flush before ≡ None }
+    ensures metrics { (options : PlainOptions) (before : QueueHistories) (flush : Flush) →
+        queues.now ≡ plain_queues options before → result ≡ false → flushed_metrics options.max_batch_items flush before ≡ None }
 {
     queues.logs.len() != 0 || queues.metrics.len() != 0
 }
 
 // Forgets the ended sessions that wait, if a tick at this moment is due.
 fn tick_sessions(queues: &mut Queues, now: u64)
-    ensures { (mode : SessionMode) (before : QueueHistories) → queues.old ≡ plain_queues mode before →
-        queues.new ≡ plain_queues mode (flush_sessions (Due now) before) }
+    ensures { (options : PlainOptions) (before : QueueHistories) → queues.old ≡ plain_queues options before →
+        queues.new ≡ plain_queues options (flush_sessions (Due now) before) }
 {
     if queues.session_tick.tick(SESSION_INTERVAL, now) {
         queues.sessions.mark_flushed();
@@ -74,12 +74,12 @@ fn tick_sessions(queues: &mut Queues, now: u64)
 
 // Flushes those queues whose tick at this moment is due.
 fn flush_due(queues: &mut Queues, now: u64) -> Batches
-    ensures queues { (mode : SessionMode) (before : QueueHistories) → queues.old ≡ plain_queues mode before →
-        queues.new ≡ plain_queues mode (flush_histories (Due now) before) }
-    ensures logs { (mode : SessionMode) (before : QueueHistories) → queues.old ≡ plain_queues mode before →
-        result.logs ≡ flushed_logs (Due now) before }
-    ensures metrics { (mode : SessionMode) (before : QueueHistories) → queues.old ≡ plain_queues mode before →
-        result.metrics ≡ flushed_metrics (Due now) before }
+    ensures queues { (options : PlainOptions) (before : QueueHistories) → queues.old ≡ plain_queues options before →
+        queues.new ≡ plain_queues options (flush_histories (Due now) before) }
+    ensures logs { (options : PlainOptions) (before : QueueHistories) → queues.old ≡ plain_queues options before →
+        result.logs ≡ flushed_logs options.max_batch_items (Due now) before }
+    ensures metrics { (options : PlainOptions) (before : QueueHistories) → queues.old ≡ plain_queues options before →
+        result.metrics ≡ flushed_metrics options.max_batch_items (Due now) before }
 {
     tick_sessions(queues, now);
     Batches {
@@ -90,12 +90,12 @@ fn flush_due(queues: &mut Queues, now: u64) -> Batches
 
 // Flushes all queues.
 fn flush_all(queues: &mut Queues) -> Batches
-    ensures queues { (mode : SessionMode) (before : QueueHistories) → queues.old ≡ plain_queues mode before →
-        queues.new ≡ plain_queues mode (flush_histories All before) }
-    ensures logs { (mode : SessionMode) (before : QueueHistories) → queues.old ≡ plain_queues mode before →
-        result.logs ≡ flushed_logs All before }
-    ensures metrics { (mode : SessionMode) (before : QueueHistories) → queues.old ≡ plain_queues mode before →
-        result.metrics ≡ flushed_metrics All before }
+    ensures queues { (options : PlainOptions) (before : QueueHistories) → queues.old ≡ plain_queues options before →
+        queues.new ≡ plain_queues options (flush_histories All before) }
+    ensures logs { (options : PlainOptions) (before : QueueHistories) → queues.old ≡ plain_queues options before →
+        result.logs ≡ flushed_logs options.max_batch_items All before }
+    ensures metrics { (options : PlainOptions) (before : QueueHistories) → queues.old ≡ plain_queues options before →
+        result.metrics ≡ flushed_metrics options.max_batch_items All before }
 {
     queues.sessions.mark_flushed();
     Batches {
@@ -107,12 +107,12 @@ fn flush_all(queues: &mut Queues) -> Batches
 // Takes out what a flush hands out of the batches. The sessions that it flushes are forgotten: their envelopes were
 // made before.
 fn flush_queues_of(queues: &mut Queues, flush: Flush) -> Batches
-    ensures queues { (mode : SessionMode) (before : QueueHistories) → queues.old ≡ plain_queues mode before →
-        queues.new ≡ plain_queues mode (flush_histories flush before) }
-    ensures logs { (mode : SessionMode) (before : QueueHistories) → queues.old ≡ plain_queues mode before →
-        result.logs ≡ flushed_logs flush before }
-    ensures metrics { (mode : SessionMode) (before : QueueHistories) → queues.old ≡ plain_queues mode before →
-        result.metrics ≡ flushed_metrics flush before }
+    ensures queues { (options : PlainOptions) (before : QueueHistories) → queues.old ≡ plain_queues options before →
+        queues.new ≡ plain_queues options (flush_histories flush before) }
+    ensures logs { (options : PlainOptions) (before : QueueHistories) → queues.old ≡ plain_queues options before →
+        result.logs ≡ flushed_logs options.max_batch_items flush before }
+    ensures metrics { (options : PlainOptions) (before : QueueHistories) → queues.old ≡ plain_queues options before →
+        result.metrics ≡ flushed_metrics options.max_batch_items flush before }
 {
     match flush {
         Flush::All | Flush::Closing => flush_all(queues),
@@ -125,9 +125,9 @@ fn flush_client<C>(client: &mut Client<C>, flush: Flush) -> Batches
     ensures client { (state : ClientState C) → client.old ≡ plain_client state →
         client.new ≡ plain_client (after_flush flush state) }
     ensures logs { (state : ClientState C) → client.old ≡ plain_client state →
-        result.logs ≡ flushed_logs flush state.queues }
+        result.logs ≡ flushed_logs state.options.plain.max_batch_items flush state.queues }
     ensures metrics { (state : ClientState C) → client.old ≡ plain_client state →
-        result.metrics ≡ flushed_metrics flush state.queues }
+        result.metrics ≡ flushed_metrics state.options.plain.max_batch_items flush state.queues }
 {
     let closing = flush.is_closing();
     client.occupied &= !closing;
@@ -145,9 +145,9 @@ fn take_flushed<P: Drop, C: Callbacks>(
         value_at state.old.clients number ≡ Some (plain_client client) →
         Stands state.new (record world { clients = replace_at world.clients number (after_flush flush client) }) }
     ensures logs { (client : ClientState C) → value_at state.old.clients number ≡ Some (plain_client client) →
-        result.logs ≡ flushed_logs flush client.queues }
+        result.logs ≡ flushed_logs client.options.plain.max_batch_items flush client.queues }
     ensures metrics { (client : ClientState C) → value_at state.old.clients number ≡ Some (plain_client client) →
-        result.metrics ≡ flushed_metrics flush client.queues }
+        result.metrics ≡ flushed_metrics client.options.plain.max_batch_items flush client.queues }
 {
     let Some(client) = state.clients.get_mut(number) else {
         return Batches {

@@ -17,6 +17,7 @@ use sentry_pipeline::pipeline::{
 use sentry_plain::Items;
 use sentry_scope::scope::Scope;
 use sentry_sending::sending::mark_sent;
+use sentry_span_table::table::SpanTable;
 use sentry_state::state::{Client, State};
 use std::alloc::{AllocError, Global};
 
@@ -25,14 +26,15 @@ use std::alloc::{AllocError, Global};
 pub fn client_log<P: Drop, C: Callbacks>(
     alloc: Global,
     client: &Client<C>,
+    spans: &SpanTable,
     scope: &Scope<P>,
     log: Log,
 ) -> Result<Option<Log>, AllocError>
-    ensures { IfOk result (λ made. made ≡ client_log C.meanings client.now scope.now log) }
+    ensures { IfOk result (λ made. made ≡ client_log C.meanings spans.now client.now scope.now log) }
 {
     let options = client.options.get();
     let defaults = default_log_attributes(alloc, &options.plain, &client.os)?;
-    let made = prepare_log(alloc, options, &defaults, scope, log)?;
+    let made = prepare_log(alloc, options, &defaults, spans, scope, log)?;
     Ok(made)
 }
 
@@ -41,16 +43,17 @@ pub fn client_log<P: Drop, C: Callbacks>(
 pub fn client_metric<P: Drop, C: Callbacks>(
     alloc: Global,
     client: &Client<C>,
+    spans: &SpanTable,
     scope: &Scope<P>,
     now: u64,
     draft: MetricDraft,
 ) -> Result<Option<Metric>, AllocError>
-    ensures { IfOk result (λ made. made ≡ client_metric C.meanings client.now scope.now now draft) }
+    ensures { IfOk result (λ made. made ≡ client_metric C.meanings spans.now client.now scope.now now draft) }
 {
     let options = client.options.get();
     let defaults = default_metric_attributes(alloc, &options.plain)?;
     let metric = draft.into_metric(scope.trace_id, now);
-    let made = prepare_metric(alloc, options, &defaults, scope, metric)?;
+    let made = prepare_metric(alloc, options, &defaults, spans, scope, metric)?;
     Ok(made)
 }
 
@@ -62,7 +65,7 @@ fn record_dropped<P: Drop, C: Callbacks>(state: &mut State<P, C>, label: Label, 
     state.record_losses(label, &Losses::of(category, Reason::BeforeSend, 1));
 }
 
-// Accepts a log into the batch of a client, which the hundredth sends. If out of memory, nothing has changed.
+// Accepts a log into the batch of a client, which is sent once it is full. If out of memory, nothing has changed.
 #[tactic(auto, unfolding(crate::specs::Telemetry::accept_log))]
 fn accept_log<P: Drop, C: Callbacks>(
     state: &mut State<P, C>,
@@ -94,7 +97,7 @@ fn accept_log<P: Drop, C: Callbacks>(
     Ok(sent)
 }
 
-// Accepts a metric into the batch of a client, which the hundredth sends. If out of memory, nothing has changed.
+// Accepts a metric into the batch of a client, which is sent once it is full. If out of memory, nothing has changed.
 #[tactic(auto, unfolding(crate::specs::Telemetry::accept_metric))]
 fn accept_metric<P: Drop, C: Callbacks>(
     state: &mut State<P, C>,

@@ -5,7 +5,8 @@ use Rattle.sentry_base.specs.declared.protocol.envelope.Envelope.{Envelope}
 use Rattle.sentry_base.specs.declared.protocol.keys.ClientKey.{ClientKey}
 use Rattle.sentry_base.specs.declared.protocol.keys.Label.{Label}
 use Rattle.sentry_client_reports.specs.LossBooks.{report_point}
-use Rattle.sentry_state.specs.Books.{pending_report, with_report, with_entry}
+use Rattle.sentry_state.specs.Books.{pending_report, with_entry}
+use Rattle.sentry_base.specs.Envelopes.{with_report}
 use Rattle.sentry_state.specs.Outcomes.{Outcome, reply_with}
 use Rattle.sentry_state.specs.Worlds.{World, ClientState}
 

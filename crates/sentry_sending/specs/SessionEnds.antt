@@ -1,23 +1,18 @@
 -- When a session ends, and what becomes of it.
-use Rattle.std.specs.Prelude.{ℕ, Bool, Option, None, List, ◌∷◌, if◌then◌else◌}
-use Rattle.std.specs.List.{list_any}
+use Rattle.std.specs.Prelude.{ℕ, Option, None, ◌∷◌, if◌then◌else◌}
 use Rattle.sentry_plain.specs.Tables.{replace_at, without}
 use Rattle.sentry_base.specs.declared.protocol.keys.ClientKey.{ClientKey}
 use Rattle.sentry_base.specs.declared.protocol.keys.SessionKey.{SessionKey}
 use Rattle.sentry_base.specs.declared.protocol.session.SessionStatus.{SessionStatus}
 use Rattle.sentry_base.specs.declared.protocol.session.SessionUpdate.{SessionUpdate}
-use Rattle.sentry_scope.specs.Stacks.{names_session}
+pub use Rattle.sentry_hub_table.specs.Hubs.{is_session_named}
 use Rattle.sentry_sessions.specs.SessionQueues.{enqueued, envelopes_on}
 use Rattle.sentry_sessions.specs.Sessions.{closed, session_of, pending_update}
-use Rattle.sentry_state.specs.declared.state.Hub.{Hub}
+use Rattle.sentry_hub_table.specs.declared.hub.Hub.{Hub}
 use Rattle.sentry_state.specs.Outcomes.{client_at, session_at}
 use Rattle.sentry_sending.specs.Sending.{Sending, send, send_nothing, send_some}
 use Rattle.sentry_state.specs.Worlds.{World}
 use Rattle.sentry_state.specs.Changes.{with_session, with_client_state, with_client_entry}
-
--- a layer of a hub names the session
-abbrev pub is_session_named : {P : Type 0} → SessionKey → List (ℕ × Hub P) → Bool
-is_session_named key hubs = list_any (λ entry. names_session key entry.1.stack) hubs
 
 module _ {P C : Type 0} where
   -- the last update of a session is queued at a client, which may send all that waits; a closed client drops it

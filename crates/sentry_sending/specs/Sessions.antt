@@ -1,6 +1,6 @@
 -- How a session starts in place of another.
 use Rattle.std.specs.Prelude.{ℕ}
-use Rattle.sentry_state.specs.declared.state.Hub.{Hub}
+use Rattle.sentry_hub_table.specs.declared.hub.Hub.{Hub}
 use Rattle.sentry_sending.specs.Sending.{Sending}
 use Rattle.sentry_state.specs.Worlds.{World}
 use Rattle.sentry_sessions.specs.declared.session.record.SessionStart.{SessionStart}

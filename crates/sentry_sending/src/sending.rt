@@ -1,24 +1,14 @@
 //! How envelopes leave a client.
-ghost use Rattle.std.specs.Prelude.{◌≡◌, IfOk, OnOk};
+ghost use Rattle.std.specs.Prelude.{◌≡◌, IfOk};
 ghost use Rattle.sentry_state.specs.Worlds.{World, Stands};
-ghost use Rattle.sentry_state.specs.Books.{pending_report, with_report};
+ghost use Rattle.sentry_state.specs.Books.{pending_report};
 ghost use Rattle.sentry_sending.specs.Sending.{address, envelopes_from, after_sending};
 
-use sentry_base::protocol::{ClientKey, ClientReport, Envelope, EnvelopeItem, Label};
+use sentry_base::protocol::{ClientKey, ClientReport, Envelope, Label};
 use sentry_options::clientoptions::Callbacks;
 use sentry_plain::Items;
 use sentry_state::state::State;
 use std::alloc::{AllocError, Global};
-
-/// Adds a report as the last item, if there is one.
-pub fn add_report(envelope: &mut Envelope, report: Option<ClientReport>) -> Result<(), AllocError>
-    ensures { OnOk result (envelope.new ≡ with_report report envelope.old) }
-{
-    match report {
-        None => Ok(()),
-        Some(report) => envelope.add_item(EnvelopeItem::ClientReport(report)),
-    }
-}
 
 // Gives the envelopes the client that is to send them, and the first of them the report.
 fn address(
@@ -31,7 +21,7 @@ fn address(
 {
     let mut sent = Items::new(alloc);
     for mut envelope in envelopes {
-        add_report(&mut envelope, report.take())?;
+        envelope.add_report(report.take())?;
         sent.push((key, envelope))?;
     }
     Ok(sent)

@@ -1,29 +1,17 @@
 //! When a session ends, and what becomes of it.
 ghost use Rattle.std.specs.Prelude.{◌≡◌, IfOk, OnOk, OnErr, Some, None};
 ghost use Rattle.sentry_plain.specs.Tables.{value_at, replace_at};
-ghost use Rattle.sentry_state.specs.declared.state.Hub.{Hub};
+ghost use Rattle.sentry_hub_table.specs.declared.hub.Hub.{Hub};
 ghost use Rattle.sentry_state.specs.Changes.{with_session};
 ghost use Rattle.sentry_state.specs.Worlds.{World, Stands};
-ghost use Rattle.sentry_sending.specs.SessionEnds.{is_session_named, queue_update, end_session, end_unnamed_session, release_session};
+ghost use Rattle.sentry_sending.specs.SessionEnds.{queue_update, end_session, end_unnamed_session, release_session};
 
 use crate::sending::{envelopes_from, mark_sent};
 use sentry_base::protocol::{ClientKey, Envelope, SessionKey, SessionStatus, SessionUpdate};
 use sentry_options::clientoptions::Callbacks;
-use sentry_plain::{Items, Table};
-use sentry_state::state::{Hub, State};
+use sentry_plain::Items;
+use sentry_state::state::State;
 use std::alloc::AllocError;
-
-// Whether a layer of a hub names the session.
-fn is_session_named<P>(hubs: &Table<Hub<P>>, session: SessionKey) -> bool
-    ensures { result ≡ is_session_named session hubs.now }
-{
-    for (_, hub) in hubs.iter() {
-        if hub.stack.names_session(session) {
-            return true;
-        }
-    }
-    false
-}
 
 // Queues the last update of a session at a client. If out of memory, nothing has changed.
 #[tactic(auto, unfolding(crate::specs::SessionEnds::queue_update))]
@@ -99,10 +87,11 @@ fn end_unnamed_session<P: Drop, C: Callbacks>(
     let Some(key) = name else {
         return Ok(Items::new(state.alloc));
     };
-    if is_session_named(&state.hubs, key) {
+    if state.hubs.is_session_named(key) {
         return Ok(Items::new(state.alloc));
     }
     let sent = end_session(state, key, None, now)?;
+    state.hubs.forget_session(key.number);
     Ok(sent)
 }
 
@@ -121,10 +110,11 @@ pub fn release_session<P: Drop, C: Callbacks>(
     ensures next { OnOk result (state.new.next ≡ state.old.next) }
     ensures err { OnErr result (state.new ≡ state.old) }
 {
-    let Some(hub) = state.hubs.get_mut(number) else {
+    let Some(hub) = state.hubs.get(number) else {
         return Ok(Items::new(state.alloc));
     };
-    let name = hub.stack.top.session.take();
+    let name = hub.stack.top.session;
+    state.hubs.set_session(number, None);
     match end_unnamed_session(state, name, now) {
         Ok(sent) => Ok(sent),
         Err(error) => {

@@ -3,7 +3,7 @@ ghost use Rattle.std.specs.Prelude.{◌≡◌, ◌<◌, ◌-◌, ◌^◌, IfOk, 
 ghost use Rattle.sentry_plain.specs.Tables.{value_at};
 ghost use Rattle.sentry_sessions.specs.Sessions.{session_of};
 ghost use Rattle.sentry_sessions.specs.declared.session.record.SessionStart.{SessionStart};
-ghost use Rattle.sentry_state.specs.declared.state.Hub.{Hub};
+ghost use Rattle.sentry_hub_table.specs.declared.hub.Hub.{Hub};
 ghost use Rattle.sentry_state.specs.Worlds.{World, Stands};
 ghost use Rattle.sentry_sending.specs.Sessions.{replace_session};
 
@@ -33,6 +33,8 @@ pub fn replace_session<P: Drop, C: Callbacks>(
     ensures err { OnErr result (state.new ≡ state.old) }
 {
     let number = state.next.session;
+    // So that a layer can name it without memory.
+    state.hubs.expect_session(number)?;
     state.sessions.insert(number, session)?;
     match release_session(state, hub, now) {
         Ok(sent) => {

@@ -39,8 +39,8 @@ aggregate_cmp a b = minute_cmp (a.started, a.distinct_id) (b.started, b.distinct
 abbrev pub key_of : SessionUpdate → AggregateKey
 key_of update = record { started = update.started / MINUTE * MINUTE; distinct_id = update.distinct_id }
 
+-- a session that goes on has not exited, and counts nowhere
 abbrev pub is_exit : SessionStatus → Bool
-is_exit session_status.Ok = true
 is_exit session_status.Exited = true
 is_exit _ = false
 

@@ -21,7 +21,7 @@ use Rattle.sentry_scope.specs.declared.scope.stack.Stack.{Stack}
 use Rattle.sentry_scope.specs.declared.scope.stack.StackLayer.{StackLayer}
 use Rattle.sentry_state.specs.Clients.{has_session_of}
 use Rattle.sentry_state.specs.Changes.{with_new_session, with_client_entry, with_session, with_log_entry, with_metric_entry}
-use Rattle.sentry_state.specs.declared.state.Hub.{Hub}
+use Rattle.sentry_hub_table.specs.declared.hub.Hub.{Hub}
 use Rattle.sentry_sessions.specs.SessionQueues.{QueueEntry, Waiting, queue_of}
 use Rattle.sentry_state.specs.Outcomes.{client_at, plain_client_at}
 use Rattle.sentry_state.specs.declared.state.Client.{Client}
@@ -33,11 +33,11 @@ use Rattle.sentry_batches.specs.Batches.{BatchEntry, Queue}
 use Rattle.sentry_batches.specs.Batches as batch
 
 module _ {X Y : Type 0} (f : X → Y) where
-  option_map-cond : (b : Bool) (x y : Option X) → cond b (option_map f x) (option_map f y) ≡ option_map f (cond b x y)
+  pub option_map-cond : (b : Bool) (x y : Option X) → cond b (option_map f x) (option_map f y) ≡ option_map f (cond b x y)
   option_map-cond true x y = refl
   option_map-cond false x y = refl
 
-  is_some-option_map : (o : Option X) → is_some (option_map f o) ≡ is_some o
+  pub is_some-option_map : (o : Option X) → is_some (option_map f o) ≡ is_some o
   is_some-option_map None = refl
   is_some-option_map (Some x) = refl
 
@@ -125,6 +125,7 @@ module _ {P C : Type 0} where
     clients = t.clients;
     hubs = t.hubs;
     sessions = t.sessions;
+    spans = t.spans;
     books =
         t.books ∙ ap (map_values book_of) (sym same)
         ∙ ap (λ b. map_values book_of (cond b world.books (put world.books n []))) (sym has ∙ has_book_in_world old world s n);
@@ -153,6 +154,7 @@ module _ {P C : Type 0} where
     clients = s.clients;
     hubs = s.hubs;
     sessions = s.sessions;
+    spans = s.spans;
     books =
         s.books
         ∙ ap (λ b. map_values book_of (cond b world.books (without world.books label.number))) (sym (sym (client_of_label engine world s label) ∙ has));
@@ -369,12 +371,12 @@ module _ (key : ClientKey) where
 module _ {C : Type 0} where
   -- what is kept of a client to whose logs something came
   pub logs_changed : (client : ClientState C) (kept : Client C) (entry : BatchEntry Log) (queue : Queue Log) → kept ≡ plain_client client
-      → queue ≡ batch.queue_of (entry ∷ client.queues.logs) client.queues.log_tick
+      → queue ≡ batch.queue_of client.options.plain.max_batch_items (entry ∷ client.queues.logs) client.queues.log_tick
       → record kept { queues = record kept.queues { logs = queue } } ≡ plain_client (with_log_entry entry client)
   logs_changed client kept entry queue is q = λ i. record (is i) { queues = record (is i).queues { logs = q i } }
 
   -- the same of metrics
   pub metrics_changed : (client : ClientState C) (kept : Client C) (entry : BatchEntry Metric) (queue : Queue Metric) → kept ≡ plain_client client
-      → queue ≡ batch.queue_of (entry ∷ client.queues.metrics) client.queues.metric_tick
+      → queue ≡ batch.queue_of client.options.plain.max_batch_items (entry ∷ client.queues.metrics) client.queues.metric_tick
       → record kept { queues = record kept.queues { metrics = queue } } ≡ plain_client (with_metric_entry entry client)
   metrics_changed client kept entry queue is q = λ i. record (is i) { queues = record (is i).queues { metrics = q i } }

@@ -3,18 +3,10 @@ use Rattle.std.specs.Prelude.{ℕ, List, ◌==◌, Bool, ◌&&◌, Option, Some,
 use Rattle.std.specs.List.{list_any}
 use Rattle.std.specs.Option.{is_some, option_and_then}
 use Rattle.sentry_plain.specs.Tables.{value_at, put, replace_at, without}
-use Rattle.sentry_base.specs.Envelopes.{with_item}
 use Rattle.sentry_base.specs.declared.protocol.client_report.ClientReport.{ClientReport}
-use Rattle.sentry_base.specs.declared.protocol.envelope.Envelope.{Envelope}
-use Rattle.sentry_base.specs.declared.protocol.envelope.EnvelopeItem.TheVariants as item
 use Rattle.sentry_base.specs.declared.protocol.keys.Label.{Label}
 use Rattle.sentry_client_reports.specs.LossBooks.{LossEntry, pending_losses, report_items, report_of}
 use Rattle.sentry_state.specs.Worlds.{World, ClientState}
-
--- the envelope with a report as its last item, if there is one
-abbrev pub with_report : Option ClientReport → Envelope → Envelope
-with_report None envelope = envelope
-with_report (Some report) envelope = with_item envelope (item.ClientReport report)
 
 -- the books with one under a label's number: as they are where there is one, and else with a new one
 abbrev pub with_book : List (ℕ × List LossEntry) → ℕ → List (ℕ × List LossEntry)

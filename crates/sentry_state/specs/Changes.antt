@@ -5,7 +5,7 @@ use Rattle.sentry_base.specs.declared.protocol.keys.ClientKey.{ClientKey}
 use Rattle.sentry_base.specs.declared.protocol.keys.SessionKey.{SessionKey}
 use Rattle.sentry_sessions.specs.SessionQueues.{QueueEntry}
 use Rattle.sentry_sessions.specs.Sessions.{SessionEntry}
-use Rattle.sentry_state.specs.declared.state.Hub.{Hub}
+use Rattle.sentry_hub_table.specs.declared.hub.Hub.{Hub}
 use Rattle.sentry_state.specs.Worlds.{World, ClientState, QueueHistories, SessionState}
 use Rattle.sentry_base.specs.declared.protocol.keys.HubKey.{HubKey}
 use Rattle.sentry_sessions.specs.declared.session.record.SessionStart.{SessionStart}

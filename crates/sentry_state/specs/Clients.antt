@@ -3,26 +3,19 @@ use Rattle.std.specs.Prelude.{ℕ, Bool, List, ◌&&◌, is_some, Some, [], fals
 use Rattle.std.specs.List.{list_any}
 use Rattle.sentry_base.specs.declared.protocol.keys.ClientKey.{ClientKey}
 use Rattle.sentry_sessions.specs.Sessions.{closed}
-use Rattle.sentry_state.specs.declared.state.Hub.{Hub}
 use Rattle.sentry_state.specs.Worlds.{ClientState, QueueHistories, SessionState}
-use Rattle.sentry_options.specs.Meanings.{Meanings, set_up_all}
+use Rattle.sentry_options.specs.Meanings.{Meanings}
+use Rattle.sentry_options.specs.Options.{set_up}
 use Rattle.sentry_base.specs.declared.protocol.keys.Label.{Label}
 use Rattle.sentry_options.specs.declared.clientoptions.ClientOptions.{ClientOptions}
-use Rattle.sentry_scope.specs.Stacks.{is_client, names_client}
+use Rattle.sentry_scope.specs.Stacks.{is_client}
 use Rattle.sentry_pipeline.specs.OsAttributes.{os_attributes}
 use Rattle.std.specs.Option.{is_some}
-
--- a layer of a hub names the client
-abbrev pub is_client_named : {P : Type 0} → ClientKey → List (ℕ × Hub P) → Bool
-is_client_named key hubs = list_any (λ entry. names_client key entry.1.stack) hubs
+pub use Rattle.sentry_hub_table.specs.Hubs.{is_client_named}
 
 -- a session that goes on was started under the client
 abbrev pub has_session_of : ClientKey → List (ℕ × SessionState) → Bool
 has_session_of key sessions = list_any (λ entry. is_client key (Some entry.1.start.client)) sessions
-
--- the options after the `setup` of their integrations
-abbrev pub set_up : {C : Type 0} → (C → Meanings) → ClientOptions C → ClientOptions C
-set_up meanings options = record options { plain = set_up_all (meanings options.callbacks).integrations options.plain }
 
 -- the queues of a client that is made at this moment
 abbrev pub queues_from : ℕ → QueueHistories

@@ -10,11 +10,16 @@ use Rattle.sentry_base.specs.declared.protocol.refusal.Refusal.TheVariants.{OutO
 use Rattle.sentry_scope.specs.declared.scope.Scope.{Scope}
 use Rattle.sentry_scope.specs.declared.scope.stack.Stack.{Stack}
 use Rattle.sentry_state.specs.declared.state.Client.{Client}
-use Rattle.sentry_state.specs.declared.state.Hub.{Hub}
+use Rattle.sentry_hub_table.specs.declared.hub.Hub.{Hub}
 use Rattle.sentry_state.specs.declared.state.Out.{Out}
 use Rattle.sentry_state.specs.declared.state.State.{State}
 use Rattle.sentry_state.specs.Worlds.{World, ClientState, Stands, plain_client, SessionState}
 use Rattle.sentry_base.specs.declared.protocol.keys.SessionKey.{SessionKey}
+use Rattle.sentry_base.specs.declared.protocol.keys.SpanKey.{SpanKey}
+use Rattle.sentry_base.specs.declared.protocol.keys.TransactionKey.{TransactionKey}
+use Rattle.sentry_span_table.specs.SpanLists.{TransactionState, plain_transaction}
+use Rattle.sentry_span_table.specs.declared.table.records.SpanRecord.{SpanRecord}
+use Rattle.sentry_span_table.specs.declared.table.records.TransactionRecord.{TransactionRecord}
 
 -- what a call comes to: its answer, and the world after it
 pub record Outcome (P C T : Type 0) : Type 0 where
@@ -110,3 +115,13 @@ module _ {P C : Type 0} where
   -- the session that a layer names, if it still goes on
   abbrev pub named_session : World P C → Option SessionKey → Option SessionState
   named_session world name = option_and_then (session_at world) name
+
+  abbrev pub transaction_at : World P C → TransactionKey → Option TransactionState
+  transaction_at world key = value_under world.tag world.transactions key.tag key.number
+
+  -- the same as the engine keeps it
+  abbrev pub plain_transaction_at : World P C → TransactionKey → Option TransactionRecord
+  plain_transaction_at world key = option_map plain_transaction (transaction_at world key)
+
+  abbrev pub span_at : World P C → SpanKey → Option SpanRecord
+  span_at world key = value_under world.tag world.spans key.tag key.number

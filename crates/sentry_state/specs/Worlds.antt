@@ -4,7 +4,7 @@ use Rattle.sentry_base.specs.declared.protocol.keys.Label.{Label}
 use Rattle.sentry_base.specs.declared.protocol.log.Log.{Log}
 use Rattle.sentry_base.specs.declared.protocol.metric.Metric.{Metric}
 use Rattle.sentry_options.specs.declared.clientoptions.ClientOptions.{ClientOptions}
-use Rattle.sentry_options.specs.declared.clientoptions.choices.SessionMode.{SessionMode}
+use Rattle.sentry_options.specs.declared.clientoptions.plain.PlainOptions.{PlainOptions}
 use Rattle.sentry_batches.specs.Batches.{BatchEntry}
 use Rattle.sentry_batches.specs.Batches as batch
 use Rattle.sentry_client_reports.specs.LossBooks.{LossEntry, book_of}
@@ -13,8 +13,11 @@ use Rattle.sentry_sessions.specs.Sessions.{SessionEntry, session_of}
 use Rattle.sentry_pipeline.specs.declared.os_attributes.OsAttributes.{OsAttributes}
 use Rattle.sentry_sessions.specs.declared.session.record.Session.{Session}
 use Rattle.sentry_sessions.specs.declared.session.record.SessionStart.{SessionStart}
+use Rattle.sentry_span_table.specs.SpanLists.{TransactionState, plain_transaction}
+use Rattle.sentry_span_table.specs.declared.table.records.SpanRecord.{SpanRecord}
+use Rattle.sentry_span_table.specs.declared.table.records.SpanTable.{SpanTable}
 use Rattle.sentry_state.specs.declared.state.Client.{Client}
-use Rattle.sentry_state.specs.declared.state.Hub.{Hub}
+use Rattle.sentry_hub_table.specs.declared.hub.Hub.{Hub}
 use Rattle.sentry_state.specs.declared.state.NextNumbers.{NextNumbers}
 use Rattle.sentry_state.specs.declared.state.Queues.{Queues}
 use Rattle.sentry_state.specs.declared.state.State.{State}
@@ -42,8 +45,8 @@ pub record SessionState : Type 0 where
   pub start : SessionStart
   pub history : List SessionEntry
 
--- all that the calls did: the clients, the hubs, the sessions that go on, and for each label of a client the history of
--- its losses
+-- all that the calls did: the clients, the hubs, the sessions that go on, for each label of a client the history of its
+-- losses, and the transactions and spans that were not discarded
 pub record World (P C : Type 0) : Type 0 where
   pub tag : ℕ
   pub next : NextNumbers
@@ -51,18 +54,20 @@ pub record World (P C : Type 0) : Type 0 where
   pub hubs : List (ℕ × Hub P)
   pub sessions : List (ℕ × SessionState)
   pub books : List (ℕ × List LossEntry)
+  pub transactions : List (ℕ × TransactionState)
+  pub spans : List (ℕ × SpanRecord)
 
 -- the table with f of each value
 abbrev pub map_values : {X Y : Type 0} → (X → Y) → List (ℕ × X) → List (ℕ × Y)
 map_values f entries = map (λ entry. (entry.0, f entry.1)) entries
 
 -- what an engine keeps of the queues of a client
-abbrev pub plain_queues : SessionMode → QueueHistories → Queues
-plain_queues mode queues = record {
-  sessions = queue_of mode queues.sessions;
+abbrev pub plain_queues : PlainOptions → QueueHistories → Queues
+plain_queues options queues = record {
+  sessions = queue_of options.session_mode queues.sessions;
   session_tick = record { 0 = queues.session_tick };
-  logs = batch.queue_of queues.logs queues.log_tick;
-  metrics = batch.queue_of queues.metrics queues.metric_tick;
+  logs = batch.queue_of options.max_batch_items queues.logs queues.log_tick;
+  metrics = batch.queue_of options.max_batch_items queues.metrics queues.metric_tick;
 }
 
 -- what an engine keeps of a session
@@ -78,10 +83,19 @@ module _ {C : Type 0} where
     occupied = client.occupied;
     os = client.os;
     closed = client.closed;
-    queues = plain_queues client.options.plain.session_mode client.queues;
+    queues = plain_queues client.options.plain client.queues;
   }
 
--- the engine has all of the world, but of its clients, sessions and books only what is kept
+module _ {P C : Type 0} where
+  -- the table of transactions and spans that an engine has
+  abbrev pub span_table : World P C → SpanTable
+  span_table world = record {
+    tag = world.tag;
+    transactions = map_values plain_transaction world.transactions;
+    spans = world.spans;
+  }
+
+-- the engine has all of the world, but of its clients, sessions, books and transactions only what is kept
 pub record Stands {P C : Type 0} (engine : State P C) (world : World P C) : Type 0 where
   pub tag : engine.tag ≡ world.tag
   pub next : engine.next ≡ world.next
@@ -89,17 +103,20 @@ pub record Stands {P C : Type 0} (engine : State P C) (world : World P C) : Type
   pub hubs : engine.hubs ≡ world.hubs
   pub sessions : engine.sessions ≡ map_values plain_session world.sessions
   pub books : engine.books ≡ map_values book_of world.books
+  pub spans : engine.spans ≡ span_table world
 
 module _ {P C : Type 0} where
   -- the world in which nothing happened yet, with numbers from the first
   abbrev pub starting_world : ℕ → ℕ → World P C
   starting_world tag first = record {
     tag = tag;
-    next = record { client = first; hub = first; session = first };
+    next = record { client = first; hub = first; session = first; transaction = first; span = first };
     clients = [];
     hubs = [];
     sessions = [];
     books = [];
+    transactions = [];
+    spans = [];
   }
 
   -- the same with numbers from 0

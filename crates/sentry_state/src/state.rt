@@ -10,16 +10,19 @@ mod books;
 pub mod clients;
 mod hubs;
 mod sessions;
+mod spans;
 
-use sentry_base::protocol::{ClientKey, Envelope, HubKey, Label, Log, Metric, SessionKey, Uuid};
+use sentry_base::protocol::{ClientKey, Envelope, HubKey, Label, Log, Metric, SessionKey};
 use sentry_batches::batcher::Batch;
 use sentry_batches::tick::LastTick;
 use sentry_client_reports::client_reports::LossBook;
+pub use sentry_hub_table::hub::Hub;
+use sentry_hub_table::hub_table::HubTable;
 use sentry_options::clientoptions::{Callbacks, ClientOptions};
 use sentry_pipeline::os_attributes::OsAttributes;
 use sentry_plain::{Items, Shared, Table};
-use sentry_scope::scope::{Scope, Stack};
 use sentry_sessions::session::{Session, SessionQueue};
+use sentry_span_table::table::SpanTable;
 use std::alloc::{AllocError, Global};
 
 /// The reply of a call, and the envelopes that it hands out, each with the client whose transport is to send it.
@@ -76,27 +79,14 @@ impl<C: Drop> Drop for Client<C> {
     }
 }
 
-/// What an engine keeps of a hub.
-pub struct Hub<P> {
-    pub stack: Stack<P>,
-    pub last_event_id: Option<Uuid>,
-}
-
-impl<P: Drop> Drop for Hub<P> {
-    fn drop(self) {
-        let Hub {
-            stack: _,
-            last_event_id: _,
-        } = self;
-    }
-}
-
 /// The next number of each kind of key.
 #[derive(Clone, Copy)]
 pub struct NextNumbers {
     pub client: u64,
     pub hub: u64,
     pub session: u64,
+    pub transaction: u64,
+    pub span: u64,
 }
 
 /// Everything that an engine holds. `P` is the type of a scope's processors, `C` that of a client's callbacks.
@@ -105,11 +95,14 @@ pub struct State<P, C> {
     pub tag: u64,
     pub next: NextNumbers,
     pub clients: Table<Client<C>>,
-    pub hubs: Table<Hub<P>>,
+    /// It also keeps how many layers name each client, session, transaction and span.
+    pub hubs: HubTable<P>,
     /// The sessions that go on.
     pub sessions: Table<Session>,
     /// The losses of each label that a client names, by the label's number.
     pub books: Table<LossBook>,
+    /// The transactions and spans that were not discarded.
+    pub spans: SpanTable,
     pub alloc: Global,
 }
 
@@ -122,6 +115,7 @@ impl<P: Drop, C: Drop> Drop for State<P, C> {
             hubs: _,
             sessions: _,
             books: _,
+            spans: _,
             alloc: _,
         } = self;
     }
@@ -139,11 +133,14 @@ impl<P: Drop, C: Callbacks> State<P, C> {
                 client: first,
                 hub: first,
                 session: first,
+                transaction: first,
+                span: first,
             },
             clients: Table::new(alloc),
-            hubs: Table::new(alloc),
+            hubs: HubTable::new(alloc, tag),
             sessions: Table::new(alloc),
             books: Table::new(alloc),
+            spans: SpanTable::with_tag(alloc, tag),
             alloc,
         }
     }

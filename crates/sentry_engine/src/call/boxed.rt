@@ -1,8 +1,8 @@
 //! The calls that take a large argument out of its box. Each has a function of its own, so that no other call makes
 //! room for what it takes out.
 ghost use Rattle.std.specs.Prelude.{◌≡◌, option_copied};
-ghost use Rattle.sentry_engine.specs.Clients as clients;
-ghost use Rattle.sentry_engine.specs.Hubs as hubs;
+ghost use Rattle.sentry_calls.specs.Clients as clients;
+ghost use Rattle.sentry_calls.specs.Hubs as hubs;
 ghost use Rattle.sentry_captures.specs.Captures.{capture_event};
 ghost use Rattle.sentry_state.specs.Outcomes.{Does};
 

@@ -1,152 +1,168 @@
-//! The replies of calls, put into the one type of replies.
-use crate::call::Reply;
-use crate::engine::ScopeGuard;
-use sentry_base::dsn::Dsn;
-use sentry_base::protocol::{ClientKey, ClientReport, Event, HubKey, Uuid};
+//! The replies of calls, put into the one type of replies: each function names the one that it gives.
+ghost use Rattle.std.specs.Prelude.{◌≡◌};
+ghost use Rattle.sentry_calls.specs.declared.call.Reply.TheVariants as reply;
+ghost use Rattle.sentry_span_calls.specs.Replies.{map_answer};
+
+use crate::engine::{Out, ScopeGuard};
+use sentry_base::protocol::{ClientKey, ClientReport, Event, HubKey, Refusal, Uuid};
+use sentry_calls::call::{Answer, Reply};
 use sentry_options::clientoptions::ClientOptions;
 use sentry_plain::{Boxed, Shared};
 use sentry_scope::scope::Scope;
+use sentry_span_calls::call::SpanReply;
+use sentry_texts::dsn::Dsn;
 
-impl<P, C> From<ClientKey> for Reply<P, C> {
-    ghost use Rattle.std.specs.Prelude.{◌≡◌};
-    ghost use Rattle.sentry_engine.specs.declared.call.Reply.TheVariants.{Client};
-
-    ghost from_gives = { λ client reply. reply ≡ Client client };
-
-    fn from(client: ClientKey) -> Reply<P, C> {
-        Reply::Client(client)
-    }
+/// Nothing but that the call is done.
+pub(super) fn done<P, C>(answer: Result<Out<()>, Refusal>) -> Answer<P, C>
+    ensures { result ≡ map_answer (λ _. reply.Done) answer }
+{
+    let Out { reply: _, sent } = answer?;
+    Ok(Out {
+        reply: Reply::Done,
+        sent,
+    })
 }
 
-impl<P, C> From<Shared<ClientOptions<C>>> for Reply<P, C> {
-    ghost use Rattle.std.specs.Prelude.{◌≡◌};
-    ghost use Rattle.sentry_engine.specs.declared.call.Reply.TheVariants.{Options};
-
-    ghost from_gives = { λ options reply. reply ≡ Options options };
-
-    fn from(options: Shared<ClientOptions<C>>) -> Reply<P, C> {
-        Reply::Options(options)
-    }
+/// The depth of a hub after a push.
+pub(super) fn depth<P, C>(answer: Result<Out<ScopeGuard>, Refusal>) -> Answer<P, C>
+    ensures { result ≡ map_answer (λ guard. reply.Depth guard.1) answer }
+{
+    let Out { reply, sent } = answer?;
+    let (_hub, depth) = reply.into_parts();
+    Ok(Out {
+        reply: Reply::Depth(depth),
+        sent,
+    })
 }
 
-impl<P, C> From<Option<Dsn>> for Reply<P, C> {
-    ghost use Rattle.std.specs.Prelude.{◌≡◌};
-    ghost use Rattle.sentry_engine.specs.declared.call.Reply.TheVariants.{Dsn};
-
-    ghost from_gives = { λ dsn reply. reply ≡ Dsn dsn };
-
-    fn from(dsn: Option<Dsn>) -> Reply<P, C> {
-        Reply::Dsn(dsn)
-    }
+/// The key of a client.
+pub(super) fn client<P, C>(answer: Result<Out<ClientKey>, Refusal>) -> Answer<P, C>
+    ensures { result ≡ map_answer reply.Client answer }
+{
+    let Out { reply, sent } = answer?;
+    Ok(Out {
+        reply: Reply::Client(reply),
+        sent,
+    })
 }
 
-impl<P, C> From<bool> for Reply<P, C> {
-    ghost use Rattle.std.specs.Prelude.{◌≡◌};
-    ghost use Rattle.sentry_engine.specs.declared.call.Reply.TheVariants.{Decision};
-
-    ghost from_gives = { λ decision reply. reply ≡ Decision decision };
-
-    fn from(decision: bool) -> Reply<P, C> {
-        Reply::Decision(decision)
-    }
+/// The options of a client.
+pub(super) fn options<P, C>(answer: Result<Out<Shared<ClientOptions<C>>>, Refusal>) -> Answer<P, C>
+    ensures { result ≡ map_answer reply.Options answer }
+{
+    let Out { reply, sent } = answer?;
+    Ok(Out {
+        reply: Reply::Options(reply),
+        sent,
+    })
 }
 
-impl<P, C> From<HubKey> for Reply<P, C> {
-    ghost use Rattle.std.specs.Prelude.{◌≡◌};
-    ghost use Rattle.sentry_engine.specs.declared.call.Reply.TheVariants.{Hub};
-
-    ghost from_gives = { λ hub reply. reply ≡ Hub hub };
-
-    fn from(hub: HubKey) -> Reply<P, C> {
-        Reply::Hub(hub)
-    }
+/// Where a client sends to.
+pub(super) fn dsn<P, C>(answer: Result<Out<Option<Dsn>>, Refusal>) -> Answer<P, C>
+    ensures { result ≡ map_answer reply.Dsn answer }
+{
+    let Out { reply, sent } = answer?;
+    Ok(Out {
+        reply: Reply::Dsn(reply),
+        sent,
+    })
 }
 
-impl<P, C> From<()> for Reply<P, C> {
-    ghost use Rattle.std.specs.Prelude.{◌≡◌};
-    ghost use Rattle.sentry_engine.specs.declared.call.Reply.TheVariants.{Done};
-
-    ghost from_gives = { λ _ reply. reply ≡ Done };
-
-    fn from(_: ()) -> Reply<P, C> {
-        Reply::Done
-    }
+/// A decision.
+pub(super) fn decision<P, C>(answer: Result<Out<bool>, Refusal>) -> Answer<P, C>
+    ensures { result ≡ map_answer reply.Decision answer }
+{
+    let Out { reply, sent } = answer?;
+    Ok(Out {
+        reply: Reply::Decision(reply),
+        sent,
+    })
 }
 
-impl<P, C> From<Uuid> for Reply<P, C> {
-    ghost use Rattle.std.specs.Prelude.{◌≡◌};
-    ghost use Rattle.sentry_engine.specs.declared.call.Reply.TheVariants.{Event};
-
-    ghost from_gives = { λ id reply. reply ≡ Event id };
-
-    fn from(id: Uuid) -> Reply<P, C> {
-        Reply::Event(id)
-    }
+/// An event as it would be sent.
+pub(super) fn prepared<P, C>(answer: Result<Out<Option<Boxed<Event>>>, Refusal>) -> Answer<P, C>
+    ensures { result ≡ map_answer reply.Prepared answer }
+{
+    let Out { reply, sent } = answer?;
+    Ok(Out {
+        reply: Reply::Prepared(reply),
+        sent,
+    })
 }
 
-impl<P, C> From<Option<Uuid>> for Reply<P, C> {
-    ghost use Rattle.std.specs.Prelude.{◌≡◌};
-    ghost use Rattle.sentry_engine.specs.declared.call.Reply.TheVariants.{LastEvent};
-
-    ghost from_gives = { λ id reply. reply ≡ LastEvent id };
-
-    fn from(id: Option<Uuid>) -> Reply<P, C> {
-        Reply::LastEvent(id)
-    }
+/// A report of losses.
+pub(super) fn report<P, C>(answer: Result<Out<Option<ClientReport>>, Refusal>) -> Answer<P, C>
+    ensures { result ≡ map_answer reply.Report answer }
+{
+    let Out { reply, sent } = answer?;
+    Ok(Out {
+        reply: Reply::Report(reply),
+        sent,
+    })
 }
 
-impl<P, C> From<Option<Boxed<Event>>> for Reply<P, C> {
-    ghost use Rattle.std.specs.Prelude.{◌≡◌};
-    ghost use Rattle.sentry_engine.specs.declared.call.Reply.TheVariants.{Prepared};
-
-    ghost from_gives = { λ event reply. reply ≡ Prepared event };
-
-    fn from(event: Option<Boxed<Event>>) -> Reply<P, C> {
-        Reply::Prepared(event)
-    }
+/// The key of a hub.
+pub(super) fn hub<P, C>(answer: Result<Out<HubKey>, Refusal>) -> Answer<P, C>
+    ensures { result ≡ map_answer reply.Hub answer }
+{
+    let Out { reply, sent } = answer?;
+    Ok(Out {
+        reply: Reply::Hub(reply),
+        sent,
+    })
 }
 
-impl<P, C> From<Option<ClientReport>> for Reply<P, C> {
-    ghost use Rattle.std.specs.Prelude.{◌≡◌};
-    ghost use Rattle.sentry_engine.specs.declared.call.Reply.TheVariants.{Report};
-
-    ghost from_gives = { λ report reply. reply ≡ Report report };
-
-    fn from(report: Option<ClientReport>) -> Reply<P, C> {
-        Reply::Report(report)
-    }
+/// The id of a captured event.
+pub(super) fn event<P, C>(answer: Result<Out<Uuid>, Refusal>) -> Answer<P, C>
+    ensures { result ≡ map_answer reply.Event answer }
+{
+    let Out { reply, sent } = answer?;
+    Ok(Out {
+        reply: Reply::Event(reply),
+        sent,
+    })
 }
 
-impl<P, C> From<Option<ClientKey>> for Reply<P, C> {
-    ghost use Rattle.std.specs.Prelude.{◌≡◌};
-    ghost use Rattle.sentry_engine.specs.declared.call.Reply.TheVariants.{HubClient};
-
-    ghost from_gives = { λ client reply. reply ≡ HubClient client };
-
-    fn from(client: Option<ClientKey>) -> Reply<P, C> {
-        Reply::HubClient(client)
-    }
+/// The id of the last event of a hub.
+pub(super) fn last_event<P, C>(answer: Result<Out<Option<Uuid>>, Refusal>) -> Answer<P, C>
+    ensures { result ≡ map_answer reply.LastEvent answer }
+{
+    let Out { reply, sent } = answer?;
+    Ok(Out {
+        reply: Reply::LastEvent(reply),
+        sent,
+    })
 }
 
-impl<P, C> From<Boxed<Scope<P>>> for Reply<P, C> {
-    ghost use Rattle.std.specs.Prelude.{◌≡◌};
-    ghost use Rattle.sentry_engine.specs.declared.call.Reply.TheVariants.{Scope};
-
-    ghost from_gives = { λ scope reply. reply ≡ Scope scope };
-
-    fn from(scope: Boxed<Scope<P>>) -> Reply<P, C> {
-        Reply::Scope(scope)
-    }
+/// The client of a hub.
+pub(super) fn hub_client<P, C>(answer: Result<Out<Option<ClientKey>>, Refusal>) -> Answer<P, C>
+    ensures { result ≡ map_answer reply.HubClient answer }
+{
+    let Out { reply, sent } = answer?;
+    Ok(Out {
+        reply: Reply::HubClient(reply),
+        sent,
+    })
 }
 
-impl<P, C> From<ScopeGuard> for Reply<P, C> {
-    ghost use Rattle.std.specs.Prelude.{◌≡◌};
-    ghost use Rattle.sentry_engine.specs.declared.call.Reply.TheVariants.{Depth};
+/// A copy of a scope.
+pub(super) fn scope<P, C>(answer: Result<Out<Boxed<Scope<P>>>, Refusal>) -> Answer<P, C>
+    ensures { result ≡ map_answer reply.Scope answer }
+{
+    let Out { reply, sent } = answer?;
+    Ok(Out {
+        reply: Reply::Scope(reply),
+        sent,
+    })
+}
 
-    ghost from_gives = { λ guard reply. reply ≡ Depth guard.1 };
-
-    fn from(guard: ScopeGuard) -> Reply<P, C> {
-        let (_hub, depth) = guard.into_parts();
-        Reply::Depth(depth)
-    }
+/// The reply of a call on transactions and spans.
+pub(super) fn span<P, C>(answer: Result<Out<SpanReply>, Refusal>) -> Answer<P, C>
+    ensures { result ≡ map_answer reply.Span answer }
+{
+    let Out { reply, sent } = answer?;
+    Ok(Out {
+        reply: Reply::Span(reply),
+        sent,
+    })
 }

@@ -2,11 +2,10 @@
 ghost use Rattle.std.specs.Prelude.{◌≡◌, IfErr};
 ghost use Rattle.sentry_state.specs.Outcomes.{Does, DoesWithoutMemory};
 ghost use Rattle.sentry_engine.specs.Replies.{without_value};
-ghost use Rattle.sentry_engine.specs.Losses as call;
+ghost use Rattle.sentry_calls.specs.Losses as call;
 
 use crate::engine::{Engine, Out};
 use sentry_base::protocol::{ClientReport, Label, Losses, Refusal};
-use sentry_changes::books::absorb_drained;
 use sentry_client_reports::client_reports::Drained;
 use sentry_options::clientoptions::Callbacks;
 
@@ -15,7 +14,7 @@ impl<P: Drop, C: Callbacks> Engine<P, C> {
     /// are none.
     ///
     /// `ForeignLosses`: no client of this engine names the label. `OutOfMemory`.
-    #[tactic(auto, unfolding(crate::specs::Losses::take_report))]
+    #[tactic(auto, unfolding(sentry_calls::specs::Losses::take_report))]
     pub fn take_report(&mut self, label: Label) -> Result<Out<Option<ClientReport>>, Refusal>
         ensures { Does self.old self.new result (call.take_report label) }
     {
@@ -27,19 +26,17 @@ impl<P: Drop, C: Callbacks> Engine<P, C> {
         Ok(self.state.out(report))
     }
 
-    // The same as `absorb`, of plain numbers.
-    #[tactic(auto, unfolding(crate::specs::Losses::absorb))]
-    pub(crate) fn absorb_losses(
-        &mut self,
-        label: Label,
-        losses: &Losses,
-    ) -> Result<Out<()>, Refusal>
+    /// The same as `absorb`, of plain numbers: a caller that has taken the losses apart sees to it that they count once.
+    ///
+    /// `ForeignLosses`: no client of this engine names the label.
+    #[tactic(auto, unfolding(sentry_calls::specs::Losses::absorb))]
+    pub fn absorb_losses(&mut self, label: Label, losses: &Losses) -> Result<Out<()>, Refusal>
         ensures { DoesWithoutMemory self.old self.new result (call.absorb label losses.now.quantities) }
     {
         if !self.state.has_book(label) {
             return Err(Refusal::ForeignLosses);
         }
-        absorb_drained(&mut self.state, label, losses);
+        self.state.absorb_drained(label, losses);
         Ok(self.state.out(()))
     }
 

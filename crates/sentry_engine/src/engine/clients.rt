@@ -2,17 +2,17 @@
 ghost use Rattle.std.specs.Prelude.{◌≡◌, Ok, [], nat_lt};
 ghost use Rattle.std.specs.Option.{option_copied};
 ghost use Rattle.sentry_state.specs.Outcomes.{Does, DoesWithoutMemory};
-ghost use Rattle.sentry_engine.specs.Clients as call;
+ghost use Rattle.sentry_state.specs.Worlds.{World, Stands};
+ghost use Rattle.sentry_calls.specs.Clients.{holds_active_span};
+ghost use Rattle.sentry_calls.specs.Clients as call;
 
 use crate::engine::{Engine, Out};
 use sentry_base::callbacks::EventCallback;
-use sentry_base::dsn::Dsn;
 use sentry_base::protocol::{
     ClientKey, Draw, Envelope, Event, Fresh, Label, Refusal, SampleRate, Uuid,
 };
 use sentry_captures::captures::{
-    capture, captured_envelopes, captured_id, drop_unsent, into_box, note_capture,
-    record_lost_event,
+    capture, captured_envelopes, captured_id, drop_unsent, note_capture, record_lost_event,
 };
 use sentry_options::clientoptions::{Callbacks, ClientOptions};
 use sentry_pipeline::pipeline::prepare_event;
@@ -20,8 +20,8 @@ use sentry_plain::{Boxed, Items, Shared};
 use sentry_queues::flushes::Flush;
 use sentry_queues::flushing::flush_queues;
 use sentry_scope::scope::Scope;
-use sentry_sending::sending::add_report;
-use sentry_state::state::clients::{clone_of, is_client_named, new_client};
+use sentry_state::state::clients::{clone_of, new_client};
+use sentry_texts::dsn::Dsn;
 use std::alloc::Global;
 
 impl<P: Drop, C: Callbacks> Engine<P, C> {
@@ -31,7 +31,7 @@ impl<P: Drop, C: Callbacks> Engine<P, C> {
     /// goes through the integrations, so that they say what logs tell of the operating system by default.
     ///
     /// `ForeignLosses`: the label has another tag than the engine. `Full`: the numbers are used up. `OutOfMemory`.
-    #[tactic(auto, unfolding(crate::specs::Clients::add_client))]
+    #[tactic(auto, unfolding(sentry_calls::specs::Clients::add_client))]
     pub fn add_client(
         &mut self,
         options: ClientOptions<C>,
@@ -64,7 +64,7 @@ impl<P: Drop, C: Callbacks> Engine<P, C> {
     /// is the moment from which ticks count. A clone of a closed client sends nothing.
     ///
     /// `Stale`: the client isn't held. `Full`: the numbers are used up. `OutOfMemory`.
-    #[tactic(auto, unfolding(crate::specs::Clients::clone_client))]
+    #[tactic(auto, unfolding(sentry_calls::specs::Clients::clone_client))]
     pub fn clone_client(&mut self, client: ClientKey, now: u64) -> Result<Out<ClientKey>, Refusal>
         ensures { Does self.old self.new result (call.clone_client client now) }
     {
@@ -86,13 +86,13 @@ impl<P: Drop, C: Callbacks> Engine<P, C> {
         )
     }
 
-    /// Gives a client back, which no layer of a hub names and under which no session goes on. What waits in its queues
-    /// is sent, as by `flush`. Its key is stale from then on. With the last client of a label go the losses that are
+    /// Gives a client back, which no layer of a hub names and under which no session and no transaction goes on. What
+    /// waits in its queues is sent, as by `flush`. Its key is stale from then on. With the last client of a label go the losses that are
     /// pending under it.
     ///
-    /// `Stale`: the client isn't held. `StillNamed`: a layer of a hub names it, or a session that goes on started under
-    /// it. `OutOfMemory`.
-    #[tactic(auto, unfolding(crate::specs::Clients::drop_client))]
+    /// `Stale`: the client isn't held. `StillNamed`: a layer of a hub names it, a session that goes on started under it,
+    /// or it will send a transaction that is unfinished. `OutOfMemory`.
+    #[tactic(auto, unfolding(sentry_calls::specs::Clients::drop_client))]
     pub fn drop_client(&mut self, client: ClientKey) -> Result<Out<()>, Refusal>
         ensures { Does self.old self.new result (call.drop_client client) }
     {
@@ -100,10 +100,13 @@ impl<P: Drop, C: Callbacks> Engine<P, C> {
             return Err(Refusal::Stale);
         };
         let label = held.label;
-        if is_client_named(&self.state.hubs, client) {
+        if self.state.hubs.is_client_named(client) {
             return Err(Refusal::StillNamed);
         }
         if self.state.has_session_of(client) {
+            return Err(Refusal::StillNamed);
+        }
+        if self.state.span_table().has_transaction_of(client) {
             return Err(Refusal::StillNamed);
         }
         let sent = flush_queues(&mut self.state, client, Flush::All)?;
@@ -115,7 +118,7 @@ impl<P: Drop, C: Callbacks> Engine<P, C> {
     /// The options of a client, as a share: after the `setup` of its integrations, which are among them.
     ///
     /// `Stale`: the client isn't held. `OutOfMemory`.
-    #[tactic(auto, unfolding(crate::specs::Clients::options))]
+    #[tactic(auto, unfolding(sentry_calls::specs::Clients::options))]
     pub fn options(&self, client: ClientKey) -> Result<Out<Shared<ClientOptions<C>>>, Refusal>
         ensures { Does self.now self.now result (call.options client) }
     {
@@ -129,7 +132,7 @@ impl<P: Drop, C: Callbacks> Engine<P, C> {
     /// Where a client sends to, if anywhere.
     ///
     /// `Stale`: the client isn't held. `OutOfMemory`.
-    #[tactic(auto, unfolding(crate::specs::Clients::dsn))]
+    #[tactic(auto, unfolding(sentry_calls::specs::Clients::dsn))]
     pub fn dsn(&self, client: ClientKey) -> Result<Out<Option<Dsn>>, Refusal>
         ensures { Does self.now self.now result (call.dsn client) }
     {
@@ -143,7 +146,7 @@ impl<P: Drop, C: Callbacks> Engine<P, C> {
     /// Whether a client has a DSN, now and when it was added, and a transport.
     ///
     /// `Stale`: the client isn't held.
-    #[tactic(auto, unfolding(crate::specs::Clients::is_enabled))]
+    #[tactic(auto, unfolding(sentry_calls::specs::Clients::is_enabled))]
     pub fn is_enabled(&self, client: ClientKey) -> Result<Out<bool>, Refusal>
         ensures { DoesWithoutMemory self.now self.now result (call.is_enabled client) }
     {
@@ -155,7 +158,7 @@ impl<P: Drop, C: Callbacks> Engine<P, C> {
     }
 
     /// Whether what has this draw is sent at this rate. It takes no memory, and is never refused.
-    #[tactic(auto, unfolding(crate::specs::Clients::sample_should_send))]
+    #[tactic(auto, unfolding(sentry_calls::specs::Clients::sample_should_send))]
     pub fn sample_should_send(&self, rate: SampleRate, draw: Draw) -> Result<Out<bool>, Refusal>
         ensures does { DoesWithoutMemory self.now self.now result (call.sample_should_send rate draw) }
         ensures answers { result ≡ Ok (record { reply = nat_lt draw rate; sent = [] }) }
@@ -166,7 +169,7 @@ impl<P: Drop, C: Callbacks> Engine<P, C> {
     /// Sends an envelope, with the pending report as its last item. Without a transport nothing is sent.
     ///
     /// `Stale`: the client isn't held. `OutOfMemory`.
-    #[tactic(auto, unfolding(crate::specs::Clients::send_envelope))]
+    #[tactic(auto, unfolding(sentry_calls::specs::Clients::send_envelope))]
     pub fn send_envelope(
         &mut self,
         client: ClientKey,
@@ -181,7 +184,7 @@ impl<P: Drop, C: Callbacks> Engine<P, C> {
             return Ok(self.state.out(()));
         }
         let label = held.label;
-        add_report(&mut envelope, self.state.pending_report(label)?)?;
+        envelope.add_report(self.state.pending_report(label)?)?;
         let mut sent = Vec::with_capacity(self.state.alloc, 1)?;
         sent.push_reserved((client, envelope));
         self.state.mark_reported(label);
@@ -193,11 +196,22 @@ impl<P: Drop, C: Callbacks> Engine<P, C> {
 }
 
 impl<P: EventCallback + Drop, C: Callbacks> Engine<P, C> {
+    // Whether what the scope names as active is held, where there is a scope.
+    fn holds_active_span(&self, scope: Option<&Scope<P>>) -> bool
+        ensures { (world : World P C) → Stands self.now world →
+            result ≡ holds_active_span world (option_copied scope.entry) }
+    {
+        match scope {
+            None => true,
+            Some(scope) => self.state.holds_span(scope.span),
+        }
+    }
+
     /// Captures an event of a client, under a scope, if one is given: it goes through the pipeline, and out in an
     /// envelope, with the pending report as its last item. Its id is the reply; the nil id if it was not sent.
     ///
-    /// `Stale`: the client isn't held. `OutOfMemory`.
-    #[tactic(auto, unfolding(crate::specs::Clients::client_capture_event))]
+    /// `Stale`: the client isn't held, or the span of the scope isn't. `OutOfMemory`.
+    #[tactic(auto, unfolding(sentry_calls::specs::Clients::client_capture_event))]
     pub fn client_capture_event(
         &mut self,
         client: ClientKey,
@@ -211,9 +225,13 @@ impl<P: EventCallback + Drop, C: Callbacks> Engine<P, C> {
         let Some(held) = self.state.client_at(client) else {
             return Err(Refusal::Stale);
         };
+        if !self.holds_active_span(scope) {
+            return Err(Refusal::Stale);
+        }
         let label = held.label;
         let mut event = Some(event);
-        let preparation = capture(self.state.alloc, held, scope, fresh, &mut event)?;
+        let spans = self.state.span_table();
+        let preparation = capture(self.state.alloc, held, spans, scope, fresh, &mut event)?;
         drop_unsent(&preparation, &mut event);
         let reply = captured_id(&event);
         let sent = captured_envelopes(&self.state, client, label, None, scope, &mut event)?;
@@ -224,8 +242,8 @@ impl<P: EventCallback + Drop, C: Callbacks> Engine<P, C> {
     /// Prepares an event as the client would send it, under a scope, if one is given. Returns `None` if it would not be
     /// sent; then it counts as lost.
     ///
-    /// `Stale`: the client isn't held. `OutOfMemory`.
-    #[tactic(auto, unfolding(crate::specs::Clients::prepare_event))]
+    /// `Stale`: the client isn't held, or the span of the scope isn't. `OutOfMemory`.
+    #[tactic(auto, unfolding(sentry_calls::specs::Clients::prepare_event))]
     pub fn prepare_event(
         &mut self,
         client: ClientKey,
@@ -239,18 +257,22 @@ impl<P: EventCallback + Drop, C: Callbacks> Engine<P, C> {
         let Some(held) = self.state.client_at(client) else {
             return Err(Refusal::Stale);
         };
+        if !self.holds_active_span(scope) {
+            return Err(Refusal::Stale);
+        }
         let label = held.label;
         let mut event = Some(event);
         let preparation = prepare_event(
             self.state.alloc,
             held.options.get(),
+            self.state.span_table(),
             scope,
             fresh,
             &mut event,
         )?;
         match preparation.loss_reason() {
             None => {
-                let event = into_box(self.state.alloc, event)?;
+                let event = Boxed::from_option(self.state.alloc, event)?;
                 Ok(self.state.out(event))
             }
             Some(reason) => {

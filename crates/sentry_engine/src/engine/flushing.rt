@@ -1,6 +1,6 @@
 //! The calls that flush the queues of clients.
 ghost use Rattle.sentry_state.specs.Outcomes.{Does};
-ghost use Rattle.sentry_engine.specs.Clients as call;
+ghost use Rattle.sentry_calls.specs.Clients as call;
 
 use crate::engine::{Engine, Out};
 use sentry_base::protocol::{ClientKey, Refusal};
@@ -13,7 +13,7 @@ impl<P: Drop, C: Callbacks> Engine<P, C> {
     /// transport it is dropped.
     ///
     /// `Stale`: the client isn't held. `OutOfMemory`.
-    #[tactic(auto, unfolding(crate::specs::Clients::flush))]
+    #[tactic(auto, unfolding(sentry_calls::specs::Clients::flush))]
     pub fn flush(&mut self, client: ClientKey) -> Result<Out<()>, Refusal>
         ensures { Does self.old self.new result (call.flush client) }
     {
@@ -30,7 +30,7 @@ impl<P: Drop, C: Callbacks> Engine<P, C> {
     /// nothing waited. A moment before that of the last due tick changes nothing.
     ///
     /// `Stale`: the client isn't held. `OutOfMemory`.
-    #[tactic(auto, unfolding(crate::specs::Clients::tick))]
+    #[tactic(auto, unfolding(sentry_calls::specs::Clients::tick))]
     pub fn tick(&mut self, client: ClientKey, now: u64) -> Result<Out<()>, Refusal>
         ensures { Does self.old self.new result (call.tick client now) }
     {
@@ -46,7 +46,7 @@ impl<P: Drop, C: Callbacks> Engine<P, C> {
     /// are not closed.
     ///
     /// `Stale`: the client isn't held. `OutOfMemory`.
-    #[tactic(auto, unfolding(crate::specs::Clients::close))]
+    #[tactic(auto, unfolding(sentry_calls::specs::Clients::close))]
     pub fn close(&mut self, client: ClientKey) -> Result<Out<()>, Refusal>
         ensures { Does self.old self.new result (call.close client) }
     {

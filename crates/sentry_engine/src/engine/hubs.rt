@@ -2,24 +2,24 @@
 ghost use Rattle.std.specs.Prelude.{◌≡◌, ℕ, true, false, IfOk, IfErr, Some, [], ◌∷◌, is_some, if◌then◌else◌};
 ghost use Rattle.std.specs.List.{list_any};
 ghost use Rattle.sentry_state.specs.Worlds.{World, Stands};
-ghost use Rattle.sentry_changes.specs.Hubs.{add_breadcrumbs};
+ghost use Rattle.sentry_state.specs.Breadcrumbs.{add_breadcrumbs};
 ghost use Rattle.sentry_state.specs.Outcomes.{Does, DoesWithoutMemory, hub_at};
 ghost use Rattle.sentry_captures.specs.Captures.{capture_event, message_event};
-ghost use Rattle.sentry_engine.specs.Hubs.{is_clear};
-ghost use Rattle.sentry_engine.specs.Hubs as call;
+ghost use Rattle.sentry_calls.specs.Hubs.{is_clear};
+ghost use Rattle.sentry_calls.specs.Hubs as call;
 
+use crate::engine::names::rename_all;
 use crate::engine::{Engine, Out};
 use sentry_base::callbacks::EventCallback;
 use sentry_base::protocol::{
     Breadcrumb, ClientKey, ErrorLink, Event, Fresh, HubKey, Level, Refusal, Uuid,
 };
-use sentry_base::utils::event_from_error;
 use sentry_captures::captures::capture_on_hub;
-use sentry_changes::hubs;
 use sentry_options::clientoptions::Callbacks;
 use sentry_plain::{Boxed, Text};
-use sentry_scope::scope::{Scope, ScopeEdit, Stack};
+use sentry_scope::scope::{EditedScope, Scope, ScopeEdit, Stack, all_name_held_spans};
 use sentry_sending::session_ends::release_session;
+use sentry_texts::utils::event_from_error;
 use std::alloc::{AllocError, Global};
 
 // The event of a message, as an event that is to be captured.
@@ -66,8 +66,8 @@ fn only<T: Drop>(mut items: Vec<T>) -> Result<T, Vec<T>>
 impl<P: Drop, C: Callbacks> Engine<P, C> {
     /// Adds a hub with one layer, of a client or none and a scope, and answers its key.
     ///
-    /// `Stale`: the client isn't held. `Full`: the numbers are used up. `OutOfMemory`.
-    #[tactic(auto, unfolding(crate::specs::Hubs::new_hub))]
+    /// `Stale`: the client isn't held, or the span of the scope isn't. `Full`: the numbers are used up. `OutOfMemory`.
+    #[tactic(auto, unfolding(sentry_calls::specs::Hubs::new_hub))]
     pub fn new_hub(
         &mut self,
         client: Option<ClientKey>,
@@ -78,29 +78,37 @@ impl<P: Drop, C: Callbacks> Engine<P, C> {
         if !self.state.holds(client) {
             return Err(Refusal::Stale);
         }
-        if !hubs::has_hub_number(&self.state) {
+        if !self.state.holds_span(scope.span) {
+            return Err(Refusal::Stale);
+        }
+        if !self.state.has_hub_number() {
             return Err(Refusal::Full);
         }
         let stack = Stack::from_client_and_scope(self.state.alloc, client, scope);
-        let key = hubs::insert_hub(&mut self.state, stack)?;
+        let key = self.state.insert_hub(stack)?;
         Ok(self.state.out(key))
     }
 
     // One edit that doesn't clear the scope. It costs what it changes.
-    #[tactic(auto, unfolding(crate::specs::Hubs::configure))]
+    #[tactic(auto, unfolding(sentry_calls::specs::Hubs::configure))]
     fn configure_one(&mut self, hub: HubKey, edit: ScopeEdit<P>) -> Result<Out<()>, Refusal>
         requires { is_clear edit ≡ false }
         ensures { (now : ℕ) → Does self.old self.new result (call.configure hub (edit ∷ []) now) }
     {
-        if self.state.hub_at(hub).is_none() {
+        let Some(held) = self.state.hub_at(hub) else {
+            return Err(Refusal::Stale);
+        };
+        if !edit.names_held_span(self.state.span_table()) {
             return Err(Refusal::Stale);
         }
-        hubs::edit_scope(&mut self.state, hub.number, edit)?;
+        let renames = edit.renames(&held.stack.top.scope, self.state.span_table())?;
+        self.state.edit_scope(hub.number, edit)?;
+        rename_all(&mut self.state, renames);
         Ok(self.state.out(()))
     }
 
     // Several edits, none of which clears the scope. They are done to a copy, so that all of them are done or none.
-    #[tactic(auto, unfolding(crate::specs::Hubs::configure))]
+    #[tactic(auto, unfolding(sentry_calls::specs::Hubs::configure))]
     fn configure_all(&mut self, hub: HubKey, edits: Vec<ScopeEdit<P>>) -> Result<Out<()>, Refusal>
         requires { list_any is_clear edits.items ≡ false }
         ensures { (now : ℕ) → Does self.old self.new result (call.configure hub edits.items now) }
@@ -108,14 +116,18 @@ impl<P: Drop, C: Callbacks> Engine<P, C> {
         let Some(held) = self.state.hub_at(hub) else {
             return Err(Refusal::Stale);
         };
-        let mut scope = held.stack.top.scope.clone()?;
-        scope.edit_all(edits)?;
-        hubs::set_scope(&mut self.state, hub.number, scope);
+        if !all_name_held_spans(edits.as_slice(), self.state.span_table()) {
+            return Err(Refusal::Stale);
+        }
+        let spans = self.state.span_table();
+        let EditedScope { scope, renames } = held.stack.top.scope.with_edits(edits, spans)?;
+        self.state.set_scope(hub.number, scope);
+        rename_all(&mut self.state, renames);
         Ok(self.state.out(()))
     }
 
     // Edits one of which clears the scope, which gives up the session of the layer.
-    #[tactic(auto, unfolding(crate::specs::Hubs::configure))]
+    #[tactic(auto, unfolding(sentry_calls::specs::Hubs::configure))]
     fn clear_and_configure(
         &mut self,
         hub: HubKey,
@@ -128,18 +140,23 @@ impl<P: Drop, C: Callbacks> Engine<P, C> {
         let Some(held) = self.state.hub_at(hub) else {
             return Err(Refusal::Stale);
         };
-        let mut scope = held.stack.top.scope.clone()?;
-        scope.edit_all(edits)?;
+        if !all_name_held_spans(edits.as_slice(), self.state.span_table()) {
+            return Err(Refusal::Stale);
+        }
+        let spans = self.state.span_table();
+        let EditedScope { scope, renames } = held.stack.top.scope.with_edits(edits, spans)?;
         let sent = release_session(&mut self.state, hub.number, now)?;
-        hubs::set_scope(&mut self.state, hub.number, scope);
+        self.state.set_scope(hub.number, scope);
+        rename_all(&mut self.state, renames);
         Ok(Out { reply: (), sent })
     }
 
     /// Does the edits, in order, to the top scope of a hub. If one of them clears the scope, the layer gives up the
-    /// session that it names, which ends if no other layer names it. `now` is the moment in nanoseconds since the
-    /// epoch.
+    /// session that it names, which ends if no other layer names it. A name that they give the scope becomes that of
+    /// the active transaction too, while it is unfinished. `now` is the moment in nanoseconds since the epoch.
     ///
-    /// `Stale`: the hub isn't held. `OutOfMemory`: none of the edits is done.
+    /// `Stale`: the hub isn't held, or a transaction or a span that an edit makes active isn't. `OutOfMemory`: none of
+    /// the edits is done.
     pub fn configure(
         &mut self,
         hub: HubKey,
@@ -169,13 +186,13 @@ impl<P: Drop, C: Callbacks> Engine<P, C> {
     ) -> Result<Out<()>, Refusal>
         ensures { Does self.old self.new result (add_breadcrumbs C.meanings hub breadcrumbs.items) }
     {
-        hubs::add_breadcrumbs(&mut self.state, hub, breadcrumbs)
+        self.state.add_breadcrumbs(hub, breadcrumbs)
     }
 
     /// The id that the last capture on a hub answered, if its top layer had a client at one.
     ///
     /// `Stale`: the hub isn't held.
-    #[tactic(auto, unfolding(crate::specs::Hubs::last_event_id))]
+    #[tactic(auto, unfolding(sentry_calls::specs::Hubs::last_event_id))]
     pub fn last_event_id(&self, hub: HubKey) -> Result<Out<Option<Uuid>>, Refusal>
         ensures { DoesWithoutMemory self.now self.now result (call.last_event_id hub) }
     {
@@ -199,7 +216,7 @@ impl<P: Drop, C: Callbacks> Engine<P, C> {
     /// The client of the top layer, if it has one.
     ///
     /// `Stale`: the hub isn't held.
-    #[tactic(auto, unfolding(crate::specs::Hubs::client))]
+    #[tactic(auto, unfolding(sentry_calls::specs::Hubs::client))]
     pub fn client(&self, hub: HubKey) -> Result<Out<Option<ClientKey>>, Refusal>
         ensures { DoesWithoutMemory self.now self.now result (call.client hub) }
     {
@@ -212,7 +229,7 @@ impl<P: Drop, C: Callbacks> Engine<P, C> {
     /// Whether the top layer has a client that is enabled.
     ///
     /// `Stale`: the hub isn't held.
-    #[tactic(auto, unfolding(crate::specs::Hubs::is_active))]
+    #[tactic(auto, unfolding(sentry_calls::specs::Hubs::is_active))]
     pub fn is_active(&self, hub: HubKey) -> Result<Out<bool>, Refusal>
         ensures { DoesWithoutMemory self.now self.now result (call.is_active hub) }
     {
@@ -232,7 +249,7 @@ impl<P: Drop, C: Callbacks> Engine<P, C> {
     /// A copy of the top scope.
     ///
     /// `Stale`: the hub isn't held. `OutOfMemory`.
-    #[tactic(auto, unfolding(crate::specs::Hubs::scope))]
+    #[tactic(auto, unfolding(sentry_calls::specs::Hubs::scope))]
     pub fn scope(&self, hub: HubKey) -> Result<Out<Boxed<Scope<P>>>, Refusal>
         ensures { Does self.now self.now result (call.scope hub) }
     {
@@ -263,7 +280,7 @@ impl<P: EventCallback + Drop, C: Callbacks> Engine<P, C> {
     }
 
     // The same as `capture_message`, of a text that needs no copy.
-    #[tactic(auto, unfolding(crate::specs::Hubs::capture_message, sentry_captures::specs::Captures::capture_event))]
+    #[tactic(auto, unfolding(sentry_calls::specs::Hubs::capture_message, sentry_captures::specs::Captures::capture_event))]
     pub(crate) fn capture_text(
         &mut self,
         hub: HubKey,
@@ -282,7 +299,7 @@ impl<P: EventCallback + Drop, C: Callbacks> Engine<P, C> {
     /// Captures an event of a message and a level on a hub, as `capture_event` does.
     ///
     /// `Stale`: the hub isn't held. `OutOfMemory`.
-    #[tactic(auto, unfolding(crate::specs::Hubs::capture_message, sentry_captures::specs::Captures::capture_event))]
+    #[tactic(auto, unfolding(sentry_calls::specs::Hubs::capture_message, sentry_captures::specs::Captures::capture_event))]
     pub fn capture_message(
         &mut self,
         hub: HubKey,
@@ -302,7 +319,7 @@ impl<P: EventCallback + Drop, C: Callbacks> Engine<P, C> {
     /// are given outermost first.
     ///
     /// `Stale`: the hub isn't held. `OutOfMemory`.
-    #[tactic(auto, unfolding(crate::specs::Hubs::capture_error, sentry_captures::specs::Captures::capture_event))]
+    #[tactic(auto, unfolding(sentry_calls::specs::Hubs::capture_error, sentry_captures::specs::Captures::capture_event))]
     pub fn capture_error(
         &mut self,
         hub: HubKey,

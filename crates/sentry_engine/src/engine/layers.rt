@@ -2,11 +2,10 @@
 ghost use Rattle.std.specs.Prelude.{◌≡◌, IfErr};
 ghost use Rattle.sentry_state.specs.Outcomes.{Does, DoesWithoutMemory};
 ghost use Rattle.sentry_engine.specs.Replies.{without_value};
-ghost use Rattle.sentry_engine.specs.Layers as call;
+ghost use Rattle.sentry_calls.specs.Layers as call;
 
 use crate::engine::{Engine, Out};
 use sentry_base::protocol::{ClientKey, HubKey, Refusal};
-use sentry_changes::hubs;
 use sentry_options::clientoptions::Callbacks;
 use sentry_scope::scope::Stack;
 use sentry_sending::session_ends::release_session;
@@ -42,19 +41,19 @@ impl<P: Drop, C: Callbacks> Engine<P, C> {
     /// Pushes a copy of a hub's top layer onto it: client, scope and session. The reply stands for the new layer.
     ///
     /// `Stale`: the hub isn't held. `OutOfMemory`.
-    #[tactic(auto, unfolding(crate::specs::Layers::push_scope))]
+    #[tactic(auto, unfolding(sentry_calls::specs::Layers::push_scope))]
     pub fn push_scope(&mut self, hub: HubKey) -> Result<Out<ScopeGuard>, Refusal>
         ensures { Does self.old self.new result (call.push_scope hub) }
     {
         if self.state.hub_at(hub).is_none() {
             return Err(Refusal::Stale);
         }
-        let depth = hubs::push_layer(&mut self.state, hub.number)?;
+        let depth = self.state.push_layer(hub.number)?;
         Ok(self.state.out(ScopeGuard { hub, depth }))
     }
 
     // The same as `pop_scope`, of plain numbers.
-    #[tactic(auto, unfolding(crate::specs::Layers::pop_scope))]
+    #[tactic(auto, unfolding(sentry_calls::specs::Layers::pop_scope))]
     pub(crate) fn pop_scope_at(
         &mut self,
         hub: HubKey,
@@ -66,11 +65,11 @@ impl<P: Drop, C: Callbacks> Engine<P, C> {
         let Some(held) = self.state.hub_at(hub) else {
             return Err(Refusal::Stale);
         };
-        if !hubs::is_top_layer(held, depth) {
+        if !held.is_top_layer(depth) {
             return Err(Refusal::OutOfOrder);
         }
         let sent = release_session(&mut self.state, hub.number, now)?;
-        hubs::pop_layer(&mut self.state, hub.number);
+        self.state.pop_layer(hub.number);
         Ok(Out { reply: (), sent })
     }
 
@@ -99,18 +98,18 @@ impl<P: Drop, C: Callbacks> Engine<P, C> {
     /// id is none. Its key is the reply.
     ///
     /// `Stale`: the hub isn't held. `Full`: the numbers are used up. `OutOfMemory`.
-    #[tactic(auto, unfolding(crate::specs::Layers::new_hub_from_top))]
+    #[tactic(auto, unfolding(sentry_calls::specs::Layers::new_hub_from_top))]
     pub fn new_hub_from_top(&mut self, hub: HubKey) -> Result<Out<HubKey>, Refusal>
         ensures { Does self.old self.new result (call.new_hub_from_top hub) }
     {
         let Some(held) = self.state.hub_at(hub) else {
             return Err(Refusal::Stale);
         };
-        if !hubs::has_hub_number(&self.state) {
+        if !self.state.has_hub_number() {
             return Err(Refusal::Full);
         }
         let stack = Stack::from_top(&held.stack)?;
-        let key = hubs::insert_hub(&mut self.state, stack)?;
+        let key = self.state.insert_hub(stack)?;
         Ok(self.state.out(key))
     }
 
@@ -118,7 +117,7 @@ impl<P: Drop, C: Callbacks> Engine<P, C> {
     /// no other layer names it. `now` is the moment in nanoseconds since the epoch.
     ///
     /// `Stale`: the hub isn't held. `ScopesOpen`: it has more than one layer. `OutOfMemory`.
-    #[tactic(auto, unfolding(crate::specs::Layers::release_hub))]
+    #[tactic(auto, unfolding(sentry_calls::specs::Layers::release_hub))]
     pub fn release_hub(&mut self, hub: HubKey, now: u64) -> Result<Out<()>, Refusal>
         ensures { Does self.old self.new result (call.release_hub hub now) }
     {
@@ -136,7 +135,7 @@ impl<P: Drop, C: Callbacks> Engine<P, C> {
     /// Gives the top layer of a hub another client, or none. It takes no memory.
     ///
     /// `Stale`: the hub isn't held, or the client isn't.
-    #[tactic(auto, unfolding(crate::specs::Layers::bind_client))]
+    #[tactic(auto, unfolding(sentry_calls::specs::Layers::bind_client))]
     pub fn bind_client(
         &mut self,
         hub: HubKey,
@@ -150,7 +149,7 @@ impl<P: Drop, C: Callbacks> Engine<P, C> {
         if !self.state.holds(client) {
             return Err(Refusal::Stale);
         }
-        hubs::set_client(&mut self.state, hub.number, client);
+        self.state.set_client(hub.number, client);
         Ok(self.state.out(()))
     }
 }

@@ -1,6 +1,6 @@
 //! The calls on sessions.
 ghost use Rattle.sentry_state.specs.Outcomes.{Does};
-ghost use Rattle.sentry_engine.specs.Sessions as call;
+ghost use Rattle.sentry_calls.specs.Sessions as call;
 
 use crate::engine::{Engine, Out};
 use sentry_base::protocol::{Fresh, HubKey, Refusal, SessionStatus};
@@ -15,7 +15,7 @@ impl<P: Drop, C: Callbacks> Engine<P, C> {
     /// client, or a release in its options, nothing changes.
     ///
     /// `Stale`: the hub isn't held. `Full`: the numbers are used up. `OutOfMemory`.
-    #[tactic(auto, unfolding(crate::specs::Sessions::start_session))]
+    #[tactic(auto, unfolding(sentry_calls::specs::Sessions::start_session))]
     pub fn start_session(&mut self, hub: HubKey, fresh: Fresh) -> Result<Out<()>, Refusal>
         ensures { Does self.old self.new result (call.start_session hub fresh) }
     {
@@ -36,7 +36,7 @@ impl<P: Drop, C: Callbacks> Engine<P, C> {
         if !self.state.has_session_number() {
             return Err(Refusal::Full);
         }
-        let user = held.stack.top.scope.user.as_ref();
+        let user = held.stack.top.scope.user();
         let Some(session) = Session::from_stack(
             self.state.alloc,
             key,
@@ -57,7 +57,7 @@ impl<P: Drop, C: Callbacks> Engine<P, C> {
     /// epoch. Without a session nothing changes.
     ///
     /// `Stale`: the hub isn't held. `OutOfMemory`.
-    #[tactic(auto, unfolding(crate::specs::Sessions::end_session_with_status))]
+    #[tactic(auto, unfolding(sentry_calls::specs::Sessions::end_session_with_status))]
     pub fn end_session_with_status(
         &mut self,
         hub: HubKey,

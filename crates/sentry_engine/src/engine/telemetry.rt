@@ -1,6 +1,6 @@
 //! The calls on logs and metrics.
 ghost use Rattle.sentry_state.specs.Outcomes.{Does};
-ghost use Rattle.sentry_engine.specs.Telemetry as call;
+ghost use Rattle.sentry_calls.specs.Telemetry as call;
 
 use crate::engine::{Engine, Out};
 use sentry_base::protocol::{ClientKey, HubKey, Log, MetricDraft, Refusal};
@@ -10,12 +10,13 @@ use sentry_scope::scope::Scope;
 
 impl<P: Drop, C: Callbacks> Engine<P, C> {
     /// Captures a log of a client, under a scope: it gets what the scope and the client fill in, goes through
-    /// `before_send_log`, and waits with the client's other logs. The hundredth sends them all, in an envelope with the
-    /// pending report as its last item. A log that the callback drops counts as lost, also where the client is closed
-    /// or has no transport; a closed client drops any other log, which is not counted.
+    /// `before_send_log`, and waits with the client's other logs. When they are as many as the option
+    /// `max_batch_items` says, all are sent, in an envelope with the pending report as its last item. A log that the
+    /// callback drops counts as lost, also where the client is closed or has no transport; a closed client drops any
+    /// other log, which is not counted.
     ///
-    /// `Stale`: the client isn't held. `OutOfMemory`.
-    #[tactic(auto, unfolding(crate::specs::Telemetry::client_capture_log))]
+    /// `Stale`: the client isn't held, or the span of the scope isn't. `OutOfMemory`.
+    #[tactic(auto, unfolding(sentry_calls::specs::Telemetry::client_capture_log))]
     pub fn client_capture_log(
         &mut self,
         client: ClientKey,
@@ -27,8 +28,11 @@ impl<P: Drop, C: Callbacks> Engine<P, C> {
         let Some(held) = self.state.client_at(client) else {
             return Err(Refusal::Stale);
         };
+        if !self.state.holds_span(scope.span) {
+            return Err(Refusal::Stale);
+        }
         let label = held.label;
-        let made = client_log(self.state.alloc, held, scope, log)?;
+        let made = client_log(self.state.alloc, held, self.state.span_table(), scope, log)?;
         let sent = keep_log(&mut self.state, client, label, made)?;
         Ok(Out { reply: (), sent })
     }
@@ -36,8 +40,8 @@ impl<P: Drop, C: Callbacks> Engine<P, C> {
     /// Captures a metric of a client, under a scope, as `client_capture_log` does a log, with `before_send_metric`.
     /// `now` is its moment in nanoseconds since the epoch.
     ///
-    /// `Stale`: the client isn't held. `OutOfMemory`.
-    #[tactic(auto, unfolding(crate::specs::Telemetry::client_capture_metric))]
+    /// `Stale`: the client isn't held, or the span of the scope isn't. `OutOfMemory`.
+    #[tactic(auto, unfolding(sentry_calls::specs::Telemetry::client_capture_metric))]
     pub fn client_capture_metric(
         &mut self,
         client: ClientKey,
@@ -50,8 +54,12 @@ impl<P: Drop, C: Callbacks> Engine<P, C> {
         let Some(held) = self.state.client_at(client) else {
             return Err(Refusal::Stale);
         };
+        if !self.state.holds_span(scope.span) {
+            return Err(Refusal::Stale);
+        }
         let label = held.label;
-        let made = client_metric(self.state.alloc, held, scope, now, draft)?;
+        let spans = self.state.span_table();
+        let made = client_metric(self.state.alloc, held, spans, scope, now, draft)?;
         let sent = keep_metric(&mut self.state, client, label, made)?;
         Ok(Out { reply: (), sent })
     }
@@ -60,7 +68,7 @@ impl<P: Drop, C: Callbacks> Engine<P, C> {
     /// a client nothing happens.
     ///
     /// `Stale`: the hub isn't held. `OutOfMemory`.
-    #[tactic(auto, unfolding(crate::specs::Telemetry::capture_log))]
+    #[tactic(auto, unfolding(sentry_calls::specs::Telemetry::capture_log))]
     pub fn capture_log(&mut self, hub: HubKey, log: Log) -> Result<Out<()>, Refusal>
         ensures { Does self.old self.new result (call.capture_log C.meanings hub log) }
     {
@@ -74,7 +82,8 @@ impl<P: Drop, C: Callbacks> Engine<P, C> {
             return Ok(self.state.out(()));
         };
         let label = client.label;
-        let made = client_log(self.state.alloc, client, &held.stack.top.scope, log)?;
+        let (spans, scope) = (self.state.span_table(), &held.stack.top.scope);
+        let made = client_log(self.state.alloc, client, spans, scope, log)?;
         let sent = keep_log(&mut self.state, key, label, made)?;
         Ok(Out { reply: (), sent })
     }
@@ -83,7 +92,7 @@ impl<P: Drop, C: Callbacks> Engine<P, C> {
     /// `now` is its moment in nanoseconds since the epoch. Without a client nothing happens.
     ///
     /// `Stale`: the hub isn't held. `OutOfMemory`.
-    #[tactic(auto, unfolding(crate::specs::Telemetry::capture_metric))]
+    #[tactic(auto, unfolding(sentry_calls::specs::Telemetry::capture_metric))]
     pub fn capture_metric(
         &mut self,
         hub: HubKey,
@@ -102,7 +111,8 @@ impl<P: Drop, C: Callbacks> Engine<P, C> {
             return Ok(self.state.out(()));
         };
         let label = client.label;
-        let made = client_metric(self.state.alloc, client, &held.stack.top.scope, now, draft)?;
+        let (spans, scope) = (self.state.span_table(), &held.stack.top.scope);
+        let made = client_metric(self.state.alloc, client, spans, scope, now, draft)?;
         let sent = keep_metric(&mut self.state, key, label, made)?;
         Ok(Out { reply: (), sent })
     }

@@ -7,6 +7,7 @@ use sentry_base::protocol::{Log, Metric};
 use sentry_options::clientoptions::{Callbacks, ClientOptions};
 use sentry_plain::Items;
 use sentry_scope::scope::Scope;
+use sentry_span_table::table::SpanTable;
 use std::alloc::{AllocError, Global};
 
 /// Prepares a log for sending: it goes under the scope, gets the default attributes that it lacks, and goes through
@@ -15,12 +16,13 @@ pub fn prepare_log<P: Drop, C: Callbacks>(
     alloc: Global,
     options: &ClientOptions<C>,
     defaults: &Items<DefaultAttribute>,
+    spans: &SpanTable,
     scope: &Scope<P>,
     mut log: Log,
 ) -> Result<Option<Log>, AllocError>
-    ensures { IfOk result (λ made. made ≡ prepare_log C.meanings options.now defaults.now scope.now log) }
+    ensures { IfOk result (λ made. made ≡ prepare_log C.meanings spans.now options.now defaults.now scope.now log) }
 {
-    scope.apply_to_log(&mut log)?;
+    scope.apply_to_log(spans, &mut log)?;
     fill_defaults(alloc, &mut log.attributes, defaults.as_slice())?;
     options.callbacks.before_send_log(log)
 }
@@ -31,12 +33,13 @@ pub fn prepare_metric<P: Drop, C: Callbacks>(
     alloc: Global,
     options: &ClientOptions<C>,
     defaults: &Items<DefaultAttribute>,
+    spans: &SpanTable,
     scope: &Scope<P>,
     mut metric: Metric,
 ) -> Result<Option<Metric>, AllocError>
-    ensures { IfOk result (λ made. made ≡ prepare_metric C.meanings options.now defaults.now scope.now metric) }
+    ensures { IfOk result (λ made. made ≡ prepare_metric C.meanings spans.now options.now defaults.now scope.now metric) }
 {
-    scope.apply_to_metric(&mut metric, options.plain.send_default_pii)?;
+    scope.apply_to_metric(spans, &mut metric, options.plain.send_default_pii)?;
     fill_defaults(alloc, &mut metric.attributes, defaults.as_slice())?;
     options.callbacks.before_send_metric(metric)
 }

@@ -12,7 +12,7 @@ use std::collections::BTreeMap;
 fn is_exit(status: SessionStatus) -> bool
     ensures { result ≡ is_exit status }
 {
-    matches!(status, SessionStatus::Ok | SessionStatus::Exited)
+    matches!(status, SessionStatus::Exited)
 }
 
 fn is_abnormal(status: SessionStatus) -> bool

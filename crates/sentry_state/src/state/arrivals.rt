@@ -1,14 +1,13 @@
 //! What comes to the queues of a client.
-ghost use Rattle.std.specs.Prelude.{◌≡◌, ◌==◌, ◌&&◌, ◌-◌, length, IfOk, OnOk, OnErr, Some};
+ghost use Rattle.std.specs.Prelude.{◌≡◌, ◌&&◌, IfOk, OnOk, OnErr, Some};
 ghost use Rattle.sentry_plain.specs.Tables.{value_at, replace_at};
-ghost use Rattle.sentry_batches.specs.Batches.{accept, batch_on};
+ghost use Rattle.sentry_batches.specs.Batches.{accept, batch_on, hands_out_next};
 ghost use Rattle.sentry_sessions.specs.SessionQueues.{enqueued};
 ghost use Rattle.sentry_state.specs.Changes.{with_client_entry, with_log_entry, with_metric_entry};
 ghost use Rattle.sentry_state.specs.Worlds.{World, ClientState, Stands, plain_client};
 
 use crate::state::{Client, State};
 use sentry_base::protocol::{Log, Metric, SessionUpdate};
-use sentry_batches::batcher::BATCH_ITEMS;
 use sentry_options::clientoptions::Callbacks;
 use sentry_plain::Items;
 use std::alloc::AllocError;
@@ -16,16 +15,16 @@ use std::alloc::AllocError;
 impl<C> Client<C> {
     /// Whether the next log makes the batch leave.
     pub fn sends_next_log(&self) -> bool
-        ensures { result ≡ (self.now.occupied && length self.now.queues.logs.items == BATCH_ITEMS - 1) }
+        ensures { result ≡ (self.now.occupied && hands_out_next self.now.queues.logs) }
     {
-        self.occupied && self.queues.logs.len() == BATCH_ITEMS - 1
+        self.occupied && self.queues.logs.hands_out_next()
     }
 
     /// Whether the next metric makes the batch leave.
     pub fn sends_next_metric(&self) -> bool
-        ensures { result ≡ (self.now.occupied && length self.now.queues.metrics.items == BATCH_ITEMS - 1) }
+        ensures { result ≡ (self.now.occupied && hands_out_next self.now.queues.metrics) }
     {
-        self.occupied && self.queues.metrics.len() == BATCH_ITEMS - 1
+        self.occupied && self.queues.metrics.hands_out_next()
     }
 }
 
@@ -49,8 +48,8 @@ impl<P: Drop, C: Callbacks> State<P, C> {
         Ok(())
     }
 
-    /// Puts a log into the batch of a client that is held. Returns the batch, if it was the hundredth. If out of
-    /// memory, nothing has changed.
+    /// Puts a log into the batch of a client that is held. Returns all that are queued, if they are then as
+    /// many as the client's limit says. If out of memory, nothing has changed.
     #[tactic(auto, using(crate::proofs::Keeping::changed_same))]
     pub fn enqueue_log(&mut self, number: u64, log: Log) -> Result<Option<Items<Log>>, AllocError>
         ensures in_world { OnOk result ((world : World P C) (client : ClientState C) → Stands self.old world →
@@ -59,7 +58,7 @@ impl<P: Drop, C: Callbacks> State<P, C> {
             })) }
         ensures batch { IfOk result (λ batch. (client : ClientState C) →
             value_at self.old.clients number ≡ Some (plain_client client) →
-            batch ≡ batch_on (accept log) client.queues.logs) }
+            batch ≡ batch_on client.options.plain.max_batch_items (accept log) client.queues.logs) }
         ensures err { OnErr result (self.new ≡ self.old) }
     {
         let Some(client) = self.clients.get_mut(number) else {
@@ -82,7 +81,7 @@ impl<P: Drop, C: Callbacks> State<P, C> {
             })) }
         ensures batch { IfOk result (λ batch. (client : ClientState C) →
             value_at self.old.clients number ≡ Some (plain_client client) →
-            batch ≡ batch_on (accept metric) client.queues.metrics) }
+            batch ≡ batch_on client.options.plain.max_batch_items (accept metric) client.queues.metrics) }
         ensures err { OnErr result (self.new ≡ self.old) }
     {
         let Some(client) = self.clients.get_mut(number) else {

@@ -1,6 +1,6 @@
 //! The losses of labels.
 ghost use Rattle.std.specs.Prelude.{◌≡◌, IfOk};
-ghost use Rattle.sentry_client_reports.specs.LossBooks.{engine_losses, report_point};
+ghost use Rattle.sentry_client_reports.specs.LossBooks.{drained_losses, engine_losses, report_point};
 ghost use Rattle.sentry_state.specs.Worlds.{World, Stands};
 ghost use Rattle.sentry_state.specs.Books.{has_book, pending_report, with_entry};
 
@@ -60,5 +60,16 @@ impl<P: Drop, C: Callbacks> State<P, C> {
             return;
         };
         book.record(losses);
+    }
+    /// Adds losses that were drained.
+    #[tactic(auto, using(crate::proofs::Keeping::entry_absent, crate::proofs::Keeping::entry_present))]
+    pub fn absorb_drained(&mut self, label: Label, losses: &Losses)
+        ensures { (world : World P C) → Stands self.old world →
+            Stands self.new (with_entry world label (drained_losses losses.now.quantities)) }
+    {
+        let Some(book) = self.books.get_mut(label.number) else {
+            return;
+        };
+        book.absorb(losses);
     }
 }

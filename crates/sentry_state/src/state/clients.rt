@@ -5,14 +5,15 @@ ghost use Rattle.sentry_plain.specs.Tables.{put, without};
 ghost use Rattle.sentry_scope.specs.Stacks.{is_client};
 ghost use Rattle.sentry_state.specs.Worlds.{World, ClientState, Stands, plain_client, plain_queues};
 ghost use Rattle.sentry_state.specs.Books.{with_book, is_label, without_unused_book};
-ghost use Rattle.sentry_state.specs.Clients.{is_client_named, has_session_of, set_up, new_client, clone_from, queues_from};
+ghost use Rattle.sentry_options.specs.Options.{set_up};
+ghost use Rattle.sentry_state.specs.Clients.{has_session_of, new_client, clone_from, queues_from};
 
-use crate::state::{Client, Hub, Queues, State};
+use crate::state::{Client, Queues, State};
 use sentry_base::protocol::{ClientKey, Label};
 use sentry_batches::batcher::Batch;
 use sentry_batches::tick::LastTick;
 use sentry_client_reports::client_reports::LossBook;
-use sentry_options::clientoptions::{Callbacks, ClientOptions, SessionMode};
+use sentry_options::clientoptions::{Callbacks, ClientOptions, PlainOptions};
 use sentry_pipeline::os_attributes::os_attributes;
 use sentry_plain::{Shared, Table};
 use sentry_sessions::session::{Session, SessionQueue};
@@ -25,19 +26,19 @@ fn set_up<C: Callbacks>(
 ) -> Result<Shared<ClientOptions<C>>, AllocError>
     ensures { IfOk result (λ share. share ≡ set_up C.meanings options) }
 {
-    options.callbacks.set_up(&mut options.plain)?;
+    options.set_up()?;
     Shared::new(alloc, options)
 }
 
-// The queues of a client of this session mode that is made at a moment.
-fn queues_from(alloc: Global, mode: SessionMode, now: u64) -> Queues
-    ensures { result ≡ plain_queues mode (queues_from now) }
+// The queues of a client with these options that is made at a moment.
+fn queues_from(alloc: Global, options: &PlainOptions, now: u64) -> Queues
+    ensures { result ≡ plain_queues options.now (queues_from now) }
 {
     Queues {
-        sessions: SessionQueue::new(alloc, mode),
+        sessions: SessionQueue::new(alloc, options.session_mode),
         session_tick: LastTick(now),
-        logs: Batch::new(alloc, now),
-        metrics: Batch::new(alloc, now),
+        logs: Batch::new(alloc, options.max_batch_items, now),
+        metrics: Batch::new(alloc, options.max_batch_items, now),
     }
 }
 
@@ -57,7 +58,7 @@ pub fn new_client<C: Callbacks>(
     let occupied = options.plain.dsn.is_some() && transport;
     let options = set_up(alloc, options)?;
     let os = os_attributes(alloc, options.get(), now)?;
-    let queues = queues_from(alloc, options.get().plain.session_mode, now);
+    let queues = queues_from(alloc, &options.get().plain, now);
     Ok(Client {
         options,
         label,
@@ -83,7 +84,7 @@ pub fn clone_of<C: Drop>(
         occupied: client.occupied,
         os: client.os.clone()?,
         closed: false,
-        queues: queues_from(alloc, client.options.get().plain.session_mode, now),
+        queues: queues_from(alloc, &client.options.get().plain, now),
     })
 }
 
@@ -93,18 +94,6 @@ fn has_session_of(sessions: &Table<Session>, client: ClientKey) -> bool
 {
     for (_, session) in sessions.iter() {
         if session.start.client == client {
-            return true;
-        }
-    }
-    false
-}
-
-/// Whether a layer of a hub names the client.
-pub fn is_client_named<P>(hubs: &Table<Hub<P>>, client: ClientKey) -> bool
-    ensures { result ≡ is_client_named client hubs.now }
-{
-    for (_, hub) in hubs.iter() {
-        if hub.stack.names_client(client) {
             return true;
         }
     }
@@ -133,6 +122,8 @@ impl<P: Drop, C: Callbacks> State<P, C> {
             × (self.new.books ≡ self.old.books)) }
         ensures err { OnErr result (self.new ≡ self.old) }
     {
+        // So that a layer can name it without memory.
+        self.hubs.expect_client(number)?;
         self.clients.insert(number, client)
     }
 
@@ -155,6 +146,7 @@ impl<P: Drop, C: Callbacks> State<P, C> {
         if self.books.get(label).is_some() {
             return self.insert_client(number, client);
         }
+        self.hubs.expect_client(number)?;
         self.books.insert(label, LossBook::new())?;
         match self.clients.insert(number, client) {
             Ok(()) => Ok(()),
@@ -172,6 +164,7 @@ impl<P: Drop, C: Callbacks> State<P, C> {
             Stands self.new (record world { clients = without world.clients number }) }
     {
         self.clients.remove(number);
+        self.hubs.forget_client(number);
     }
 
     /// Removes the book of a label, unless a client has the label.

@@ -2,7 +2,7 @@
 ghost use Rattle.std.specs.Prelude.{◌≡◌, ◌<◌, ◌+◌, ◌-◌, ◌^◌, Some, None};
 ghost use Rattle.std.specs.Bool.{OnTrue};
 ghost use Rattle.sentry_plain.specs.Tables.{value_at, replace_at, without};
-ghost use Rattle.sentry_state.specs.declared.state.Hub.{Hub};
+ghost use Rattle.sentry_hub_table.specs.declared.hub.Hub.{Hub};
 ghost use Rattle.sentry_state.specs.Changes.{is_session_number_left, with_session};
 ghost use Rattle.sentry_state.specs.Worlds.{World, SessionState, Stands, plain_session};
 
@@ -53,10 +53,7 @@ impl<P: Drop, C: Callbacks> State<P, C> {
         ensures engine { (hub : Hub P) → value_at self.old.hubs number ≡ Some hub →
             self.new ≡ record self.old { hubs = replace_at self.old.hubs number (with_session hub name) } }
     {
-        let Some(hub) = self.hubs.get_mut(number) else {
-            return;
-        };
-        hub.stack.top.session = name;
+        self.hubs.set_session(number, name);
     }
 
     /// Writes a session, if there is one under the number.

@@ -1,6 +1,6 @@
 use Rattle.std.proofs.Common.{subst, sym, ◌∙◌}
 use Rattle.sentry_state.specs.Outcomes.{DoesWith}
-use Rattle.sentry_engine.specs.Runs.{step, takes_no_memory}
+use Rattle.sentry_calls.specs.Steps.{step, takes_no_memory}
 use Rattle.replay_run.specs.Calls.{call_of}
 use Rattle.replay_run.specs.Engines.{same_event, no_callbacks, ReplayCall}
 use Rattle.replay_run.proofs.AnswerLemmas.{may_answer}

@@ -15,7 +15,7 @@ unfolding flush_queues
 returns-then-not-client-clause-in_world g c = λ world s.
     let empty : c.in-Some.client.now.occupied ≡ false = search rules in
     client_changed_unsent c.args.key
-    (λ (client : ClientState g.row.C.Denot). flushed_envelopes c.args.flush client.options.plain.session_mode client.queues)
+    (λ (client : ClientState g.row.C.Denot). flushed_envelopes c.args.flush client.options.plain client.queues)
     (after_flush c.args.flush) c.args.state.now c.take_flushed.new.state world s c.in-Some.client.now
     (c.in-Some.ensures world s) c.if-client.false c.new-then-not-client.result c.new-then-not-client.ensures (λ client there is. (
       unsent_if_empty c.args.key c.in-Some.client.now.occupied (pending_report world c.in-Some.client.now.label) _ empty,
@@ -30,15 +30,15 @@ returns-then-not-has_batch-clause-in_world g c = λ world s.
     let no_batch : c.has_batch.result ≡ false = search rules in
     let empty : (length c.in_ok-sessions.sessions == 0) ≡ true = search rules in
     client_changed_unsent c.args.key
-    (λ (client : ClientState g.row.C.Denot). flushed_envelopes c.args.flush client.options.plain.session_mode client.queues)
+    (λ (client : ClientState g.row.C.Denot). flushed_envelopes c.args.flush client.options.plain client.queues)
     (after_flush c.args.flush) c.args.state.now c.take_flushed-then-not-has_batch.new.state world s c.in-Some.client.now
     (c.in-Some.ensures world s) c.if-client.false c.new-then-not-has_batch.result c.new-then-not-has_batch.ensures (λ client there is.
     let sessions = sym (none_if_empty c.in_ok-sessions.sessions empty)
     ∙ (c.in_ok-sessions.ensures
     ∙ ap (λ (kept : Client g.row.C.Denot). session_envelopes (is_flushed c.args.flush SESSION_INTERVAL kept.queues.session_tick.0) kept.queues.sessions) is) in
     let queues = ap (λ (kept : Client g.row.C.Denot). kept.queues) is in
-    let logs = sym (c.has_batch.ensures.logs client.options.plain.session_mode client.queues c.args.flush queues no_batch) in
-    let metrics = sym (c.has_batch.ensures.metrics client.options.plain.session_mode client.queues c.args.flush queues no_batch) in
+    let logs = sym (c.has_batch.ensures.logs client.options.plain client.queues c.args.flush queues no_batch) in
+    let metrics = sym (c.has_batch.ensures.metrics client.options.plain client.queues c.args.flush queues no_batch) in
     let pending = pending_report world c.in-Some.client.now.label in (
       sent_if_occupied c.args.key c.in-Some.client.now.occupied pending _ _ occupied
           (λ i. address c.args.key pending (sessions i ++ batch_envelopes (logs i) (metrics i))),
@@ -51,7 +51,7 @@ unfolding flush_queues
 returns-clause-in_world g c = λ world s.
     let occupied : c.in-Some.client.now.occupied ≡ true = search rules in
     client_changed c.args.key
-    (λ (client : ClientState g.row.C.Denot). flushed_envelopes c.args.flush client.options.plain.session_mode client.queues)
+    (λ (client : ClientState g.row.C.Denot). flushed_envelopes c.args.flush client.options.plain client.queues)
     (after_flush c.args.flush) c.args.state.now c.mark_sent.new.state world s c.in-Some.client.now
     (c.in-Some.ensures world s) c.if-client.false c.finish-sent.result (λ client there is.
     let sessions = c.in_ok-sessions.ensures

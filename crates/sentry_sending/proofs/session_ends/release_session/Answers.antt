@@ -1,4 +1,4 @@
-use Rattle.std.proofs.Common.{◌≡◌, ◌∙◌, ap, sym, Some}
+use Rattle.std.proofs.Common.{◌≡◌, ◌∙◌, ap, sym, Some, None}
 use Rattle.sentry_plain.specs.Tables.{value_at, replace_at}
 use Rattle.sentry_state.specs.Changes.{with_session}
 use Rattle.sentry_state.specs.declared.state.State.{State}
@@ -12,11 +12,13 @@ returns-in-Err-clause-err g c =
     let old = c.args.state.now in
     let n = c.args.number in
     let hub = c.in-Some.hub.now in
-    let unnamed = with_session hub c.take-name.new.self in
-    let found : value_at old.hubs n ≡ Some hub = sym c.in-Some.ensures.value in
-    let ended : c.end_unnamed_session.new.state ≡ record old { hubs = replace_at old.hubs n unnamed } = c.in-Err.ensures.err in
+    let unnamed = with_session hub None in
+    let found : value_at old.hubs n ≡ Some hub = sym c.in-Some.ensures in
+    let written : c.set_session.new.self ≡ replace_at old.hubs n unnamed = c.set_session.ensures hub found in
+    let ended : c.end_unnamed_session.new.state ≡ record old { hubs = replace_at old.hubs n unnamed } =
+    c.in-Err.ensures.err ∙ ap (λ hubs. record old { hubs = hubs }) written in
     let there : value_at c.end_unnamed_session.new.state.hubs n ≡ Some unnamed =
     ap (λ (e : State g.row.P.Denot g.row.C.Denot). value_at e.hubs n) ended ∙ value_replaced n old.hubs unnamed hub found in
     c.set_session_name.ensures.engine unnamed there
-    ∙ ((λ i. record (ended i) { hubs = replace_at (ended i).hubs n (with_session unnamed (c.take-name.ensures.value i)) })
+    ∙ ((λ i. record (ended i) { hubs = replace_at (ended i).hubs n (with_session unnamed hub.stack.top.session) })
     ∙ ap (λ hubs. record old { hubs = hubs }) (replaced_twice n old.hubs unnamed hub ∙ changed_same old.hubs n hub found))

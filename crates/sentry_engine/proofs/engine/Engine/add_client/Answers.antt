@@ -46,6 +46,7 @@ returns g c = λ world here.
       hubs = there.hubs;
       sessions = there.sessions;
       books = there.books;
+      spans = there.spans;
     } in (
       ap (λ o. o.answer) is
           ∙ ((λ i. Ok (record { reply = record { tag = sym there.tag i; number = (sym s.next i).client }; sent = [] })) ∙ ap Ok (sym c.out.ensures)),

@@ -1,5 +1,5 @@
 use Rattle.std.proofs.Common.{rules, refl}
-use Rattle.sentry_engine.specs.Clients.{client_capture_event}
+use Rattle.sentry_calls.specs.Clients.{client_capture_event}
 use Rattle.sentry_engine.proofs.engine.Engine.client_capture_event.Goals as goal
 
 pub returns : goal.returns

@@ -1,7 +1,7 @@
 use Rattle.std.proofs.Common.{◌≡◌, ◌∙◌, ap, sym, refl, Bool, true, false, [], ◌∷◌}
 use Rattle.std.specs.List.{list_any}
 use Rattle.std.specs.Prelude.{◌||◌}
-use Rattle.sentry_engine.specs.Hubs.{is_clear}
+use Rattle.sentry_calls.specs.Hubs.{is_clear}
 use Rattle.sentry_engine.proofs.engine.Engine.configure.Goals as goal
 
 alone : (b : Bool) → (b || false) ≡ false → b ≡ false

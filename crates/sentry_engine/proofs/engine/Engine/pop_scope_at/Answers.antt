@@ -29,6 +29,6 @@ returns g c = λ world here.
     ∙ value_replaced key.number c.self.inside.state.hubs unnamed hub there in
     let popped = c.pop_layer.ensures.in_world after unnamed released.1 still in
     let deep : nat_lt 0 (depth hub.stack) ≡ true = is_above (depth hub.stack) c.args.depth top in
-    let stands = subst (λ (w : World g.row.P.Denot g.row.C.Denot). Stands c.pop_layer.new.state w)
+    let stands = subst (λ (w : World g.row.P.Denot g.row.C.Denot). Stands c.pop_layer.new.self w)
     (ap (λ stack. with_hub after key (with_stack hub stack)) (popped_same hub deep)) popped in
     replied _ _ _ _ _ _ (pop_scope_is key c.args.depth c.args.now world hub found top) released.0 stands

@@ -1,5 +1,5 @@
 use Rattle.std.proofs.Common.{rules, refl}
-use Rattle.sentry_engine.specs.Clients.{prepare_event}
+use Rattle.sentry_calls.specs.Clients.{prepare_event}
 use Rattle.sentry_engine.proofs.engine.Engine.prepare_event.Goals as goal
 
 pub returns-in_ok-event-in-None : goal.returns-in_ok-event-in-None

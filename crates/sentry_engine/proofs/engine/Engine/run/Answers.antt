@@ -1,7 +1,16 @@
 use Rattle.std.proofs.Common.{◌≡◌, [], ◌∷◌, rules, subst, List, length, refl, arith}
 use Rattle.std.specs.Vec.Iter.{into_iter_items}
-use Rattle.sentry_engine.specs.declared.call.Call.{Call}
+use Rattle.sentry_calls.specs.declared.call.Call.{Call}
 use Rattle.sentry_state.specs.Worlds.{first_world}
+use Rattle.sentry_laws.proofs.ActiveSpans.{active_spans_held}
+use Rattle.sentry_laws.proofs.Isolation.{isolated, keeps_options, named_clients_held}
+use Rattle.sentry_laws.proofs.LabelBooks.{books_of_clients}
+use Rattle.sentry_laws.proofs.Numbers.{numbers_are_free}
+use Rattle.sentry_laws.proofs.PushPop.{pop_undoes_push}
+use Rattle.sentry_laws.proofs.Reports.{reports_add_up}
+use Rattle.sentry_laws.proofs.SentKinds.{sends_logs, sends_metrics}
+use Rattle.sentry_laws.proofs.Sessions.{status_stays, ends_once}
+use Rattle.sentry_laws.proofs.Traces.{kept_in_trace, held_in_trace}
 use Rattle.sentry_engine.proofs.RunLemmas.{Reaches, reaches_more, reaches_end}
 use Rattle.sentry_engine.proofs.engine.Engine.run.Goals as goal
 
@@ -26,3 +35,50 @@ returns-clause-ran g c =
     let e : into_iter_items c.loop-call.call-iterator ≡ [] = no_items _ (grind arith) in
     reaches_end g.P.EventCallback.gives g.C.Callbacks.meanings (first_world c.args.tag) c.args.calls.items c.loop-call.engine c.loop-call.answers.items
     (subst (λ (left : List (Call (denote.Param.param 0 g.row.P).Denot (denote.Param.param 0 g.row.C).Denot)). Reaches g.P.EventCallback.gives g.C.Callbacks.meanings (first_world c.args.tag) c.args.calls.items c.loop-call.engine c.loop-call.answers.items left) e c.loop-call.invariant.reaches)
+
+pub returns-clause-hubs : goal.returns-clause-hubs
+returns-clause-hubs g c = isolated g.P.EventCallback.gives g.C.Callbacks.meanings c.args.tag 0 c.args.calls.items c.loop-call.answers.items
+
+pub returns-clause-options : goal.returns-clause-options
+returns-clause-options g c = keeps_options g.P.EventCallback.gives g.C.Callbacks.meanings c.args.tag 0 c.args.calls.items c.loop-call.answers.items
+
+pub returns-clause-logs : goal.returns-clause-logs
+returns-clause-logs g c = sends_logs g.P.EventCallback.gives g.C.Callbacks.meanings c.args.tag 0 c.args.calls.items c.loop-call.answers.items
+
+pub returns-clause-metrics : goal.returns-clause-metrics
+returns-clause-metrics g c = sends_metrics g.P.EventCallback.gives g.C.Callbacks.meanings c.args.tag 0 c.args.calls.items c.loop-call.answers.items
+
+pub returns-clause-traces : goal.returns-clause-traces
+returns-clause-traces g c = λ last run. (
+  kept_in_trace g.P.EventCallback.gives g.C.Callbacks.meanings c.args.tag 0 c.args.calls.items c.loop-call.answers.items last run,
+  held_in_trace g.P.EventCallback.gives g.C.Callbacks.meanings c.args.tag 0 c.args.calls.items c.loop-call.answers.items last run,
+)
+
+pub returns-clause-reports : goal.returns-clause-reports
+returns-clause-reports g c = reports_add_up g.P.EventCallback.gives g.C.Callbacks.meanings c.args.tag 0 c.args.calls.items c.loop-call.answers.items
+
+pub returns-clause-worlds : goal.returns-clause-worlds
+returns-clause-worlds g c = λ last run. (
+  numbers_are_free g.P.EventCallback.gives g.C.Callbacks.meanings c.args.tag 0 c.args.calls.items c.loop-call.answers.items last run,
+  books_of_clients g.P.EventCallback.gives g.C.Callbacks.meanings c.args.tag 0 c.args.calls.items c.loop-call.answers.items last run,
+  named_clients_held g.P.EventCallback.gives g.C.Callbacks.meanings c.args.tag 0 c.args.calls.items c.loop-call.answers.items last run,
+  active_spans_held g.P.EventCallback.gives g.C.Callbacks.meanings c.args.tag 0 c.args.calls.items c.loop-call.answers.items last run,
+)
+
+pub returns-clause-layers : goal.returns-clause-layers
+returns-clause-layers g c = pop_undoes_push g.P.EventCallback.gives g.C.Callbacks.meanings
+
+pub returns-clause-status : goal.returns-clause-status
+returns-clause-status g c = status_stays g.P.EventCallback.gives g.C.Callbacks.meanings
+
+pub returns-clause-once : goal.returns-clause-once
+returns-clause-once g c = ends_once g.P.EventCallback.gives g.C.Callbacks.meanings
+
+pub returns-in_err-answers-clause-layers : goal.returns-in_err-answers-clause-layers
+returns-in_err-answers-clause-layers g c = pop_undoes_push g.P.EventCallback.gives g.C.Callbacks.meanings
+
+pub returns-in_err-answers-clause-status : goal.returns-in_err-answers-clause-status
+returns-in_err-answers-clause-status g c = status_stays g.P.EventCallback.gives g.C.Callbacks.meanings
+
+pub returns-in_err-answers-clause-once : goal.returns-in_err-answers-clause-once
+returns-in_err-answers-clause-once g c = ends_once g.P.EventCallback.gives g.C.Callbacks.meanings

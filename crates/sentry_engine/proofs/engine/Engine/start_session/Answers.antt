@@ -22,7 +22,7 @@ returns g c = λ world here.
     let client_found : plain_client_at world c.in-Some-client.key ≡ Some client = sym (c.in-Some-client_at.ensures world s) in
     let given : c.has_session_number.result ≡ true = search rules in
     let left : is_session_number_left world ≡ true = sym (c.has_session_number.ensures.in_world world s) ∙ given in
-    let user = c.as_ref-user.ensures.value in
+    let user = c.user-user.ensures in
     let built = c.in_ok-session.ensures in
     let made : Some c.in-Some-2.session
     ≡ option_map (λ start. session_of start []) (start_of c.in-Some-client.key client.options.plain hub.stack.top.scope.user c.args.fresh.uuid c.args.fresh.now) =

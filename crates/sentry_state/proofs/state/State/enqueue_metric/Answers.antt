@@ -9,7 +9,7 @@ pub returns-clause-in_world : goal.returns-clause-in_world
 returns-clause-in_world g c = λ world client s found.
     let same : Some c.in-Some.client.now ≡ Some (plain_client client) = c.in-Some.ensures.value ∙ found in
     let is : c.in-Some.client.now ≡ plain_client client = cc in
-    let batch = c.in_ok-batch.ensures.queue client.queues.metrics client.queues.metric_tick (ap (λ (kept : Client g.row.C.Denot). kept.queues.metrics) is) in
+    let batch = c.in_ok-batch.ensures.queue client.options.plain.max_batch_items client.queues.metrics client.queues.metric_tick (ap (λ (kept : Client g.row.C.Denot). kept.queues.metrics) is) in
     record {
       tag = s.tag;
       next = s.next;
@@ -17,10 +17,11 @@ returns-clause-in_world g c = λ world client s found.
       hubs = s.hubs;
       sessions = s.sessions;
       books = s.books;
+      spans = s.spans;
     }
 
 pub returns-clause-batch : goal.returns-clause-batch
 returns-clause-batch g c = λ client found.
     let same : Some c.in-Some.client.now ≡ Some (plain_client client) = c.in-Some.ensures.value ∙ found in
     let is : c.in-Some.client.now ≡ plain_client client = cc in
-    c.in_ok-batch.ensures.batch client.queues.metrics client.queues.metric_tick (ap (λ (kept : Client g.row.C.Denot). kept.queues.metrics) is)
+    c.in_ok-batch.ensures.batch client.options.plain.max_batch_items client.queues.metrics client.queues.metric_tick (ap (λ (kept : Client g.row.C.Denot). kept.queues.metrics) is)

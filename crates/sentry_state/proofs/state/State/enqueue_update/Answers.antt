@@ -16,4 +16,5 @@ returns-clause-in_world g c = λ world client s found.
       hubs = s.hubs;
       sessions = s.sessions;
       books = s.books;
+      spans = s.spans;
     }

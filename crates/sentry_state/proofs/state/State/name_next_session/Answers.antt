@@ -16,5 +16,6 @@ returns g c = λ world hub s found.
           stands.hubs
           ∙ (λ i. replace_at world.hubs c.args.number (with_session hub (Some (record { tag = s.tag i; number = (s.next i).session }))));
       sessions = stands.sessions;
+      spans = stands.spans;
       books = stands.books;
     }

@@ -9,6 +9,7 @@ returns-clause-in_world g c = λ world s. record {
   clients = s.clients;
   hubs = s.hubs;
   sessions = s.sessions;
+  spans = s.spans;
   books =
       entry_present c.args.self.now world s _ c.in-Some.book.now _ _ (sym c.in-Some.ensures.value)
       c.record.ensures;

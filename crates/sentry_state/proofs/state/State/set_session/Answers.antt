@@ -9,6 +9,7 @@ returns-in_default-clause-in_world g c = λ world session s is. record {
   hubs = s.hubs;
   sessions = session_absent c.args.self.now world s _ session c.in_default.ensures.value;
   books = s.books;
+  spans = s.spans;
 }
 
 pub returns-clause-in_world : goal.returns-clause-in_world
@@ -19,4 +20,5 @@ returns-clause-in_world g c = λ world session s is. record {
   hubs = s.hubs;
   sessions = session_replaced c.args.self.now world s _ session _ is;
   books = s.books;
+  spans = s.spans;
 }

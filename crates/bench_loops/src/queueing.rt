@@ -1,0 +1,31 @@
+//! A queue of envelopes, which are offered and taken.
+use sentry_base::protocol::{Envelope, EnvelopeItem, Event, Refusal, Uuid};
+use sentry_queueing::queueing::QueueCore;
+use std::alloc::Global;
+
+/// In how many of the turns an envelope of an event is taken out of a queue of 30 and offered again. The turns take no
+/// memory.
+pub fn take_and_offer(alloc: Global, turns: u64) -> Result<u64, Refusal> {
+    let mut core = QueueCore::new(alloc, 30, None)?;
+    let event = Event::new(alloc, Uuid::nil(), 0)?;
+    let mut envelope = Envelope::new(alloc);
+    envelope.add_item(EnvelopeItem::Event(event))?;
+    core.offer(envelope, 0);
+    let mut taken = 0u64;
+    for now in 0..turns {
+        if is_offered_again(&mut core, now) {
+            taken = taken.wrapping_add(1);
+        }
+    }
+    Ok(taken)
+}
+
+fn is_offered_again(core: &mut QueueCore, now: u64) -> bool {
+    match core.take() {
+        Some(envelope) => {
+            core.offer(envelope, now);
+            true
+        }
+        None => false,
+    }
+}

@@ -1,0 +1,46 @@
+//! What a caller that keeps something beside an engine has to know of it.
+ghost use Rattle.std.specs.Prelude.{◌≡◌};
+ghost use Rattle.std.specs.Option.{option_map};
+ghost use Rattle.sentry_state.specs.Books.{has_book};
+ghost use Rattle.sentry_state.specs.Outcomes.{client_at};
+ghost use Rattle.sentry_state.specs.Worlds.{World, Stands};
+
+use crate::engine::Engine;
+use sentry_base::protocol::{ClientKey, Label};
+use sentry_options::clientoptions::Callbacks;
+
+impl<P: Drop, C: Callbacks> Engine<P, C> {
+    /// The number of the next client. The number 2^64-1 is never given.
+    pub fn next_client(&self) -> u64
+        ensures { (world : World P C) → Stands self.now world → result ≡ world.next.client }
+    {
+        self.state.next.client
+    }
+
+    /// Whether a client names the label. If none does, the calls on losses answer `ForeignLosses`.
+    pub fn has_book(&self, label: Label) -> bool
+        ensures { (world : World P C) → Stands self.now world → result ≡ has_book world label }
+    {
+        self.state.has_book(label)
+    }
+
+    /// The label of a client, or `None` if it isn't held.
+    pub fn client_label(&self, client: ClientKey) -> Option<Label>
+        ensures { (world : World P C) → Stands self.now world →
+            result ≡ option_map (λ held. held.label) (client_at world client) }
+    {
+        match self.state.client_at(client) {
+            None => None,
+            Some(held) => Some(held.label),
+        }
+    }
+
+    /// How long a client may wait for its transport when it is closed, in nanoseconds, by its options; `None` if it
+    /// isn't held, or sends nothing: it had no DSN when it was added, or no transport, or was closed.
+    pub fn shutdown_timeout(&self, client: ClientKey) -> Option<u64> {
+        match self.state.client_at(client) {
+            Some(held) if held.occupied => Some(held.options.get().plain.shutdown_timeout),
+            _ => None,
+        }
+    }
+}

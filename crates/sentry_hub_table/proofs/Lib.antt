@@ -1,0 +1,3 @@
+pub mod TallyLemmas
+pub mod NameLemmas
+pub mod AllNameLemmas

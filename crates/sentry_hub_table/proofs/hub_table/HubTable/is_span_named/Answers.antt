@@ -1,0 +1,18 @@
+use Rattle.std.proofs.Common.{◌≡◌, ◌∙◌, refl, ap, sym, subst, Some, None, ℕ, ◌+◌, List, length, arith}
+use Rattle.sentry_plain.specs.Tables.{value_at, put, replace_at, without}
+use Rattle.sentry_hub_table.specs.Hubs.{is_span}
+use Rattle.sentry_hub_table.specs.Hubs.{is_span_named}
+use Rattle.sentry_hub_table.specs.Names.{span_of}
+use Rattle.sentry_hub_table.specs.declared.hub.Hub.{Hub}
+use Rattle.sentry_hub_table.specs.declared.tally.Key.{Key}
+use Rattle.sentry_hub_table.proofs.NameLemmas.{counts_any, span_is}
+use Rattle.sentry_hub_table.proofs.hub_table.HubTable.is_span_named.Goals as goal
+
+-- a number above 0 says that a layer names it
+pub returns : goal.returns
+returns g c =
+    let key : Key = record { tag = c.args.span.tag; number = c.args.span.number } in
+    c.is_named.ensures
+    ∙ counts_any span_of (λ layer. is_span c.args.span layer.scope.span) key (λ layer. span_is key layer.scope.span)
+    c.self.inside.hubs c.self.inside.names.spans c.self.invariant.names.spans
+    ∙ ap (λ (hubs : List (ℕ × Hub g.row.P.Denot)). is_span_named c.args.span hubs) c.self.view_is

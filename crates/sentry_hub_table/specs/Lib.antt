@@ -1,0 +1,4 @@
+pub mod Tallies
+pub mod Hubs
+pub mod Names
+pub mod TrueNames

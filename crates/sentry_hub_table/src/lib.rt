@@ -1,0 +1,7 @@
+//! The hubs of an engine, with the number of layers that name each client, session, transaction and span.
+#![tactic(auto)]
+
+pub mod hub;
+pub mod hub_table;
+mod names;
+mod tally;

@@ -1,0 +1,276 @@
+-- What a call that absorbs nothing and adds no client leaves of what the books absorbed.
+use Rattle.std.proofs.Common.{◌≡◌, refl, ap, ◌∙◌, sym, subst, ℕ, List, [], ◌∷◌, ◌++◌, Bool, true, false, cond}
+use Rattle.std.specs.Prelude.{Option, Some, None, ◌==◌, ◌||◌, unwrap_or, if◌then◌else◌}
+use Rattle.std.specs.List.{list_any}
+use Rattle.sentry_plain.specs.Tables.{value_at, replace_at, without}
+use Rattle.sentry_base.specs.declared.protocol.envelope.Envelope.{Envelope}
+use Rattle.sentry_base.specs.declared.protocol.keys.ClientKey.{ClientKey}
+use Rattle.sentry_base.specs.declared.protocol.keys.Label.{Label}
+use Rattle.sentry_options.specs.Meanings.{Meanings}
+use Rattle.sentry_client_reports.specs.LossBooks.{LossEntry, engine_losses, report_point}
+use Rattle.sentry_sending.specs.Sending.{after_sending, send}
+use Rattle.sentry_state.specs.Changes.{with_client_state}
+use Rattle.sentry_state.specs.Books.{with_entry}
+use Rattle.sentry_state.specs.Worlds.{World}
+use Rattle.std.specs.Prelude.{Result, Ok, Err}
+use Rattle.sentry_base.specs.declared.protocol.refusal.Refusal.{Refusal}
+use Rattle.sentry_base.specs.Callbacks.{Partial}
+use Rattle.sentry_scope.specs.declared.scope.stack.Stack.{Stack}
+use Rattle.sentry_scope.specs.Stacks.{one_layer}
+use Rattle.sentry_state.specs.declared.state.Out.{Out}
+use Rattle.sentry_calls.specs.declared.call.Call.{Call}
+use Rattle.sentry_calls.specs.declared.call.Call.TheVariants as group
+use Rattle.sentry_calls.specs.declared.call.clients.ClientCall.{ClientCall}
+use Rattle.sentry_calls.specs.declared.call.clients.ClientCall.TheVariants.{AddClient, Absorb, CloneClient, TakeReport}
+use Rattle.sentry_calls.specs.declared.call.hubs.HubCall.{HubCall}
+use Rattle.sentry_calls.specs.declared.call.hubs.HubCall.TheVariants.{NewHub, NewHubFromTop}
+use Rattle.sentry_calls.specs.declared.call.Reply.{Reply}
+use Rattle.sentry_calls.specs.declared.call.Reply.TheVariants as reply
+use Rattle.sentry_calls.specs.Steps.{step}
+use Rattle.sentry_laws.specs.OwnCalls.{Effect, client_added, client_cloned, hub_made, hub_made_from, hub_changed, hub_released, losses_absorbed, report_taken, effects, client_effects, hub_effects, on_client, on_hub, on_report}
+use Rattle.sentry_laws.proofs.Trails.{is_own, own_effects, TellsBy}
+use Rattle.sentry_laws.proofs.Calls.{told_step}
+use Rattle.sentry_laws.specs.SentItems.{handed_in}
+use Rattle.sentry_laws.specs.Changes.{Change, Changes, nothing, one, both, after_arrival, envelopes_on_arrival, makes_hub, makes_hub_from, changes_hub, leaves_hub, notes_event_id, releases_hub, adds_client, clones_client, drops_client, arrives, mails, loses, takes_report, absorbs, starts_session, changes_session, ends_session, starts_transaction, starts_span, changes_spans}
+use Rattle.sentry_laws.specs.Losses.{absorbed, leaves_absorbed}
+use Rattle.sentry_laws.proofs.Increasing.{IsIncreasing, increasing_replaced, increasing_without, without_if}
+use Rattle.sentry_laws.proofs.Found.{found_replaced, same_number}
+use Rattle.std.specs.Ordering.{nat_cmp}
+use Rattle.std.specs.BTreeMap.{is_at}
+
+-- each book that is there was there before, and has absorbed the same
+pub record KeepsBooks (old new : List (ℕ × List LossEntry)) : Type 0 where
+  pub increasing : IsIncreasing 0 old → IsIncreasing 0 new
+  pub same : IsIncreasing 0 old → (n : ℕ) (now : List LossEntry) → value_at new n ≡ Some now
+      → (before : List LossEntry) × (value_at old n ≡ Some before) × ((i : ℕ) → absorbed now i ≡ absorbed before i)
+
+module _ {X : Type 0} where
+  absent-at : (b : Bool) (e : ℕ × X) (es : List (ℕ × X)) (n : ℕ) (x : X) → cond b (Some e.1) (value_at es n) ≡ None
+      → (value_at es n ≡ None → replace_at es n x ≡ es)
+      → cond b ((e.0, x) ∷ es) (e ∷ replace_at es n x) ≡ e ∷ es
+  absent-at true e es n x h rest = absurd cc
+  absent-at false e es n x h rest = ap (λ r. e ∷ r) (rest h)
+
+  pub replace_absent : (m : List (ℕ × X)) (n : ℕ) (x : X) → value_at m n ≡ None → replace_at m n x ≡ m
+  replace_absent [] n x h = refl
+  replace_absent (e ∷ es) n x h = absent-at (is_at (nat_cmp n) e.0) e es n x h (replace_absent es n x)
+
+module _ where
+  unchanged : (books : List (ℕ × List LossEntry)) → KeepsBooks books books
+  unchanged books = record { increasing = λ b. b; same = λ b n now at. (now, at, λ i. refl) }
+
+  then_keeps : (first second third : List (ℕ × List LossEntry)) → KeepsBooks first second → KeepsBooks second third
+      → KeepsBooks first third
+  then_keeps first second third k l = record {
+    increasing = λ b. l.increasing (k.increasing b);
+    same = λ b n now at.
+        let middle = l.same (k.increasing b) n now at in
+        let before = k.same b n middle.0 middle.1 in
+        (before.0, before.1, λ i. middle.2 i ∙ before.2 i);
+  }
+
+  -- an entry that is not of drained losses
+  abbrev IsSilent : LossEntry → Type 0
+  IsSilent entry = (history : List LossEntry) (i : ℕ) → absorbed (entry ∷ history) i ≡ absorbed history i
+
+  entered-by : (b : Bool) (n k : ℕ) (entry : LossEntry) (held : List LossEntry) (o : Option (List LossEntry))
+      (now : List LossEntry) → IsSilent entry
+      → (b ≡ true → o ≡ Some held) → (if b then Some (entry ∷ held) else o) ≡ Some now
+      → (before : List LossEntry) × (o ≡ Some before) × ((i : ℕ) → absorbed now i ≡ absorbed before i)
+  entered-by true n k entry held o now silent own at =
+      let same : entry ∷ held ≡ now = cc in (held, own refl, λ i. ap (λ h. absorbed h i) (sym same) ∙ silent held i)
+  entered-by false n k entry held o now silent own at = (now, at, λ i. refl)
+
+  own_value : (books : List (ℕ × List LossEntry)) (n k : ℕ) (held : List LossEntry) → value_at books n ≡ Some held
+      → (k == n) ≡ true → value_at books k ≡ Some held
+  own_value books n k held at e = ap (value_at books) (same_number k n e) ∙ at
+
+  entered : (books : List (ℕ × List LossEntry)) (n : ℕ) (entry : LossEntry) (o : Option (List LossEntry))
+      → IsSilent entry → value_at books n ≡ o
+      → KeepsBooks books (replace_at books n (entry ∷ unwrap_or o []))
+  entered books n entry None silent at = subst (KeepsBooks books) (sym (replace_absent books n (entry ∷ []) at))
+      (unchanged books)
+  entered books n entry (Some held) silent at = record {
+    increasing = λ b. increasing_replaced 0 n (entry ∷ held) books b;
+    same = λ b k now found. entered-by (k == n) n k entry held (value_at books k) now silent
+        (own_value books n k held at) (sym (found_replaced books n k (entry ∷ held) held at) ∙ found);
+  }
+
+  gone_same : (b : Bool) (o : Option (List LossEntry)) (now : List LossEntry) → (if b then None else o) ≡ Some now
+      → o ≡ Some now
+  gone_same true o now at = absurd cc
+  gone_same false o now at = at
+
+  removed : (b : Bool) (books : List (ℕ × List LossEntry)) (n : ℕ)
+      → KeepsBooks books (if b then books else without books n)
+  removed true books n = unchanged books
+  removed false books n = record {
+    increasing = λ b. increasing_without 0 n books b;
+    same = λ b k now found. (
+      now,
+      gone_same (k == n) (value_at books k) now (sym (without_if 0 n k books b) ∙ found),
+      λ
+          i. refl,
+    );
+  }
+
+  module _ {P C : Type 0} where
+    with_silent : (world : World P C) (label : Label) (entry : LossEntry) → IsSilent entry → KeepsBooks world.books
+        (with_entry world label entry).books
+    with_silent world label entry silent = entered world.books label.number entry (value_at world.books label.number)
+        silent refl
+
+    sending_books : (label : Label) (sent : List (ClientKey × Envelope)) (world : World P C) → KeepsBooks world.books
+        (after_sending label sent world).books
+    sending_books label [] world = unchanged world.books
+    sending_books label (first ∷ rest) world = with_silent world label report_point (λ history i. refl)
+
+-- ---- effects by which a book may absorb something or begin
+
+module _ {P C : Type 0} where
+  abbrev pub is_loud : Effect P C → Bool
+  is_loud (client_added key options) = true
+  is_loud (losses_absorbed label losses) = true
+  is_loud _ = false
+
+  quiet_first : (first second : List (Effect P C)) → list_any is_loud (first ++ second) ≡ false
+      → list_any is_loud first ≡ false
+  quiet_first [] second h = refl
+  quiet_first (effect ∷ rest) second h = quiet_at (is_loud effect) _ _ h (quiet_first rest second)
+    where
+      quiet_at : (a b c : Bool) → (a || b) ≡ false → (b ≡ false → c ≡ false) → (a || c) ≡ false
+      quiet_at true b c h k = h
+      quiet_at false b c h k = k h
+
+  quiet_second : (first second : List (Effect P C)) → list_any is_loud (first ++ second) ≡ false
+      → list_any is_loud second ≡ false
+  quiet_second [] second h = h
+  quiet_second (effect ∷ rest) second h = quiet_second rest second (quiet_rest (is_loud effect) _ h)
+    where
+      quiet_rest : (a b : Bool) → (a || b) ≡ false → b ≡ false
+      quiet_rest true b h = absurd cc
+      quiet_rest false b h = h
+
+module _ {P C : Type 0} {meanings : C → Meanings} where
+  books_change : {f : Option Envelope} {old new : World P C} {some : List (Effect P C)} {sent : List
+      (ClientKey × Envelope)} → Change meanings f old some sent new
+      → list_any is_loud some ≡ false → KeepsBooks old.books new.books
+  books_change (makes_hub world client scope held active) h = unchanged world.books
+  books_change (makes_hub_from world maker hub found) h = unchanged world.books
+  books_change (changes_hub world number old new change found fits allowed) h = unchanged world.books
+  books_change (leaves_hub world number hub change found fits) h = unchanged world.books
+  books_change (notes_event_id world number old new found same) h = unchanged world.books
+  books_change (releases_hub world number hub found alone) h = unchanged world.books
+  books_change (adds_client world client now queues open_ of_engine) h = absurd cc
+  books_change (clones_client world original client now found) h = unchanged world.books
+  books_change (drops_client world key client label found same none) h = removed _ world.books label.number
+  books_change (arrives world key client arrival is_off found open_) h =
+      sending_books client.label (send key client (envelopes_on_arrival arrival client)
+      (with_client_state world key (after_arrival arrival client))).sent
+      (with_client_state world key (after_arrival arrival client))
+  books_change (mails world key client envelope found occupied none) h =
+      with_silent world client.label report_point (λ history i. refl)
+  books_change (loses world key client losses found) h = with_silent world client.label (engine_losses losses)
+      (λ history i. refl)
+  books_change (takes_report world label has) h = with_silent world label report_point (λ history i. refl)
+  books_change (absorbs world label losses has) h = absurd cc
+  books_change (starts_session world start) h = unchanged world.books
+  books_change (changes_session world number old new later found same) h = unchanged world.books
+  books_change (ends_session world number) h = unchanged world.books
+  books_change (starts_transaction world state new_) h = unchanged world.books
+  books_change (starts_span world parent place held found of_ traced) h = unchanged world.books
+  books_change (changes_spans world transactions spans change) h = unchanged world.books
+
+  pub books_changes : {f : Option Envelope} {old new : World P C} {some : List (Effect P C)} {sent : List
+      (ClientKey × Envelope)} → Changes meanings f old some sent new
+      → list_any is_loud some ≡ false → KeepsBooks old.books new.books
+  books_changes (nothing world) h = unchanged world.books
+  books_changes (one c) h = books_change c h
+  books_changes (both {old = old} {middle = middle} {new = new} {first = first} {second = second} t u) h =
+      then_keeps old.books middle.books new.books (books_changes t (quiet_first first second h))
+      (books_changes u (quiet_second first second h))
+
+-- ---- calls
+
+module _ {P C : Type 0} where
+  silent_own : (effect : Effect P C) → is_own effect ≡ false → is_loud effect ≡ false
+  silent_own (hub_changed number change) h = refl
+  silent_own (client_added key options) h = absurd cc
+  silent_own (client_cloned key original) h = refl
+  silent_own (hub_made number stack) h = refl
+  silent_own (hub_made_from number maker) h = refl
+  silent_own (hub_released number) h = refl
+  silent_own (losses_absorbed label losses) h = absurd cc
+  silent_own (report_taken label report) h = absurd cc
+
+  loud-by : (b : Bool) (effect : Effect P C) (rest own : List (Effect P C)) → is_own effect ≡ b
+      → (list_any is_loud own ≡ false → list_any is_loud rest ≡ false)
+      → list_any is_loud (cond b (effect ∷ own) own) ≡ false → list_any is_loud (effect ∷ rest) ≡ false
+  loud-by true effect rest own e k h = either (is_loud effect) _ _ h k
+    where
+      either : (a b c : Bool) → (a || b) ≡ false → (b ≡ false → c ≡ false) → (a || c) ≡ false
+      either true b c h k = h
+      either false b c h k = k h
+  loud-by false effect rest own e k h = ap (λ b. b || list_any is_loud rest) (silent_own effect e) ∙ k h
+
+  quiet_all : (some : List (Effect P C)) → list_any is_loud (own_effects some) ≡ false → list_any is_loud some ≡ false
+  quiet_all [] h = refl
+  quiet_all (effect ∷ rest) h = loud-by (is_own effect) effect rest (own_effects rest) refl (quiet_all rest) h
+
+  client_quiet : (made : Reply P C) (original : ClientKey)
+      → list_any is_loud (on_client made (λ key. client_cloned key original)) ≡ false
+  client_quiet (reply.Client key) original = refl
+  client_quiet _ original = refl
+
+  report_quiet : (made : Reply P C) (label : Label)
+      → list_any is_loud (on_report {P = P} {C = C} made (λ report. report_taken label report)) ≡ false
+  report_quiet (reply.Report report) label = refl
+  report_quiet _ label = refl
+
+  hub_quiet : (made : Reply P C) (stack : Stack P)
+      → list_any is_loud (on_hub {P = P} {C = C} made (λ number. hub_made number stack)) ≡ false
+  hub_quiet (reply.Hub key) stack = refl
+  hub_quiet _ stack = refl
+
+  hub_from_quiet : (made : Reply P C) (maker : ℕ)
+      → list_any is_loud (on_hub {P = P} {C = C} made (λ number. hub_made_from number maker)) ≡ false
+  hub_from_quiet (reply.Hub key) maker = refl
+  hub_from_quiet _ maker = refl
+
+  client_call_quiet : (meanings : C → Meanings) (call : ClientCall P C) (made : Reply P C)
+      → leaves_absorbed (group.Client call) ≡ true → list_any is_loud (client_effects meanings call made) ≡ false
+  client_call_quiet meanings (AddClient options transport label now) made h = absurd cc
+  client_call_quiet meanings (Absorb label losses) made h = absurd cc
+  client_call_quiet meanings (CloneClient client now) made h = client_quiet made client
+  client_call_quiet meanings (TakeReport label) made h = report_quiet made label
+  client_call_quiet meanings call made h = refl
+
+  hub_call_quiet : (meanings : C → Meanings) (call : HubCall P) (made : Reply P C)
+      → list_any is_loud (hub_effects {C = C} meanings call made) ≡ false
+  hub_call_quiet meanings (NewHub client scope) made = hub_quiet made (one_layer client scope)
+  hub_call_quiet meanings (NewHubFromTop hub) made = hub_from_quiet made hub.number
+  hub_call_quiet meanings call made = refl
+
+  call_quiet : (meanings : C → Meanings) (call : Call P C) (made : Reply P C) → leaves_absorbed call ≡ true
+      → list_any is_loud (effects meanings call made) ≡ false
+  call_quiet meanings (group.Client call) made h = client_call_quiet meanings call made h
+  call_quiet meanings (group.Hub call) made h = hub_call_quiet meanings call made
+  call_quiet meanings (group.Span call) made h = refl
+
+  told_keeps : (meanings : C → Meanings) (f : Option Envelope) (world : World P C) (own : Reply P C → List (Effect P C))
+      (answer : Result (Out (Reply P C)) Refusal) (after : World P C)
+      → ((made : Reply P C) → list_any is_loud (own made) ≡ false) → TellsBy meanings f world own answer after
+      → KeepsBooks world.books after.books
+  told_keeps meanings f world own (Ok out) after quiet tells =
+      books_changes tells.changes (quiet_all tells.effects (ap (list_any is_loud) tells.same ∙ quiet out.reply))
+  told_keeps meanings f world own (Err refusal) after quiet tells =
+      subst (λ (w : World P C). KeepsBooks world.books w.books) (sym tells) (unchanged world.books)
+
+  -- any other call leaves what each book absorbed
+  pub call_keeps : (gives : P → Partial) (meanings : C → Meanings) (call : Call P C) (world : World P C)
+      → leaves_absorbed call ≡ true
+      → KeepsBooks world.books (step gives meanings call world).after.books
+  call_keeps gives meanings call world h =
+      told_keeps meanings (handed_in call) world (effects meanings call) (step gives meanings call world).answer
+      (step gives meanings call world).after (λ made. call_quiet meanings call made h)
+      (told_step gives meanings call world).tells

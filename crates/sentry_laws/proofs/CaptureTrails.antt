@@ -1,0 +1,209 @@
+-- What becomes of events, as changes.
+use Rattle.std.proofs.Common.{◌≡◌, refl, ap, ◌∙◌, ℕ, List, [], ◌∷◌, ◌++◌, Bool, true, false, inr}
+use Rattle.std.specs.Prelude.{Option, Some, None, if◌then◌else◌, nat_lt, ◌||◌}
+use Rattle.std.specs.List.{list_any}
+use Rattle.std.specs.Option.{option_map}
+use Rattle.sentry_plain.specs.Tables.{value_at}
+use Rattle.sentry_base.specs.Callbacks.{Partial}
+use Rattle.sentry_base.specs.Envelopes.{with_item, empty_envelope}
+use Rattle.sentry_base.specs.declared.protocol.attachment.Attachment.{Attachment}
+use Rattle.sentry_base.specs.declared.protocol.envelope.Envelope.{Envelope}
+use Rattle.sentry_base.specs.declared.protocol.envelope.EnvelopeItem.{EnvelopeItem}
+use Rattle.sentry_base.specs.declared.protocol.envelope.EnvelopeItem.TheVariants as item
+use Rattle.sentry_base.specs.declared.protocol.event.Event.{Event}
+use Rattle.sentry_base.specs.declared.protocol.fresh.Fresh.{Fresh}
+use Rattle.sentry_base.specs.declared.protocol.keys.ClientKey.{ClientKey}
+use Rattle.sentry_base.specs.declared.protocol.keys.Label.{Label}
+use Rattle.sentry_base.specs.declared.protocol.keys.SessionKey.{SessionKey}
+use Rattle.sentry_base.specs.declared.protocol.losses.Reason.{Reason}
+use Rattle.sentry_base.specs.declared.protocol.losses.Reason.TheVariants as reason
+use Rattle.sentry_base.specs.declared.protocol.session.SessionUpdate.{SessionUpdate}
+use Rattle.sentry_options.specs.Meanings.{Meanings, process_by_all, call_if_any}
+use Rattle.sentry_options.specs.declared.clientoptions.ClientOptions.{ClientOptions}
+use Rattle.sentry_options.specs.declared.clientoptions.choices.EventSamplingStrategy.{EventSamplingStrategy}
+use Rattle.sentry_options.specs.declared.clientoptions.choices.EventSamplingStrategy.TheVariants.{FixedRate}
+use Rattle.sentry_client_reports.specs.LossBooks.{LossEntry, report_point}
+use Rattle.sentry_scope.specs.declared.scope.Scope.{Scope}
+use Rattle.sentry_sessions.specs.Sessions.{SessionEntry, event_reached, handed_out}
+use Rattle.sentry_pipeline.specs.Pipeline.{Prepared, continue_or_drop, fill_if_any, process_if_any, sample, loss_reason, with_id, with_sdk, sdk_info, with_defaults}
+use Rattle.sentry_pipeline.specs.Pipeline as pipeline
+use Rattle.sentry_pipeline.specs.declared.pipeline.Place.{Place}
+use Rattle.sentry_pipeline.specs.declared.pipeline.Place.TheVariants.{EventProcessor, Integration, BeforeSend}
+use Rattle.sentry_pipeline.specs.declared.pipeline.Preparation.TheVariants.{Kept, SampledOut, Dropped}
+use Rattle.sentry_span_table.specs.declared.table.records.SpanTable.{SpanTable}
+use Rattle.sentry_state.specs.declared.state.Client.{Client}
+use Rattle.sentry_hub_table.specs.declared.hub.Hub.{Hub}
+use Rattle.sentry_state.specs.Worlds.{World, ClientState, SessionState, plain_session}
+use Rattle.sentry_state.specs.Outcomes.{client_at, session_at}
+use Rattle.sentry_state.specs.Books.{pending_report, with_entry_if_any}
+use Rattle.sentry_captures.specs.Captures.{Capture, capture, capture_of_prepared, lost_event, capture_entry, event_to_send, captured_envelopes, with_update, with_attachments, capture_session, with_reached, takes_update, SessionCapture, capture_named_session, with_captured_session}
+use Rattle.sentry_laws.specs.Changes.{Changes, nothing, one, mails, loses, changes_session, is_batch_or_report}
+use Rattle.sentry_laws.proofs.Trails.{found_under}
+
+-- an event is sent with the pending report, or lost, or neither, and only an occupied slot sends
+pub data Fate (occupied : Bool) : Option Event → Option LossEntry → Type 0 where
+  ignored : Fate occupied None None
+  lost : (reason : Reason) → Fate occupied None (Some (lost_event reason))
+  goes : (event : Event) → occupied ≡ true → Fate occupied (Some event) (Some report_point)
+
+abbrev PreparedWell : Prepared → Type 0
+PreparedWell prepared = Fate true (event_to_send prepared.preparation prepared.event)
+    (Some (capture_entry (loss_reason prepared.preparation)))
+
+dropped_well : (place : Place) → PreparedWell (record { preparation = Dropped place; event = None })
+dropped_well EventProcessor = lost reason.EventProcessor
+dropped_well Integration = lost reason.EventProcessor
+dropped_well BeforeSend = lost reason.BeforeSend
+
+continued_well : (place : Place) (o : Option Event) (go : Event → Prepared)
+    → ((event : Event) → PreparedWell (go event)) → PreparedWell (continue_or_drop place o go)
+continued_well place None go h = dropped_well place
+continued_well place (Some event) go h = h event
+
+sampled_well : (b : Bool) (event : Event) → PreparedWell (record {
+  preparation = if b then Kept else SampledOut;
+  event =
+      Some event;
+})
+sampled_well true event = goes event refl
+sampled_well false event = lost reason.SampleRate
+
+strategy_well : (strategy : EventSamplingStrategy) (draw : ℕ) (event : Event)
+    → PreparedWell (record { preparation = sample strategy draw; event = Some event })
+strategy_well (FixedRate rate) draw event = sampled_well (nat_lt draw rate) event
+
+module _ {P C : Type 0} (gives : P → Partial) (meanings : C → Meanings) where
+  prepared_well : (spans : SpanTable) (options : ClientOptions C) (scope : Option (Scope P)) (fresh : Fresh)
+      (event : Event) → PreparedWell (pipeline.prepare_event gives meanings spans options scope fresh event)
+  unfolding pipeline.prepare_event
+  prepared_well spans options scope fresh event =
+      let client = meanings options.callbacks in
+      let identified = with_sdk (sdk_info client) (with_id fresh.uuid event) in
+      continued_well EventProcessor (process_if_any gives scope (fill_if_any spans scope identified)) _ (λ processed.
+      continued_well Integration (process_by_all client.integrations options.plain processed) _ (λ integrated.
+      continued_well BeforeSend (call_if_any client.before_send (with_defaults options.plain integrated)) _ (λ made.
+      strategy_well options.plain.event_sampling_strategy fresh.draw made)))
+
+  captured-by : (b : Bool) (prepared : Prepared) → PreparedWell prepared
+      → Fate b (if b then capture_of_prepared prepared else record { reached = None; event = None; entry = None }).event
+      (if b then capture_of_prepared prepared else record { reached = None; event = None; entry = None }).entry
+  captured-by true prepared h = h
+  captured-by false prepared h = ignored
+
+  pub fate_of : (spans : SpanTable) (client : Client C) (scope : Option (Scope P)) (fresh : Fresh) (event : Event)
+      → Fate client.occupied (capture gives meanings spans client scope fresh event).event
+      (capture gives meanings spans client scope fresh event).entry
+  unfolding capture
+  fate_of spans client scope fresh event =
+      captured-by client.occupied _ (prepared_well spans client.options scope fresh event)
+
+-- ---- no batch is in the envelope of an event
+
+any_more : (items : List EnvelopeItem) (added : EnvelopeItem) → list_any is_batch_or_report items ≡ false
+    → is_batch_or_report added ≡ false → list_any is_batch_or_report (items ++ added ∷ []) ≡ false
+any_more [] added h k = ap (λ b. b || false) k
+any_more (first ∷ rest) added h k = any_first (is_batch_or_report first) (list_any is_batch_or_report rest) _ h
+    (λ g. any_more rest added g k)
+  where
+    any_first : (b c d : Bool) → (b || c) ≡ false → (c ≡ false → d ≡ false) → (b || d) ≡ false
+    any_first true c d h g = h
+    any_first false c d h g = g h
+
+attached : (attachments : List Attachment) (envelope : Envelope) → list_any is_batch_or_report envelope.items ≡ false
+    → list_any is_batch_or_report (with_attachments attachments envelope).items ≡ false
+attached [] envelope h = h
+attached (attachment ∷ rest) envelope h = attached rest (with_item envelope (item.Attachment attachment))
+    (any_more envelope.items (item.Attachment attachment) h refl)
+
+updated : (update : Option SessionUpdate) (event : Event) → list_any is_batch_or_report
+    (with_update update (with_item empty_envelope (item.Event event))).items ≡ false
+updated None event = refl
+updated (Some update) event = refl
+
+module _ {P C : Type 0} (meanings : C → Meanings) (given : Option Envelope) where
+  -- the envelopes of a capture and its entry in the book
+  pub captures : given ≡ None → (world : World P C) (key : ClientKey) (client : ClientState C)
+      → client_at world key ≡ Some client
+      → (update : Option SessionUpdate) (attachments : List Attachment) (event : Option Event)
+      (entry : Option LossEntry) → Fate client.occupied event entry
+      → Changes meanings given world [] (captured_envelopes key update attachments (pending_report world client.label)
+      event) (with_entry_if_any world client.label entry)
+  captures own world key client found update attachments event entry ignored = nothing world
+  captures own world key client found update attachments event entry (lost reason) =
+      one (loses world key client _ found)
+  captures own world key client found update attachments event entry (goes sent occupied) =
+      one (mails world key client _ found occupied (inr (own, attached attachments _ (updated update sent))))
+
+  pub loses_if_any : (world : World P C) (key : ClientKey) (client : ClientState C) → client_at world key ≡ Some client
+      → (reason : Option Reason)
+      → Changes meanings given world [] [] (with_entry_if_any world client.label (option_map lost_event reason))
+  loses_if_any world key client found None = nothing world
+  loses_if_any world key client found (Some reason) = one (loses world key client _ found)
+
+-- ---- sessions that events reach
+
+abbrev IsLater : SessionState → SessionState → Type 0
+IsLater old new = (later : List SessionEntry) × (new ≡ record old { history = later ++ old.history })
+
+handed_later : (b : Bool) (before : SessionState) (later : List SessionEntry)
+    → IsLater before (record before {
+      history = if b then handed_out ∷ (later ++ before.history) else later
+          ++ before.history;
+    })
+handed_later true before later = (handed_out ∷ later, refl)
+handed_later false before later = (later, refl)
+
+captured_later : (takes : Bool) (reached : Option Event) (before : SessionState)
+    → IsLater before (capture_session takes reached before).after
+unfolding capture_session
+captured_later true None before = handed_later (plain_session before).dirty before []
+captured_later true (Some event) before = handed_later (plain_session (with_reached (Some event) before)).dirty before
+    (event_reached event ∷ [])
+captured_later false None before = ([], refl)
+captured_later false (Some event) before = (event_reached event ∷ [], refl)
+
+module _ {P C : Type 0} where
+  entry_sessions : (world : World P C) (label : Label) (entry : Option LossEntry)
+      → (with_entry_if_any world label entry).sessions ≡ world.sessions
+  entry_sessions world label None = refl
+  entry_sessions world label (Some entry) = refl
+
+  entry_hubs : (world : World P C) (label : Label) (entry : Option LossEntry)
+      → (with_entry_if_any world label entry).hubs ≡ world.hubs
+  entry_hubs world label None = refl
+  entry_hubs world label (Some entry) = refl
+
+  session_hubs : (world : World P C) (name : Option SessionKey) (captured : Option SessionCapture)
+      → (with_captured_session world name captured).hubs ≡ world.hubs
+  session_hubs world None captured = refl
+  session_hubs world (Some key) None = refl
+  session_hubs world (Some key) (Some captured) = refl
+
+  -- the hub of a capture is found after it
+  pub found_captured : (world : World P C) (label : Label) (entry : Option LossEntry) (name : Option SessionKey)
+      (captured : Option SessionCapture) (number : ℕ) (hub : Hub P)
+      → value_at world.hubs number ≡ Some hub
+      → value_at (with_captured_session (with_entry_if_any world label entry) name captured).hubs number ≡ Some hub
+  found_captured world label entry name captured number hub found =
+      ap (λ hubs. value_at hubs number) (session_hubs (with_entry_if_any world label entry) name captured
+      ∙ entry_hubs world label entry) ∙ found
+
+module _ {P C : Type 0} (meanings : C → Meanings) (given : Option Envelope) where
+  captured-found : (world middle : World P C) (key : SessionKey) (takes : Bool) (reached : Option Event)
+      (o : Option SessionState) → session_at world key ≡ o → middle.sessions ≡ world.sessions
+      → Changes meanings given middle [] []
+      (with_captured_session middle (Some key) (option_map (capture_session takes reached) o))
+  captured-found world middle key takes reached None found same = nothing middle
+  captured-found world middle key takes reached (Some before) found same =
+      let later = captured_later takes reached before in
+      one (changes_session middle key.number before _ later.0 (ap (λ sessions. value_at sessions key.number) same
+      ∙ found_under world.tag world.sessions key.tag key.number before found) later.1)
+
+  pub captures_session : (world : World P C) (label : Label) (entry : Option LossEntry) (name : Option SessionKey)
+      (client : Client C) (made : Capture)
+      → Changes meanings given (with_entry_if_any world label entry) [] []
+      (with_captured_session (with_entry_if_any world label entry) name (capture_named_session world name client made))
+  captures_session world label entry None client made = nothing _
+  captures_session world label entry (Some key) client made =
+      captured-found world (with_entry_if_any world label entry) key (takes_update client made) made.reached
+      (session_at world key) refl (entry_sessions world label entry)

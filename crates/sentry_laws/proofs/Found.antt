@@ -1,0 +1,52 @@
+-- What is found in tables after a change, as one equation for each change.
+use Rattle.std.proofs.Common.{◌≡◌, ◌≢◌, refl, ap, ◌∙◌, subst, ℕ, List, Bool, true, false, arith}
+use Rattle.std.proofs.lemmas.Bool.Decides.{nat_tests}
+use Rattle.std.specs.Prelude.{Option, Some, None, ◌==◌, if◌then◌else◌}
+use Rattle.sentry_plain.specs.Tables.{value_at, put, replace_at, without}
+use Rattle.sentry_laws.proofs.Tables.{AreBelow, own_put, others_put, own_replaced, others_replaced, gone, others_without}
+
+pub same_number : (k n : ℕ) → (k == n) ≡ true → k ≡ n
+same_number k n e = grind (arith, nat_tests)
+
+other_number : (k n : ℕ) → (k == n) ≡ false → k ≢ n
+other_number k n e = grind (arith, nat_tests)
+
+module _ {X : Type 0} where
+  put-at : (b : Bool) (m : List (ℕ × X)) (n k : ℕ) (x : X) → (k == n) ≡ b → value_at (put m n x) k ≡
+      (if b then Some x else value_at m k)
+  put-at true m n k x e = ap (value_at (put m n x)) (same_number k n e) ∙ own_put m n x
+  put-at false m n k x e = others_put m n k x (other_number k n e)
+
+  pub found_put : (m : List (ℕ × X)) (n k : ℕ) (x : X) → value_at (put m n x) k ≡
+      (if k == n then Some x else value_at m k)
+  found_put m n k x = put-at (k == n) m n k x refl
+
+  replaced-at : (b : Bool) (m : List (ℕ × X)) (n k : ℕ) (x old : X) → value_at m n ≡ Some old → (k == n) ≡ b
+      → value_at (replace_at m n x) k ≡ (if b then Some x else value_at m k)
+  replaced-at true m n k x old found e = ap (value_at (replace_at m n x)) (same_number k n e)
+      ∙ own_replaced m n x old found
+  replaced-at false m n k x old found e = others_replaced m n k x (other_number k n e)
+
+  pub found_replaced : (m : List (ℕ × X)) (n k : ℕ) (x old : X) → value_at m n ≡ Some old → value_at (replace_at m n x)
+      k ≡ (if k == n then Some x else value_at m k)
+  found_replaced m n k x old found = replaced-at (k == n) m n k x old found refl
+
+  without-at : (b : Bool) (low next : ℕ) (m : List (ℕ × X)) (n k : ℕ) → AreBelow low next m → (k == n) ≡ b
+      → value_at (without m n) k ≡ (if b then None else value_at m k)
+  without-at true low next m n k below e = ap (value_at (without m n)) (same_number k n e) ∙ gone low next n m below
+  without-at false low next m n k below e = others_without m n k (other_number k n e)
+
+  pub found_without : (low next : ℕ) (m : List (ℕ × X)) (n k : ℕ) → AreBelow low next m → value_at (without m n) k ≡
+      (if k == n then None else value_at m k)
+  found_without low next m n k below = without-at (k == n) low next m n k below refl
+
+  -- what holds of the value that comes and of all others holds of each that is found
+  pub all_by : (Q : X → Type 0) (b : Bool) (x y : X) (o : Option X) → Q x → ((z : X) → o ≡ Some z → Q z)
+      → (if b then Some x else o) ≡ Some y → Q y
+  all_by Q true x y o q h e = let same : x ≡ y = cc in subst Q same q
+  all_by Q false x y o q h e = h y e
+
+  pub all_without : (Q : X → Type 0) (b : Bool) (y : X) (o : Option X) → ((z : X) → o ≡ Some z → Q z)
+      → (if b then None else o) ≡ Some y → Q y
+  all_without Q true y o h e = absurd cc
+  all_without Q false y o h e = h y e

@@ -1,0 +1,513 @@
+-- A pop undoes the push whose layer it pops.
+use Rattle.std.proofs.Common.{◌≡◌, ◌<◌, refl, ap, ◌∙◌, sym, subst, ℕ, ◌+◌, List, [], ◌∷◌, ◌++◌, Bool, true, false, cond, length, append_assoc, length-append, arith}
+use Rattle.std.proofs.lemmas.Bool.Decides.{nat_tests}
+use Rattle.std.proofs.lemmas.List.{append-nil}
+use Rattle.std.specs.Prelude.{Option, Some, None, Result, Ok, Err, if◌then◌else◌, ◌==◌, ◌&&◌, ◌||◌, nat_lt}
+use Rattle.std.specs.List.{list_any}
+use Rattle.std.specs.Option.{option_map, option_and_then}
+use Rattle.sentry_plain.specs.Tables.{value_at, put, replace_at, without}
+use Rattle.sentry_base.specs.Callbacks.{Partial}
+use Rattle.sentry_base.specs.declared.protocol.breadcrumb.Breadcrumb.{Breadcrumb}
+use Rattle.sentry_base.specs.declared.protocol.envelope.Envelope.{Envelope}
+use Rattle.sentry_base.specs.declared.protocol.keys.ClientKey.{ClientKey}
+use Rattle.sentry_base.specs.declared.protocol.keys.HubKey.{HubKey}
+use Rattle.sentry_base.specs.declared.protocol.keys.Label.{Label}
+use Rattle.sentry_base.specs.declared.protocol.refusal.Refusal.{Refusal}
+use Rattle.sentry_base.specs.declared.protocol.refusal.Refusal.TheVariants.{Stale, OutOfOrder}
+use Rattle.sentry_options.specs.Meanings.{Meanings}
+use Rattle.sentry_options.specs.declared.clientoptions.ClientOptions.{ClientOptions}
+use Rattle.sentry_scope.specs.declared.scope.stack.Stack.{Stack}
+use Rattle.sentry_scope.specs.declared.scope.stack.StackLayer.{StackLayer}
+use Rattle.sentry_scope.specs.Stacks.{layers, push, pop, depth, stack_of, stack_of_any}
+use Rattle.sentry_hub_table.specs.declared.hub.Hub.{Hub}
+use Rattle.sentry_state.specs.declared.state.Out.{Out}
+use Rattle.sentry_state.specs.Worlds.{World, starting_world}
+use Rattle.sentry_state.specs.Outcomes.{hub_at, with_stack, with_hub, require_some, require, reply_with}
+use Rattle.sentry_state.specs.Changes.{with_session, with_client_state}
+use Rattle.sentry_sending.specs.Sending.{after_sending, send}
+use Rattle.sentry_sending.specs.SessionEnds.{release_session}
+use Rattle.sentry_calls.specs.declared.call.Call.{Call}
+use Rattle.sentry_calls.specs.declared.call.Call.TheVariants as group
+use Rattle.sentry_calls.specs.declared.call.clients.ClientCall.{ClientCall}
+use Rattle.sentry_calls.specs.declared.call.clients.ClientCall.TheVariants.{AddClient, CloneClient, TakeReport}
+use Rattle.sentry_calls.specs.declared.call.hubs.HubCall.{HubCall}
+use Rattle.sentry_calls.specs.declared.call.hubs.HubCall.TheVariants.{NewHub, NewHubFromTop, PushScope, PopScope}
+use Rattle.sentry_calls.specs.declared.call.Reply.{Reply}
+use Rattle.sentry_calls.specs.declared.call.Reply.TheVariants as reply
+use Rattle.sentry_calls.specs.Layers as layer_calls
+use Rattle.sentry_calls.specs.Runs.{May, Run}
+use Rattle.sentry_calls.specs.Steps.{step, hub_step}
+use Rattle.sentry_span_calls.specs.Replies.{map_answer}
+use Rattle.sentry_laws.specs.OwnCalls.{Effect, LayerChange, scope_edited, breadcrumbs_came, client_bound, layer_pushed, layer_popped, session_named, hub_changed, hub_made, hub_made_from, hub_released, losses_absorbed, report_taken, client_added, client_cloned, effects, client_effects, hub_effects, on_client, on_hub, on_report, change_layers, add_under}
+use Rattle.sentry_laws.specs.Changes.{Change, Changes, nothing, one, both, held_options, IsAllowed, after_arrival, envelopes_on_arrival, makes_hub, makes_hub_from, changes_hub, leaves_hub, notes_event_id, releases_hub, adds_client, clones_client, drops_client, arrives, mails, loses, takes_report, absorbs, starts_session, changes_session, ends_session, starts_transaction, starts_span, changes_spans}
+use Rattle.sentry_laws.specs.SentItems.{handed_in}
+use Rattle.sentry_laws.specs.PushPop.{pops, LeavesOpen, stack_at, PopUndoesPush}
+use Rattle.sentry_laws.proofs.Tables.{AreBelow, below_put, below_replaced, below_without, own_replaced, others_put}
+use Rattle.sentry_laws.proofs.Found.{same_number, found_replaced, found_without}
+use Rattle.sentry_laws.proofs.SentBatches.{found_below}
+use Rattle.sentry_laws.proofs.SendingTrails.{found_released}
+use Rattle.sentry_laws.proofs.Trails.{found_under, is_own, own_effects, Trail, TellsBy}
+use Rattle.sentry_laws.proofs.Calls.{told_step}
+use Rattle.sentry_laws.proofs.Isolation.{Agrees, agrees_run, agrees_first}
+
+or_left : (a b : Bool) → (a || b) ≡ false → a ≡ false
+or_left true b h = h
+or_left false b h = refl
+
+or_right : (a b : Bool) → (a || b) ≡ false → b ≡ false
+or_right true b h = absurd cc
+or_right false b h = h
+
+and_left : (a b : Bool) → (a && b) ≡ true → a ≡ true
+and_left true b h = refl
+and_left false b h = h
+
+equal : (a b : ℕ) → a ≡ b → (a == b) ≡ true
+equal a b e = grind (arith, nat_tests)
+
+same_depth : (deep given : ℕ) → (deep == given && nat_lt 0 given) ≡ true → deep ≡ given
+same_depth deep given top = let same : (deep == given) ≡ true = and_left (deep == given) (nat_lt 0 given) top in grind
+    (arith, nat_tests)
+
+same_value : {X : Type 0} (o : Option X) (x y : X) → o ≡ Some x → o ≡ Some y → x ≡ y
+same_value o x y p q = cc
+
+module _ {A : Type 0} (test : A → Bool) where
+  any_first : (xs ys : List A) → list_any test (xs ++ ys) ≡ false → list_any test xs ≡ false
+  any_first [] ys h = refl
+  any_first (x ∷ xs) ys h = ap (λ b. b || list_any test xs) (or_left (test x) _ h) ∙ any_first xs ys
+      (or_right (test x) _ h)
+
+  any_second : (xs ys : List A) → list_any test (xs ++ ys) ≡ false → list_any test ys ≡ false
+  any_second [] ys h = h
+  any_second (x ∷ xs) ys h = any_second xs ys (or_right (test x) _ h)
+
+module _ {P : Type 0} where
+  -- the stack of all layers of a stack
+  pub restored : (below : List (StackLayer P)) (top : StackLayer P) (otherwise : Stack P)
+      → stack_of_any (below ++ top ∷ []) otherwise ≡ record { top = top; below = below }
+  restored [] top otherwise = refl
+  restored (lowest ∷ above) top otherwise = restored-above lowest above top
+    where
+      restored-above : (lowest : StackLayer P) (above : List (StackLayer P)) (top : StackLayer P)
+          → stack_of lowest (above ++ top ∷ []) ≡ record { top = top; below = lowest ∷ above }
+      restored-above lowest [] top = refl
+      restored-above lowest (layer ∷ above) top = ap (λ (s : Stack P). record { top = s.top; below = lowest ∷ s.below })
+          (restored-above layer above top)
+
+  -- the layers but the last
+  abbrev front : StackLayer P → List (StackLayer P) → List (StackLayer P)
+  front x [] = []
+  front x (y ∷ ys) = x ∷ front y ys
+
+  front_of : (lowest : StackLayer P) (above : List (StackLayer P)) → (stack_of lowest above).below ≡ front lowest above
+  front_of lowest [] = refl
+  front_of lowest (layer ∷ above) = ap (λ l. lowest ∷ l) (front_of layer above)
+
+  front-append : (x : StackLayer P) (xs : List (StackLayer P)) (y : StackLayer P) (ys : List (StackLayer P))
+      → front x (xs ++ y ∷ ys) ≡ (x ∷ xs) ++ front y ys
+  front-append x [] y ys = refl
+  front-append x (z ∷ xs) y ys = ap (λ l. x ∷ l) (front-append z xs y ys)
+
+  popped_below : (base : List (StackLayer P)) (y : StackLayer P) (ys : List (StackLayer P)) (otherwise : Stack P)
+      → (stack_of_any (base ++ y ∷ ys) otherwise).below ≡ base ++ front y ys
+  popped_below [] y ys otherwise = front_of y ys
+  popped_below (x ∷ xs) y ys otherwise = front_of x (xs ++ y ∷ ys) ∙ front-append x xs y ys
+
+  no_more : (base more : List (StackLayer P)) → length (base ++ more) ≡ length base → more ≡ []
+  no_more base [] h = refl
+  no_more base (x ∷ more) h = absurd (omega (arith, h, length-append base (x ∷ more)))
+
+module _ {P C : Type 0} (meanings : C → Meanings) (n : ℕ) (base : List (StackLayer P)) where
+  -- the layers stand on these ones
+  abbrev StandsOn : Stack P → Type 0
+  StandsOn stack = (more : List (StackLayer P)) × (stack.below ≡ base ++ more)
+
+  record OnBase (world : World P C) : Type 0 where
+    hub : Hub P
+    found : value_at world.hubs n ≡ Some hub
+    on : StandsOn hub.stack
+    hubs : AreBelow 0 world.next.hub world.hubs
+
+  abbrev is_popped : Effect P C → Bool
+  is_popped (hub_changed number (layer_popped given)) = (number == n) && (given == length base)
+  is_popped _ = false
+
+  add_on : (o : Option (ClientOptions C)) (breadcrumbs : List Breadcrumb) (b : Bool) (stack : Stack P) → StandsOn stack
+      → StandsOn (if b then stack else add_under meanings o breadcrumbs stack)
+  add_on o breadcrumbs true stack s = s
+  add_on None breadcrumbs false stack s = s
+  add_on (Some options) breadcrumbs false stack s = s
+
+  pop_on : (stack : Stack P) (given : ℕ) → depth stack ≡ given → (given == length base) ≡ false → StandsOn stack
+      → StandsOn (pop stack)
+  unfolding pop
+  pop_on stack given deep apart s = pop_more s.0 s.1
+    where
+      pop_more : (more : List (StackLayer P)) → stack.below ≡ base ++ more → StandsOn (stack_of_any stack.below stack)
+      pop_more [] e =
+          let same : length stack.below ≡ length base = ap length (e ∙ append-nil base) in
+          let t : (given == length base) ≡ true = equal given (length base) (sym deep ∙ same) in
+          let f : true ≡ false = sym t ∙ apart in absurd (false_is f)
+        where
+          false_is : true ≡ false → ⊥
+          false_is e = subst (λ (b : Bool). cond b (Unit {0}) ⊥) e tt
+      pop_more (y ∷ ys) e =
+          (front y ys, ap (λ (l : List (StackLayer P)). (stack_of_any l stack).below) e ∙ popped_below base y ys stack)
+
+  change_on : (options : ClientKey → Option (ClientOptions C)) (world : World P C) (change : LayerChange P)
+      (stack : Stack P) → IsAllowed world stack change
+      → is_popped (hub_changed n change) ≡ false → StandsOn stack
+      → StandsOn (change_layers meanings options change stack)
+  change_on options world (scope_edited edits) stack allowed not_popped s = s
+  change_on options world (breadcrumbs_came breadcrumbs) stack allowed not_popped s =
+      add_on (option_and_then options stack.top.client) breadcrumbs (length breadcrumbs == 0) stack s
+  change_on options world (client_bound client) stack allowed not_popped s = s
+  change_on options world layer_pushed stack allowed not_popped s =
+      (s.0 ++ stack.top ∷ [], ap (λ l. l ++ stack.top ∷ []) s.1 ∙ append_assoc base s.0 (stack.top ∷ []))
+  change_on options world (layer_popped given) stack allowed not_popped s =
+      pop_on stack given allowed (sym (ap (λ (b : Bool). b && (given == length base)) (equal n n refl)) ∙ not_popped) s
+  change_on options world (session_named session) stack allowed not_popped s = s
+
+  replaced-on : (b : Bool) (world : World P C) (number : ℕ) (old new : Hub P) → value_at world.hubs number ≡ Some old
+      → (n == number) ≡ b → (n ≡ number → StandsOn old.stack → StandsOn new.stack) → OnBase world
+      → OnBase (record world { hubs = replace_at world.hubs number new })
+  replaced-on true world number old new found e goes o =
+      let same : n ≡ number = same_number n number e in
+      let is : old ≡ o.hub = same_value (value_at world.hubs number) old o.hub found
+      (sym (ap (value_at world.hubs) same) ∙ o.found) in
+      record {
+        hub = new;
+        found = ap (value_at (replace_at world.hubs number new)) same ∙ own_replaced world.hubs number new old found;
+        on = goes same (subst (λ (h : Hub P). StandsOn h.stack) (sym is) o.on);
+        hubs = below_replaced 0 world.next.hub number new world.hubs o.hubs;
+      }
+  replaced-on false world number old new found e goes o = record {
+    hub = o.hub;
+    found = found_replaced world.hubs number n new old found
+        ∙ (ap (λ (b : Bool). if b then Some new else value_at world.hubs n) e ∙ o.found);
+    on = o.on;
+    hubs = below_replaced 0 world.next.hub number new world.hubs o.hubs;
+  }
+
+  released-on : (b : Bool) (world : World P C) (number : ℕ) (hub : Hub P) → 0 < length base
+      → value_at world.hubs number ≡ Some hub → depth hub.stack ≡ 0 → (n == number) ≡ b → OnBase world
+      → OnBase (record world { hubs = without world.hubs number })
+  released-on true world number hub some found alone e o =
+      let same : n ≡ number = same_number n number e in
+      let is : hub ≡ o.hub = same_value (value_at world.hubs number) hub o.hub found
+      (sym (ap (value_at world.hubs) same) ∙ o.found) in
+      let long : length o.hub.stack.below ≡ length (base ++ o.on.0) = ap length o.on.1 in
+      let none : length o.hub.stack.below ≡ 0 = sym (ap (λ (h : Hub P). length h.stack.below) is) ∙ alone in
+      absurd (omega (arith, long, none, some, length-append base o.on.0))
+  released-on false world number hub some found alone e o = record {
+    hub = o.hub;
+    found = found_without 0 world.next.hub world.hubs number n o.hubs
+        ∙ (ap (λ (b : Bool). if b then None else value_at world.hubs n) e ∙ o.found);
+    on = o.on;
+    hubs = below_without 0 world.next.hub number world.hubs o.hubs;
+  }
+
+  made_on : (world : World P C) (new : Hub P) → OnBase world
+      → OnBase (record world {
+        next = record world.next { hub = world.next.hub + 1 };
+        hubs =
+            put world.hubs world.next.hub new;
+      })
+  made_on world new o =
+      let below : n < world.next.hub = found_below 0 world.next.hub n world.hubs o.hub o.hubs o.found in
+      record {
+        hub = o.hub;
+        found = others_put world.hubs world.next.hub n new (λ e. absurd (omega (arith, e, below))) ∙ o.found;
+        on = o.on;
+        hubs = below_put world.next.hub new world.hubs o.hubs;
+      }
+
+  sending_on : (label : Label) (sent : List (ClientKey × Envelope)) (world : World P C) → OnBase world
+      → OnBase (after_sending label sent world)
+  sending_on label [] world o = o
+  sending_on label (first ∷ rest) world o = record { hub = o.hub; found = o.found; on = o.on; hubs = o.hubs }
+
+  left_pop : (number : ℕ) (change : LayerChange P) → n ≡ number → list_any is_popped (hub_changed number change ∷ [])
+      ≡ false → is_popped (hub_changed n change) ≡ false
+  left_pop number change same h = ap (λ k. is_popped (hub_changed k change)) same ∙ or_left _ _ h
+
+  on_change : {f : Option Envelope} {old new : World P C} {some : List (Effect P C)} {sent : List
+      (ClientKey × Envelope)} → Change meanings f old some sent new
+      → 0 < length base → list_any is_popped some ≡ false → OnBase old → OnBase new
+  on_change (makes_hub world client scope held active) long h o = made_on world _ o
+  on_change (makes_hub_from world maker hub found) long h o = made_on world _ o
+  on_change (changes_hub world number old new change found fits allowed) long h o =
+      replaced-on (n == number) world number old new found refl
+      (λ same s. subst StandsOn (sym fits) (change_on (held_options world) world change old.stack allowed
+      (left_pop number change same h) s)) o
+  on_change (leaves_hub world number hub change found fits) long h o = o
+  on_change (notes_event_id world number old new found same) long h o =
+      replaced-on (n == number) world number old new found refl (λ is s. subst StandsOn (sym same) s) o
+  on_change (releases_hub world number hub found alone) long h o =
+      released-on (n == number) world number hub long found alone refl o
+  on_change (adds_client world client now queues open_ of_engine) long h o =
+      record { hub = o.hub; found = o.found; on = o.on; hubs = o.hubs }
+  on_change (clones_client world original client now found) long h o =
+      record { hub = o.hub; found = o.found; on = o.on; hubs = o.hubs }
+  on_change (drops_client world key client label found same none) long h o =
+      record { hub = o.hub; found = o.found; on = o.on; hubs = o.hubs }
+  on_change (arrives world key client arrival is_off found open_) long h o =
+      sending_on client.label (send key client (envelopes_on_arrival arrival client)
+      (with_client_state world key (after_arrival arrival client))).sent
+      (with_client_state world key (after_arrival arrival client))
+      (record { hub = o.hub; found = o.found; on = o.on; hubs = o.hubs })
+  on_change (mails world key client envelope found occupied none) long h o =
+      record { hub = o.hub; found = o.found; on = o.on; hubs = o.hubs }
+  on_change (loses world key client losses found) long h o = record {
+    hub = o.hub;
+    found = o.found;
+    on = o.on;
+    hubs =
+        o.hubs;
+  }
+  on_change (takes_report world label has) long h o = record { hub = o.hub; found = o.found; on = o.on; hubs = o.hubs }
+  on_change (absorbs world label losses has) long h o = record {
+    hub = o.hub;
+    found = o.found;
+    on = o.on;
+    hubs =
+        o.hubs;
+  }
+  on_change (starts_session world start) long h o = record { hub = o.hub; found = o.found; on = o.on; hubs = o.hubs }
+  on_change (changes_session world number old new later found same) long h o =
+      record { hub = o.hub; found = o.found; on = o.on; hubs = o.hubs }
+  on_change (ends_session world number) long h o = record { hub = o.hub; found = o.found; on = o.on; hubs = o.hubs }
+  on_change (starts_transaction world state new_) long h o = record {
+    hub = o.hub;
+    found = o.found;
+    on = o.on;
+    hubs =
+        o.hubs;
+  }
+  on_change (starts_span world parent place held found of_ traced) long h o =
+      record { hub = o.hub; found = o.found; on = o.on; hubs = o.hubs }
+  on_change (changes_spans world transactions spans change) long h o =
+      record { hub = o.hub; found = o.found; on = o.on; hubs = o.hubs }
+
+  on_changes : {f : Option Envelope} {old new : World P C} {some : List (Effect P C)} {sent : List
+      (ClientKey × Envelope)} → Changes meanings f old some sent new
+      → 0 < length base → list_any is_popped some ≡ false → OnBase old → OnBase new
+  on_changes (nothing world) long h o = o
+  on_changes (one c) long h o = on_change c long h o
+  on_changes (both {first = first} {second = second} t u) long h o =
+      on_changes u long (any_second is_popped first second h) (on_changes t long (any_first is_popped first second h) o)
+
+  -- ---- calls
+
+  session_unpopped : (effect : Effect P C) → is_own effect ≡ false → is_popped effect ≡ false
+  session_unpopped (hub_changed number (session_named session)) h = refl
+  session_unpopped (hub_changed number (scope_edited edits)) h = refl
+  session_unpopped (hub_changed number (breadcrumbs_came breadcrumbs)) h = refl
+  session_unpopped (hub_changed number (client_bound client)) h = refl
+  session_unpopped (hub_changed number layer_pushed) h = refl
+  session_unpopped (hub_changed number (layer_popped given)) h = absurd cc
+  session_unpopped (client_added key options) h = refl
+  session_unpopped (client_cloned key original) h = refl
+  session_unpopped (hub_made number stack) h = refl
+  session_unpopped (hub_made_from number maker) h = refl
+  session_unpopped (hub_released number) h = refl
+  session_unpopped (losses_absorbed label losses) h = refl
+  session_unpopped (report_taken label report) h = refl
+
+  unpopped-at : (b : Bool) (effect : Effect P C) (rest : List (Effect P C)) → is_own effect ≡ b
+      → (list_any is_popped (own_effects rest) ≡ false → list_any is_popped rest ≡ false)
+      → list_any is_popped (cond b (effect ∷ own_effects rest) (own_effects rest)) ≡ false
+      → list_any is_popped (effect ∷ rest) ≡ false
+  unpopped-at true effect rest e h some = ap (λ b. b || list_any is_popped rest) (or_left (is_popped effect) _ some)
+      ∙ h (or_right (is_popped effect) _ some)
+  unpopped-at false effect rest e h some = ap (λ b. b || list_any is_popped rest) (session_unpopped effect e) ∙ h some
+
+  unpopped : (some : List (Effect P C)) → list_any is_popped (own_effects some) ≡ false
+      → list_any is_popped some ≡ false
+  unpopped [] h = refl
+  unpopped (effect ∷ rest) h = unpopped-at (is_own effect) effect rest refl (unpopped rest) h
+
+  client_unpopped : (made : Reply P C) (go : ClientKey → Effect P C) → ((key : ClientKey) → is_popped (go key) ≡ false)
+      → list_any is_popped (on_client made go) ≡ false
+  client_unpopped (reply.Client key) go h = ap (λ b. b || false) (h key)
+  client_unpopped _ go h = refl
+
+  hub_unpopped : (made : Reply P C) (go : ℕ → Effect P C) → ((number : ℕ) → is_popped (go number) ≡ false)
+      → list_any is_popped (on_hub made go) ≡ false
+  hub_unpopped (reply.Hub key) go h = ap (λ b. b || false) (h key.number)
+  hub_unpopped _ go h = refl
+
+  client_call_unpopped : (call : ClientCall P C) (made : Reply P C)
+      → list_any is_popped (client_effects meanings call made) ≡ false
+  client_call_unpopped (AddClient options transport label now) made = client_unpopped made _ (λ key. refl)
+  client_call_unpopped (CloneClient client now) made = client_unpopped made _ (λ key. refl)
+  client_call_unpopped (TakeReport label) made = report_unpopped made label
+    where
+      report_unpopped : (made : Reply P C) (label : Label)
+          → list_any is_popped (on_report made (λ report. report_taken label report)) ≡ false
+      report_unpopped (reply.Report report) label = refl
+      report_unpopped _ label = refl
+  client_call_unpopped call made = refl
+
+  hub_call_unpopped : (call : HubCall P) (made : Reply P C) → pops {P = P} {C = C} n (length base) (group.Hub call)
+      ≡ false → list_any is_popped (hub_effects {C = C} meanings call made) ≡ false
+  hub_call_unpopped (NewHub client scope) made h = hub_unpopped made _ (λ key. refl)
+  hub_call_unpopped (NewHubFromTop hub) made h = hub_unpopped made _ (λ key. refl)
+  hub_call_unpopped (PopScope hub given now) made h = ap (λ b. b || false) h
+  hub_call_unpopped call made h = refl
+
+  call_unpopped : (call : Call P C) (made : Reply P C) → pops n (length base) call ≡ false
+      → list_any is_popped (effects meanings call made) ≡ false
+  call_unpopped (group.Client call) made h = client_call_unpopped call made
+  call_unpopped (group.Hub call) made h = hub_call_unpopped call made h
+  call_unpopped (group.Span call) made h = refl
+
+-- ---- runs
+
+module _ {P C : Type 0} (gives : P → Partial) (meanings : C → Meanings) (n : ℕ) (base : List (StackLayer P)) where
+  on_next : (call : Call P C) (out : Out (Reply P C)) (world next : World P C) → 0 < length base
+      → pops n (length base) call ≡ false → May gives meanings world call (Ok out) next
+      → OnBase {C = C} meanings n base world → OnBase {C = C} meanings n base next
+  on_next call out world next long keeps may o =
+      let after = (step gives meanings call world).after in
+      let trail : Trail meanings (handed_in call) world (effects meanings call out.reply) out.sent after =
+      subst (λ answer. TellsBy meanings (handed_in call) world (effects meanings call) answer after) may.0
+      (told_step gives meanings call world).tells in
+      let none : list_any (is_popped meanings n base) (own_effects trail.effects) ≡ false =
+      ap (list_any (is_popped meanings n base)) trail.same ∙ call_unpopped meanings n base call out.reply keeps in
+      subst (OnBase meanings n base) (sym may.1)
+      (on_changes meanings n base trail.changes long (unpopped meanings n base trail.effects none) o)
+
+  on_run : (calls : List (Call P C)) (answers : List (Result (Out (Reply P C)) Refusal)) (world last : World P C)
+      → 0 < length base → LeavesOpen n (length base) calls answers
+      → Run gives meanings world calls answers last → OnBase {C = C} meanings n base world
+      → OnBase {C = C} meanings n base last
+  on_run [] [] world last long keeps run o = subst (OnBase meanings n base) (sym run) o
+  on_run (call ∷ calls) (Ok out ∷ answers) world last long keeps run o =
+      on_run calls answers run.0 last long keeps.1 run.2 (on_next call out world run.0 long keeps.0 run.1 o)
+  on_run (call ∷ calls) (Err refusal ∷ answers) world last long keeps run o =
+      on_run calls answers run.0 last long keeps run.2 (subst (OnBase meanings n base) (sym run.1.1) o)
+  on_run [] (answer ∷ answers) world last long keeps run o = absurd run
+  on_run (call ∷ calls) [] world last long keeps run o = absurd run
+
+module _ {P C : Type 0} where
+  abbrev reply_in : Result (Out (Reply P C)) Refusal → Reply P C
+  reply_in (Ok out) = out.reply
+  reply_in (Err refusal) = reply.Done
+
+  deep_of : (a b : ℕ) (made : Reply P C) → reply.Depth a ≡ made → made ≡ reply.Depth b → a ≡ b
+  deep_of a b made e f = cc
+
+module _ {P C : Type 0} (gives : P → Partial) (meanings : C → Meanings) where
+  -- what a push leaves
+  record Opened (first open_ : World P C) (n deep : ℕ) : Type 0 where
+    hub : Hub P
+    found : value_at first.hubs n ≡ Some hub
+    deep_is : length (layers hub.stack) ≡ deep
+    on : OnBase {C = C} meanings n (layers hub.stack) open_
+
+  opened_from : (first open_ : World P C) (key : HubKey) (deep : ℕ) (opened : Out (Reply P C)) (o : Option (Hub P))
+      → hub_at first key ≡ o
+      → map_answer (λ pushed_. reply.Depth pushed_.1) (require_some {P = P} {C = C} {T = HubKey × ℕ} Stale first o
+      (λ hub. reply_with (key, depth (push hub.stack)) []
+      (with_hub first key (with_stack hub (push hub.stack))))).answer ≡ Ok opened
+      → open_ ≡ (require_some {P = P} {C = C} {T = HubKey × ℕ} Stale first o
+      (λ hub. reply_with (key, depth (push hub.stack)) [] (with_hub first key (with_stack hub (push hub.stack))))).after
+      → opened.reply ≡ reply.Depth deep → AreBelow 0 first.next.hub first.hubs → Opened first open_ key.number deep
+  opened_from first open_ key deep opened None at answer after replied below = absurd cc
+  opened_from first open_ key deep opened (Some hub) at answer after replied below =
+      let here = found_under first.tag first.hubs key.tag key.number hub at in
+      let new : Hub P = with_stack hub (push hub.stack) in
+      record {
+        hub = hub;
+        found = here;
+        deep_is = deep_of (length (layers hub.stack)) deep opened.reply (ap reply_in answer) replied;
+        on = subst (OnBase meanings key.number (layers hub.stack)) (sym after) (record {
+          hub = new;
+          found = own_replaced first.hubs key.number new hub here;
+          on = ([], sym (append-nil (layers hub.stack)));
+          hubs = below_replaced 0 first.next.hub key.number new first.hubs below;
+        });
+      }
+
+  opened_by : (first open_ : World P C) (key : HubKey) (deep : ℕ) (opened : Out (Reply P C)) → May gives meanings first
+      (group.Hub (PushScope key)) (Ok opened) open_
+      → opened.reply ≡ reply.Depth deep → AreBelow 0 first.next.hub first.hubs → Opened first open_ key.number deep
+  unfolding hub_step layer_calls.push_scope
+  opened_by first open_ key deep opened may replied below = opened_from first open_ key deep opened (hub_at first key)
+      refl may.0 may.1 replied below
+
+  -- what a pop leaves
+  record Closed (middle last : World P C) (n deep : ℕ) : Type 0 where
+    hub : Hub P
+    found : value_at middle.hubs n ≡ Some hub
+    deep_is : depth hub.stack ≡ deep
+    after : stack_at last n ≡ Some (pop hub.stack)
+
+  closed_require : (middle last : World P C) (key : HubKey) (given now : ℕ) (closed : Out (Reply P C)) (hub : Hub P)
+      → hub_at middle key ≡ Some hub → (b : Bool) → (depth hub.stack == given && nat_lt 0 given) ≡ b
+      → map_answer (λ _. reply.Done) (require {P = P} {C = C} {T = Unit {0}} OutOfOrder middle b
+      (reply_with tt (release_session key.number hub now middle).sent
+      (with_hub (release_session key.number hub now middle).after key (with_stack hub (pop hub.stack))))).answer
+      ≡ Ok closed
+      → last ≡ (require {P = P} {C = C} {T = Unit {0}} OutOfOrder middle b
+      (reply_with tt (release_session key.number hub now middle).sent
+      (with_hub (release_session key.number hub now middle).after key (with_stack hub (pop hub.stack))))).after
+      → Closed middle last key.number given
+  closed_require middle last key given now closed hub at false top answer after = absurd cc
+  closed_require middle last key given now closed hub at true top answer after =
+      let here = found_under middle.tag middle.hubs key.tag key.number hub at in
+      record {
+        hub = hub;
+        found = here;
+        deep_is = same_depth (depth hub.stack) given top;
+        after = ap (λ (w : World P C). stack_at w key.number) after
+            ∙ ap (option_map (λ (h : Hub P). h.stack))
+            (own_replaced (release_session key.number hub now middle).after.hubs key.number
+            (with_stack hub (pop hub.stack)) (with_session hub None) (found_released key.number hub now middle here));
+      }
+
+  closed_from : (middle last : World P C) (key : HubKey) (given now : ℕ) (closed : Out (Reply P C)) (o : Option (Hub P))
+      → hub_at middle key ≡ o
+      → map_answer (λ _. reply.Done) (require_some {P = P} {C = C} {T = Unit {0}} Stale middle o
+      (λ hub. require OutOfOrder middle (depth hub.stack == given && nat_lt 0 given)
+      (reply_with tt (release_session key.number hub now middle).sent
+      (with_hub (release_session key.number hub now middle).after key (with_stack hub (pop hub.stack)))))).answer
+      ≡ Ok closed
+      → last ≡ (require_some {P = P} {C = C} {T = Unit {0}} Stale middle o
+      (λ hub. require OutOfOrder middle (depth hub.stack == given && nat_lt 0 given)
+      (reply_with tt (release_session key.number hub now middle).sent
+      (with_hub (release_session key.number hub now middle).after key (with_stack hub (pop hub.stack)))))).after
+      → Closed middle last key.number given
+  closed_from middle last key given now closed None at answer after = absurd cc
+  closed_from middle last key given now closed (Some hub) at answer after =
+      closed_require middle last key given now closed hub at (depth hub.stack == given && nat_lt 0 given)
+      refl answer after
+
+  closed_by : (middle last : World P C) (key : HubKey) (given now : ℕ) (closed : Out (Reply P C))
+      → May gives meanings middle (group.Hub (PopScope key given now)) (Ok closed) last
+      → Closed middle last key.number given
+  unfolding hub_step layer_calls.pop_scope
+  closed_by middle last key given now closed may = closed_from middle last key given now closed (hub_at middle key)
+      refl may.0 may.1
+
+  pub pop_undoes_push : PopUndoesPush gives meanings
+  unfolding pop
+  pop_undoes_push tag start earlier between answers more first open_ middle last key deep now opened closed before pushed_ replied run keeps popped_ =
+      let a : Agrees meanings _ first = agrees_run gives meanings earlier answers (starting_world tag start) first []
+      (agrees_first gives meanings tag start) before in
+      let o : Opened first open_ key.number deep = opened_by first open_ key deep opened pushed_ replied a.hubs in
+      let base = layers o.hub.stack in
+      let long : 0 < length base = omega (arith, length-append o.hub.stack.below (o.hub.stack.top ∷ [])) in
+      let m : OnBase meanings key.number base middle =
+      on_run gives meanings key.number base between more open_ middle long
+      (subst (λ d. LeavesOpen key.number d between more) (sym o.deep_is) keeps) run o.on in
+      let c : Closed middle last key.number deep = closed_by middle last key deep now closed popped_ in
+      let same : m.hub ≡ c.hub = same_value (value_at middle.hubs key.number) m.hub c.hub m.found c.found in
+      let below : c.hub.stack.below ≡ base ++ m.on.0 = sym (ap (λ (h : Hub P). h.stack.below) same) ∙ m.on.1 in
+      let none : m.on.0 ≡ [] = no_more base m.on.0 (sym (ap length below) ∙ (c.deep_is ∙ sym o.deep_is)) in
+      let all : c.hub.stack.below ≡ base = below ∙ (ap (λ l. base ++ l) none ∙ append-nil base) in
+      c.after ∙ (ap (λ (l : List (StackLayer P)). Some (stack_of_any l c.hub.stack)) all
+      ∙ (ap Some (restored o.hub.stack.below o.hub.stack.top c.hub.stack)
+      ∙ sym (ap (option_map (λ (h : Hub P). h.stack)) o.found)))

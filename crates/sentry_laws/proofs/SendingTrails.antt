@@ -1,0 +1,333 @@
+-- What is sent, and how sessions end, as changes.
+use Rattle.std.proofs.Common.{◌≡◌, refl, ap, ◌∙◌, sym, subst, ℕ, ◌+◌, List, [], ◌∷◌, Bool, true, false, cond, arith}
+use Rattle.std.specs.Prelude.{Option, Some, None, if◌then◌else◌, ◌==◌}
+use Rattle.sentry_plain.specs.Tables.{value_at, replace_at, without}
+use Rattle.sentry_base.specs.declared.protocol.envelope.Envelope.{Envelope}
+use Rattle.sentry_base.specs.declared.protocol.keys.ClientKey.{ClientKey}
+use Rattle.sentry_base.specs.declared.protocol.keys.Label.{Label}
+use Rattle.sentry_base.specs.declared.protocol.keys.SessionKey.{SessionKey}
+use Rattle.sentry_base.specs.declared.protocol.log.Log.{Log}
+use Rattle.sentry_base.specs.declared.protocol.metric.Metric.{Metric}
+use Rattle.sentry_base.specs.declared.protocol.session.SessionStatus.{SessionStatus}
+use Rattle.sentry_base.specs.declared.protocol.session.SessionUpdate.{SessionUpdate}
+use Rattle.sentry_options.specs.Meanings.{Meanings}
+use Rattle.sentry_sessions.specs.SessionQueues.{enqueued, envelopes_on}
+use Rattle.sentry_sessions.specs.Sessions.{closed, session_of, pending_update}
+use Rattle.sentry_sessions.specs.declared.session.record.SessionStart.{SessionStart}
+use Rattle.sentry_hub_table.specs.declared.hub.Hub.{Hub}
+use Rattle.sentry_state.specs.declared.state.NextNumbers.{NextNumbers}
+use Rattle.sentry_state.specs.Worlds.{World, ClientState, SessionState, span_table}
+use Rattle.sentry_state.specs.Outcomes.{client_at, session_at}
+use Rattle.sentry_state.specs.Changes.{with_session, with_new_session, with_client_state, with_client_entry}
+use Rattle.sentry_sending.specs.Sending.{Sending, send, send_nothing, send_some, after_sending}
+use Rattle.sentry_sending.specs.SessionEnds.{is_session_named, queue_update, end_session, end_unnamed_session, release_session}
+use Rattle.sentry_sending.specs.Sessions.{replace_session}
+use Rattle.sentry_queues.specs.declared.flushes.Flush.{Flush}
+use Rattle.sentry_queues.specs.Flushes.{flush_queues, flushed_envelopes, after_flush}
+use Rattle.sentry_queues.specs.Telemetry.{accept_log, accept_metric, keep_log, keep_metric}
+use Rattle.sentry_laws.specs.OwnCalls.{hub_changed, session_named}
+use Rattle.sentry_laws.specs.Changes.{Changes, one, both, log_came, metric_came, session_ended, flush_came, changes_hub, arrives, loses, starts_session, ends_session}
+use Rattle.sentry_laws.proofs.Tables.{own_replaced}
+use Rattle.sentry_laws.proofs.Parts.{flush_part, queue_update_part, release_part}
+use Rattle.sentry_laws.proofs.Trails.{found_under, Sends, sends_some, sends_unless, quiet_last}
+
+tag-by : {X : Type 0} (b : Bool) (o : Option X) (x : X) → cond b o None ≡ Some x → b ≡ true
+tag-by true o x h = refl
+tag-by false o x h = absurd cc
+
+module _ {P C : Type 0} where
+  -- ---- the hubs, the tag and the spans stay
+
+  pub release_hubs : (number : ℕ) (hub : Hub P) (now : ℕ) (world : World P C)
+      → (release_session number hub now world).after.hubs ≡ replace_at world.hubs number (with_session hub None)
+  release_hubs number hub now world = release_part (λ (w : World P C). w.hubs) (λ w b. refl) (λ w c. refl) (λ w s. refl)
+      number hub now world
+
+  release_tag : (number : ℕ) (hub : Hub P) (now : ℕ) (world : World P C)
+      → (release_session number hub now world).after.tag ≡ world.tag
+  release_tag number hub now world = release_part (λ (w : World P C). w.tag) (λ w b. refl) (λ w c. refl) (λ w s. refl)
+      number hub now world
+
+  pub release_spans : (number : ℕ) (hub : Hub P) (now : ℕ) (world : World P C)
+      → span_table (release_session number hub now world).after ≡ span_table world
+  release_spans number hub now world = release_part (λ (w : World P C). span_table w) (λ w b. refl) (λ w c. refl)
+      (λ w s. refl) number hub now world
+
+  -- ---- the other sessions stay
+
+  some_sessions : {X : Type 0} (world : World P C) (o : Option X) (go : X → Sending P C)
+      → ((x : X) → (go x).after.sessions ≡ world.sessions) → (send_some world o go).after.sessions ≡ world.sessions
+  some_sessions world None go h = refl
+  some_sessions world (Some x) go h = h x
+
+  queue_update_sessions : (key : ClientKey) (update : SessionUpdate) (world : World P C)
+      → (queue_update key update world).after.sessions ≡ world.sessions
+  queue_update_sessions key update world = queue_update_part (λ (w : World P C). w.sessions) (λ w b. refl) (λ w c. refl)
+      key update world
+
+  ended-by : (key : SessionKey) (status : Option SessionStatus) (now : ℕ) (world : World P C) (o : Option SessionState)
+      (go : SessionState → Sending P C)
+      → ((session : SessionState) → (go session).after.sessions ≡ without world.sessions key.number)
+      → value_at (without world.sessions key.number) key.number ≡ None
+      → (o ≡ None → value_at world.sessions key.number ≡ None)
+      → value_at (send_some world o go).after.sessions key.number ≡ None
+  ended-by key status now world None go h k l = l refl
+  ended-by key status now world (Some session) go h k l = ap (λ sessions. value_at sessions key.number) (h session) ∙ k
+
+  -- a session that was ended is no longer held
+  pub ended_gone : (key : SessionKey) (status : Option SessionStatus) (now : ℕ) (world : World P C)
+      → value_at (without world.sessions key.number) key.number ≡ None
+      → (session_at world key ≡ None → value_at world.sessions key.number ≡ None)
+      → value_at (end_session key status now world).after.sessions key.number ≡ None
+  unfolding end_session
+  ended_gone key status now world k l =
+      ended-by key status now world (session_at world key) _
+      (λ session. ap (λ sessions. without sessions key.number)
+      (some_sessions world (pending_update (session_of session.start (closed status now ∷ session.history))) _
+      (λ update. queue_update_sessions session.start.client update world))) k l
+
+  -- the hub after it gave up its session
+  pub found_released : (number : ℕ) (hub : Hub P) (now : ℕ) (world : World P C) → value_at world.hubs number ≡ Some hub
+      → value_at (release_session number hub now world).after.hubs number ≡ Some (with_session hub None)
+  found_released number hub now world found =
+      ap (λ hubs. value_at hubs number) (release_hubs number hub now world) ∙ own_replaced world.hubs number
+      (with_session hub None) hub found
+
+  pub flush_hubs : (flush : Flush) (key : ClientKey) (world : World P C) → (flush_queues flush key world).after.hubs
+      ≡ world.hubs
+  flush_hubs flush key world = flush_part (λ (w : World P C). w.hubs) (λ w b. refl) (λ w c. refl) flush key world
+
+  pub own_tag : (key : ClientKey) (world : World P C) (client : ClientState C) → client_at world key ≡ Some client
+      → (key.tag == world.tag) ≡ true
+  own_tag key world client found = tag-by (key.tag == world.tag) (value_at world.clients key.number) client found
+
+  after_client : (label : Label) (sent : List (ClientKey × Envelope)) (world : World P C) (key : ClientKey)
+      → client_at (after_sending label sent world) key ≡ client_at world key
+  after_client label [] world key = refl
+  after_client label (first ∷ rest) world key = refl
+
+  replaced_client : (world : World P C) (key : ClientKey) (old new : ClientState C) → client_at world key ≡ Some old
+      → client_at (with_client_state world key new) key ≡ Some new
+  replaced_client world key old new found =
+      ap (λ b. if b then value_at (replace_at world.clients key.number new) key.number else None)
+      (own_tag key world old found)
+      ∙ own_replaced world.clients key.number new old (found_under world.tag world.clients key.tag key.number old found)
+
+  left-unless : (flush : Flush) (key : ClientKey) (world : World P C) (client : ClientState C)
+      → client_at world key ≡ Some client → (b : Bool)
+      → (left : ClientState C)
+      × (client_at (if b then send_nothing world else send key client
+      (flushed_envelopes flush client.options.plain client.queues)
+      (with_client_state world key (after_flush flush client))).after key ≡ Some left) × (client.label ≡ left.label)
+  left-unless flush key world client found true = (client, found, refl)
+  left-unless flush key world client found false =
+      let sent = (send key client (flushed_envelopes flush client.options.plain client.queues)
+      (with_client_state world key (after_flush flush client))).sent in (
+        after_flush flush client,
+        after_client client.label sent (with_client_state world key (after_flush flush client))
+            key ∙ replaced_client world key client (after_flush flush client) found,
+        refl,
+      )
+
+  left-some : (flush : Flush) (key : ClientKey) (world : World P C) (client : ClientState C)
+      (o : Option (ClientState C)) → client_at world key ≡ o → o ≡ Some client
+      → (left : ClientState C)
+      × (client_at (send_some world o (λ c. if c.closed then send_nothing world else send key c
+      (flushed_envelopes flush c.options.plain c.queues) (with_client_state world key (after_flush flush c)))).after key
+      ≡ Some left) × (client.label ≡ left.label)
+  left-some flush key world client None at e = absurd cc
+  left-some flush key world client (Some held) at e =
+      let same : held ≡ client = cc in
+      let l = left-unless flush key world held at held.closed in
+      (l.0, l.1, ap (λ (c : ClientState C). c.label) (sym same) ∙ l.2)
+
+  -- a client after a flush of its queues has the label that it had
+  pub flushed_client : (flush : Flush) (key : ClientKey) (world : World P C) (client : ClientState C)
+      → client_at world key ≡ Some client
+      → (left : ClientState C) × (client_at (flush_queues flush key world).after key ≡ Some left)
+      × (client.label ≡ left.label)
+  unfolding flush_queues
+  flushed_client flush key world client found = left-some flush key world client (client_at world key) refl found
+
+-- ---- the next numbers are not read
+
+module _ {P C : Type 0} (next : NextNumbers) where
+  -- the same is sent, and the same is left but for the next numbers
+  record SameBut (one_ other : Sending P C) : Type 0 where
+    sent : other.sent ≡ one_.sent
+    after : other.after ≡ record one_.after { next = next }
+
+  after_but : (label : Label) (sent : List (ClientKey × Envelope)) (world : World P C) → after_sending label sent
+      (record world { next = next }) ≡ record (after_sending label sent world) { next = next }
+  after_but label [] world = refl
+  after_but label (first ∷ rest) world = refl
+
+  some_but : {X : Type 0} (world : World P C) (o : Option X) (go other : X → Sending P C)
+      → ((x : X) → SameBut (go x) (other x)) → SameBut (send_some world o go)
+      (send_some (record world { next = next }) o other)
+  some_but world None go other h = record { sent = refl; after = refl }
+  some_but world (Some x) go other h = h x
+
+  unless_but : (world : World P C) (b : Bool) (go other : Sending P C) → SameBut go other
+      → SameBut (if b then send_nothing world else go) (if b then send_nothing (record world { next = next })
+      else other)
+  unless_but world true go other h = record { sent = refl; after = refl }
+  unless_but world false go other h = h
+
+  queue_update_but : (key : ClientKey) (update : SessionUpdate) (world : World P C)
+      → SameBut (queue_update key update world) (queue_update key update (record world { next = next }))
+  unfolding queue_update
+  queue_update_but key update world = some_but world (client_at world key) _ _ (λ client.
+      let queued = with_client_state world key (with_client_entry (enqueued update) client) in
+      let sending = send key client (envelopes_on client.options.plain.session_mode update client.queues.sessions)
+      queued in
+      unless_but world client.closed _ _ (record { sent = refl; after = after_but client.label sending.sent queued }))
+
+  end_session_but : (key : SessionKey) (status : Option SessionStatus) (now : ℕ) (world : World P C)
+      → SameBut (end_session key status now world) (end_session key status now (record world { next = next }))
+  unfolding end_session
+  end_session_but key status now world = some_but world (session_at world key) _ _ (λ session.
+      let queued = some_but world (pending_update (session_of session.start (closed status now ∷ session.history))) _ _
+      (λ update. queue_update_but session.start.client update world) in
+      record {
+        sent = queued.sent;
+        after = ap (λ (w : World P C). record w { sessions = without w.sessions key.number })
+            queued.after;
+      })
+
+  end_unnamed_but : (name : Option SessionKey) (now : ℕ) (world : World P C)
+      → SameBut (end_unnamed_session name now world) (end_unnamed_session name now (record world { next = next }))
+  unfolding end_unnamed_session
+  end_unnamed_but name now world =
+      some_but world name _ _ (λ key. unless_but world (is_session_named key world.hubs) _ _
+      (end_session_but key None now world))
+
+  release_but : (number : ℕ) (hub : Hub P) (now : ℕ) (world : World P C)
+      → SameBut (release_session number hub now world) (release_session number hub now (record world { next = next }))
+  release_but number hub now world =
+      end_unnamed_but hub.stack.top.session now
+      (record world { hubs = replace_at world.hubs number (with_session hub None) })
+
+module _ {P C : Type 0} (meanings : C → Meanings) where
+  -- ---- what comes to queues
+
+  queued : (key : ClientKey) (update : SessionUpdate) (world : World P C) → Sends meanings None world []
+      (queue_update key update world)
+  unfolding queue_update
+  queued key update world =
+      sends_some meanings None (client_at world key) (λ client found. sends_unless meanings None client.closed
+      (λ open_. record { changes = one (arrives world key client (session_ended update) refl found open_) }))
+
+  pub flushes : (flush : Flush) (key : ClientKey) (world : World P C) → Sends meanings None world []
+      (flush_queues flush key world)
+  unfolding flush_queues
+  flushes flush key world =
+      sends_some meanings None (client_at world key) (λ client found. sends_unless meanings None client.closed
+      (λ open_. record { changes = one (arrives world key client (flush_came flush) refl found open_) }))
+
+  accepts_log : (key : ClientKey) (log : Log) (world : World P C) → Sends meanings None world []
+      (accept_log key log world)
+  unfolding accept_log
+  accepts_log key log world =
+      sends_some meanings None (client_at world key) (λ client found. sends_unless meanings None client.closed
+      (λ open_. record { changes = one (arrives world key client (log_came log) refl found open_) }))
+
+  accepts_metric : (key : ClientKey) (metric : Metric) (world : World P C) → Sends meanings None world []
+      (accept_metric key metric world)
+  unfolding accept_metric
+  accepts_metric key metric world =
+      sends_some meanings None (client_at world key) (λ client found. sends_unless meanings None client.closed
+      (λ open_. record { changes = one (arrives world key client (metric_came metric) refl found open_) }))
+
+  pub keeps_log : (key : ClientKey) (client : ClientState C) (log : Option Log) (world : World P C)
+      → client_at world key ≡ Some client
+      → Sends meanings None world [] (keep_log key client.label log world)
+  unfolding keep_log
+  keeps_log key client None world found = record { changes = one (loses world key client _ found) }
+  keeps_log key client (Some log) world found = accepts_log key log world
+
+  pub keeps_metric : (key : ClientKey) (client : ClientState C) (metric : Option Metric) (world : World P C)
+      → client_at world key ≡ Some client
+      → Sends meanings None world [] (keep_metric key client.label metric world)
+  unfolding keep_metric
+  keeps_metric key client None world found = record { changes = one (loses world key client _ found) }
+  keeps_metric key client (Some metric) world found = accepts_metric key metric world
+
+  -- ---- sessions
+
+  pub ends : (key : SessionKey) (status : Option SessionStatus) (now : ℕ) (world : World P C)
+      → Sends meanings None world [] (end_session key status now world)
+  unfolding end_session
+  ends key status now world =
+      sends_some meanings None (session_at world key) (λ session found. record {
+        changes = quiet_last meanings None
+            (sends_some meanings None (pending_update (session_of session.start (closed status now ∷ session.history)))
+            (λ update is. queued session.start.client update world)).changes
+            (ends_session _ key.number);
+      })
+
+  ends_unnamed : (name : Option SessionKey) (now : ℕ) (world : World P C) → Sends meanings None world []
+      (end_unnamed_session name now world)
+  unfolding end_unnamed_session
+  ends_unnamed name now world =
+      sends_some meanings None name (λ key is. sends_unless meanings None (is_session_named key world.hubs)
+      (λ unnamed. ends key None now world))
+
+  pub releases : (number : ℕ) (hub : Hub P) (now : ℕ) (world : World P C) → value_at world.hubs number ≡ Some hub
+      → Sends meanings None world (hub_changed number (session_named None) ∷ []) (release_session number hub now world)
+  releases number hub now world found = record {
+    changes = both (one (changes_hub world number hub (with_session hub None) (session_named None) found refl tt))
+        (ends_unnamed hub.stack.top.session now
+        (record world { hubs = replace_at world.hubs number (with_session hub None) })).changes;
+  }
+
+  pub replaces : (number : ℕ) (hub : Hub P) (now : ℕ) (start : SessionStart) (world : World P C)
+      → value_at world.hubs number ≡ Some hub
+      → Sends meanings None world (hub_changed number (session_named None) ∷ hub_changed number
+      (session_named (Some (record {
+        tag = world.tag;
+        number =
+            (release_session number hub now (with_new_session start world)).after.next.session;
+      }))) ∷ [])
+      (replace_session number hub now start world)
+  replaces number hub now start world found =
+      let counted = record world.next { session = world.next.session + 1 } in
+      let begun = with_new_session start world in
+      let released = release_session number hub now begun in
+      let but = release_but counted number hub now begun in
+      let same : released.after.next ≡ world.next =
+      ap (λ (w : World P C). w.next) (release_but world.next number hub now begun).after in
+      let tag : released.after.tag ≡ world.tag = release_tag number hub now begun in
+      let freed : Changes meanings None (record begun { next = counted }) (hub_changed number (session_named None) ∷ [])
+      released.sent (record released.after { next = counted }) =
+      subst (λ s. Changes meanings None (record begun { next = counted }) (hub_changed number (session_named None) ∷ [])
+      s (record released.after { next = counted })) but.sent
+      (subst (λ (w : World P C). Changes meanings None (record begun { next = counted })
+      (hub_changed number (session_named None) ∷ [])
+      (release_session number hub now (record begun { next = counted })).sent w) but.after
+      (releases number hub now (record begun { next = counted }) found).changes) in
+      record {
+        changes = subst (λ (n : NextNumbers). Changes meanings None world
+            (hub_changed number (session_named None) ∷ hub_changed number
+            (session_named (Some (record { tag = world.tag; number = n.session }))) ∷ []) released.sent
+            (record released.after {
+              next = record n { session = n.session + 1 };
+              hubs =
+                  replace_at released.after.hubs number
+                  (with_session hub (Some (record { tag = released.after.tag; number = n.session })));
+            })) (sym same)
+            (subst (λ t. Changes meanings None world
+            (hub_changed number (session_named None) ∷ hub_changed number
+            (session_named (Some (record { tag = world.tag; number = world.next.session }))) ∷ []) released.sent
+            (record released.after {
+              next = counted;
+              hubs =
+                  replace_at released.after.hubs number
+                  (with_session hub (Some (record { tag = t; number = world.next.session })));
+            })) (sym tag)
+            (quiet_last meanings None (both (one (starts_session world start)) freed)
+            (changes_hub (record released.after { next = counted }) number (with_session hub None)
+            (with_session hub (Some (record { tag = world.tag; number = world.next.session })))
+            (session_named (Some (record { tag = world.tag; number = world.next.session })))
+            (found_released number hub now begun found) refl (sym tag, omega arith))));
+      }

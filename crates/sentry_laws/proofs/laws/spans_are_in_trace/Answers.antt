@@ -1,0 +1,5 @@
+use Rattle.sentry_laws.proofs.Traces.{kept_in_trace, held_in_trace}
+use Rattle.sentry_laws.proofs.laws.spans_are_in_trace.Goals as goal
+
+pub returns : goal.returns
+returns c s = record { kept = kept_in_trace; held = held_in_trace }

@@ -1,0 +1,220 @@
+-- The changes that every call is a sequence of.
+use Rattle.std.specs.Prelude.{◌≡◌, ℕ, ◌+◌, Bool, true, false, Option, Some, None, List, [], ◌∷◌, ◌++◌, ◌⊎◌, ◌==◌, ◌<◌}
+use Rattle.std.specs.List.{list_any}
+use Rattle.std.specs.Option.{option_map}
+use Rattle.sentry_plain.specs.Tables.{value_at, put, replace_at, without}
+use Rattle.sentry_base.specs.Envelopes.{with_report}
+use Rattle.sentry_base.specs.declared.protocol.envelope.Envelope.{Envelope}
+use Rattle.sentry_base.specs.declared.protocol.envelope.EnvelopeItem.{EnvelopeItem}
+use Rattle.sentry_base.specs.declared.protocol.envelope.EnvelopeItem.TheVariants as item
+use Rattle.sentry_base.specs.declared.protocol.keys.ClientKey.{ClientKey}
+use Rattle.sentry_base.specs.declared.protocol.keys.Label.{Label}
+use Rattle.sentry_base.specs.declared.protocol.keys.SessionKey.{SessionKey}
+use Rattle.sentry_base.specs.declared.protocol.log.Log.{Log}
+use Rattle.sentry_base.specs.declared.protocol.metric.Metric.{Metric}
+use Rattle.sentry_base.specs.declared.protocol.session.SessionUpdate.{SessionUpdate}
+use Rattle.sentry_options.specs.Meanings.{Meanings}
+use Rattle.sentry_options.specs.declared.clientoptions.ClientOptions.{ClientOptions}
+use Rattle.sentry_batches.specs.Batches.{accept, batch_on}
+use Rattle.sentry_client_reports.specs.LossBooks.{engine_losses, drained_losses, report_point}
+use Rattle.sentry_scope.specs.EditLists.{all_name_held_spans}
+use Rattle.sentry_scope.specs.declared.scope.Scope.{Scope}
+use Rattle.sentry_scope.specs.declared.scope.stack.Stack.{Stack}
+use Rattle.sentry_scope.specs.Stacks.{one_layer, top_alone, depth}
+use Rattle.sentry_sessions.specs.SessionQueues.{enqueued, envelopes_on}
+use Rattle.sentry_sessions.specs.Sessions.{SessionEntry}
+use Rattle.sentry_sessions.specs.declared.session.record.SessionStart.{SessionStart}
+use Rattle.sentry_hub_table.specs.declared.hub.Hub.{Hub}
+use Rattle.sentry_state.specs.Worlds.{World, ClientState, SessionState, span_table}
+use Rattle.sentry_base.specs.declared.protocol.keys.SpanKey.{SpanKey}
+use Rattle.sentry_base.specs.declared.protocol.keys.TransactionKey.{TransactionKey}
+use Rattle.sentry_base.specs.declared.protocol.keys.TransactionOrSpanKey.{TransactionOrSpanKey}
+use Rattle.sentry_base.specs.declared.protocol.keys.TransactionOrSpanKey.TheVariants as key_of
+use Rattle.sentry_span_table.specs.SpanLists.{TransactionState, with_finished}
+use Rattle.sentry_span_table.specs.SpanTables.{has_span_of, is_held, place_in}
+use Rattle.sentry_span_table.specs.declared.table.records.SpanPlace.{SpanPlace}
+use Rattle.sentry_span_table.specs.declared.table.records.SpanRecord.{SpanRecord}
+use Rattle.sentry_span_edits.specs.Discards.{is_active_on}
+use Rattle.sentry_state.specs.SpanChanges.{with_new_transaction, with_new_span}
+use Rattle.sentry_state.specs.Outcomes.{client_at, is_held_or_none, transaction_at, span_at}
+use Rattle.sentry_state.specs.Clients.{is_client_named, clone_from, queues_from}
+use Rattle.sentry_state.specs.Changes.{with_log_entry, with_metric_entry, with_client_entry, with_client_state, with_new_hub, with_new_session}
+use Rattle.sentry_state.specs.Books.{with_book, with_entry, pending_report, has_book, without_unused_book}
+use Rattle.sentry_sending.specs.Sending.{send}
+use Rattle.sentry_queues.specs.declared.flushes.Flush.{Flush}
+use Rattle.sentry_queues.specs.Flushes.{after_flush, flushed_envelopes, batch_envelopes}
+use Rattle.sentry_laws.specs.OwnCalls.{Effect, LayerChange, client_added, client_cloned, hub_made, hub_made_from, hub_changed, hub_released, losses_absorbed, report_taken, scope_edited, client_bound, layer_popped, session_named, change_layers}
+
+-- ---- what comes to the queues of a client
+
+pub data Arrival : Type 0 where
+  log_came : Log → Arrival
+  metric_came : Metric → Arrival
+  session_ended : SessionUpdate → Arrival
+  flush_came : Flush → Arrival
+
+module _ {C : Type 0} where
+  abbrev pub after_arrival : Arrival → ClientState C → ClientState C
+  after_arrival (log_came log) client = with_log_entry (accept log) client
+  after_arrival (metric_came metric) client = with_metric_entry (accept metric) client
+  after_arrival (session_ended update) client = with_client_entry (enqueued update) client
+  after_arrival (flush_came flush) client = after_flush flush client
+
+  abbrev pub envelopes_on_arrival : Arrival → ClientState C → List Envelope
+  envelopes_on_arrival (log_came log) client =
+      batch_envelopes (batch_on client.options.plain.max_batch_items (accept log) client.queues.logs) None
+  envelopes_on_arrival (metric_came metric) client =
+      batch_envelopes None (batch_on client.options.plain.max_batch_items (accept metric) client.queues.metrics)
+  envelopes_on_arrival (session_ended update) client =
+      envelopes_on client.options.plain.session_mode update client.queues.sessions
+  envelopes_on_arrival (flush_came flush) client =
+      flushed_envelopes flush client.options.plain client.queues
+
+-- no session is named, or one with the tag and a number that was given out
+abbrev pub IsGiven : ℕ → ℕ → Option SessionKey → Type 0
+IsGiven tag next None = Unit {0}
+IsGiven tag next (Some key) = (key.tag ≡ tag) × (key.number < next)
+
+abbrev pub is_batch_or_report : EnvelopeItem → Bool
+is_batch_or_report (item.Logs logs) = true
+is_batch_or_report (item.Metrics metrics) = true
+is_batch_or_report (item.ClientReport report) = true
+is_batch_or_report _ = false
+
+module _ {P C : Type 0} where
+  -- the key of the next client
+  abbrev pub next_client_key : World P C → ClientKey
+  next_client_key world = record { tag = world.tag; number = world.next.client }
+
+  -- the options of a client that the world holds
+  abbrev pub held_options : World P C → ClientKey → Option (ClientOptions C)
+  held_options world key = option_map (λ (client : ClientState C). client.options) (client_at world key)
+
+  -- the change of these layers names no client and no span that isn't held, no session that wasn't started, and pops
+  -- no layer of another depth
+  abbrev pub IsAllowed : World P C → Stack P → LayerChange P → Type 0
+  IsAllowed world stack (client_bound client) = is_held_or_none world client ≡ true
+  IsAllowed world stack (scope_edited edits) = all_name_held_spans (span_table world) edits ≡ true
+  IsAllowed world stack (layer_popped given) = depth stack ≡ given
+  IsAllowed world stack (session_named session) = IsGiven world.tag world.next.session session
+  IsAllowed world stack _ = Unit {0}
+
+-- one change of the transactions and spans that are held, which starts none
+pub data SpanChange {P C : Type 0} (world : World P C) : List (ℕ × TransactionState) → List (ℕ × SpanRecord)
+    → Type 0 where
+  changes_transaction : (number : ℕ) (old new : TransactionState) → value_at world.transactions number ≡ Some old
+      → new.context.trace_id ≡ old.context.trace_id → new.finished ≡ old.finished
+      → SpanChange world (replace_at world.transactions number new) world.spans
+  changes_span : (number : ℕ) (old new : SpanRecord) → value_at world.spans number ≡ Some old
+      → new.transaction ≡ old.transaction → new.span.trace_id ≡ old.span.trace_id
+      → SpanChange world world.transactions (replace_at world.spans number new)
+  -- a span finished in its transaction
+  keeps_span : (number : ℕ) (held : SpanRecord) (state : TransactionState) → value_at world.spans number ≡ Some held
+      → transaction_at world held.transaction ≡ Some state
+      → SpanChange world (replace_at world.transactions held.transaction.number (with_finished held.span state))
+      world.spans
+  drops_transaction : (key : TransactionKey) (state : TransactionState) → transaction_at world key ≡ Some state
+      → is_active_on (key_of.Transaction key) world.hubs ≡ false → has_span_of (span_table world) key ≡ false
+      → SpanChange world (without world.transactions key.number) world.spans
+  drops_span : (key : SpanKey) (held : SpanRecord) → span_at world key ≡ Some held
+      → is_active_on (key_of.Span key) world.hubs ≡ false
+      → SpanChange world world.transactions (without world.spans key.number)
+
+-- one change, by which these effects come and these envelopes are handed out
+pub data Change {P C : Type 0} (meanings : C → Meanings) (given : Option Envelope)
+    : World P C → List (Effect P C) → List (ClientKey × Envelope) → World P C → Type 0 where
+  -- a hub under the next number
+  makes_hub : (world : World P C) (client : Option ClientKey) (scope : Scope P) → is_held_or_none world client ≡ true
+      → is_held (span_table world) scope.span ≡ true
+      → Change meanings given world (hub_made world.next.hub (one_layer client scope) ∷ []) []
+      (with_new_hub (one_layer client scope) world)
+  makes_hub_from : (world : World P C) (maker : ℕ) (hub : Hub P) → value_at world.hubs maker ≡ Some hub
+      → Change meanings given world (hub_made_from world.next.hub maker ∷ []) []
+      (with_new_hub (top_alone hub.stack) world)
+  changes_hub : (world : World P C) (number : ℕ) (old new : Hub P) (change : LayerChange P)
+      → value_at world.hubs number ≡ Some old
+      → new.stack ≡ change_layers meanings (held_options world) change old.stack → IsAllowed world old.stack change
+      → Change meanings given world (hub_changed number change ∷ []) []
+      (record world { hubs = replace_at world.hubs number new })
+  -- a change that leaves the hub as it was
+  leaves_hub : (world : World P C) (number : ℕ) (hub : Hub P) (change : LayerChange P)
+      → value_at world.hubs number ≡ Some hub
+      → change_layers meanings (held_options world) change hub.stack ≡ hub.stack
+      → Change meanings given world (hub_changed number change ∷ []) [] world
+  notes_event_id : (world : World P C) (number : ℕ) (old new : Hub P) → value_at world.hubs number ≡ Some old
+      → new.stack ≡ old.stack
+      → Change meanings given world [] [] (record world { hubs = replace_at world.hubs number new })
+  releases_hub : (world : World P C) (number : ℕ) (hub : Hub P) → value_at world.hubs number ≡ Some hub
+      → depth hub.stack ≡ 0
+      → Change meanings given world (hub_released number ∷ []) [] (record world { hubs = without world.hubs number })
+  -- a client under the next number
+  adds_client : (world : World P C) (client : ClientState C) (now : ℕ) → client.queues ≡ queues_from now
+      → client.closed ≡ false → (client.label.tag == world.tag) ≡ true
+      → Change meanings given world (client_added (next_client_key world) client.options ∷ []) [] (record world {
+        next = record world.next { client = world.next.client + 1 };
+        clients = put world.clients world.next.client client;
+        books = with_book world.books client.label.number;
+      })
+  clones_client : (world : World P C) (original : ClientKey) (client : ClientState C) (now : ℕ)
+      → client_at world original ≡ Some client
+      → Change meanings given world (client_cloned (next_client_key world) original ∷ []) [] (record world {
+        next = record world.next { client = world.next.client + 1 };
+        clients = put world.clients world.next.client (clone_from now client);
+      })
+  drops_client : (world : World P C) (key : ClientKey) (client : ClientState C) (label : Label)
+      → client_at world key ≡ Some client → label ≡ client.label → is_client_named key world.hubs ≡ false
+      → Change meanings given world [] []
+      (without_unused_book label (record world { clients = without world.clients key.number }))
+  -- something comes to the queues of a client that isn't closed, which may send what waits
+  arrives : (world : World P C) (key : ClientKey) (client : ClientState C) (arrival : Arrival) → given ≡ None
+      → client_at world key ≡ Some client → client.closed ≡ false
+      → Change meanings given world []
+      (send key client (envelopes_on_arrival arrival client)
+      (with_client_state world key (after_arrival arrival client))).sent
+      (send key client (envelopes_on_arrival arrival client)
+      (with_client_state world key (after_arrival arrival client))).after
+  -- an envelope leaves an occupied slot: the caller's own, or one without a batch
+  mails : (world : World P C) (key : ClientKey) (client : ClientState C) (envelope : Envelope)
+      → client_at world key ≡ Some client → client.occupied ≡ true
+      → (given ≡ Some envelope) ⊎ ((given ≡ None) × (list_any is_batch_or_report envelope.items ≡ false))
+      → Change meanings given world [] ((key, with_report (pending_report world client.label) envelope) ∷ [])
+      (with_entry world client.label report_point)
+  loses : (world : World P C) (key : ClientKey) (client : ClientState C) (losses : List ℕ)
+      → client_at world key ≡ Some client
+      → Change meanings given world [] [] (with_entry world client.label (engine_losses losses))
+  takes_report : (world : World P C) (label : Label) → has_book world label ≡ true
+      → Change meanings given world (report_taken label (pending_report world label) ∷ []) []
+      (with_entry world label report_point)
+  absorbs : (world : World P C) (label : Label) (losses : List ℕ) → has_book world label ≡ true
+      → Change meanings given world (losses_absorbed label losses ∷ []) []
+      (with_entry world label (drained_losses losses))
+  -- a session under the next number, which no layer names yet
+  starts_session : (world : World P C) (start : SessionStart)
+      → Change meanings given world [] []
+      (record (with_new_session start world) { next = record world.next { session = world.next.session + 1 } })
+  changes_session : (world : World P C) (number : ℕ) (old new : SessionState) (later : List SessionEntry)
+      → value_at world.sessions number ≡ Some old
+      → new ≡ record old { history = later ++ old.history }
+      → Change meanings given world [] [] (record world { sessions = replace_at world.sessions number new })
+  ends_session : (world : World P C) (number : ℕ)
+      → Change meanings given world [] [] (record world { sessions = without world.sessions number })
+  -- a transaction under the next number, and a span under the next number at a place that is held
+  starts_transaction : (world : World P C) (state : TransactionState) → state.finished ≡ []
+      → Change meanings given world [] [] (with_new_transaction state world)
+  starts_span : (world : World P C) (parent : TransactionOrSpanKey) (place : SpanPlace) (held : SpanRecord)
+      → place_in (span_table world) parent ≡ Some place
+      → held.transaction ≡ place.transaction → held.span.trace_id ≡ place.trace_id
+      → Change meanings given world [] [] (with_new_span held world)
+  changes_spans : (world : World P C) (transactions : List (ℕ × TransactionState)) (spans : List (ℕ × SpanRecord))
+      → SpanChange world transactions spans
+      → Change meanings given world [] [] (record world { transactions = transactions; spans = spans })
+
+-- changes one after another
+pub data Changes {P C : Type 0} (meanings : C → Meanings) (given : Option Envelope)
+    : World P C → List (Effect P C) → List (ClientKey × Envelope) → World P C → Type 0 where
+  nothing : (world : World P C) → Changes meanings given world [] [] world
+  one : {old new : World P C} {effects : List (Effect P C)} {sent : List (ClientKey × Envelope)}
+      → Change meanings given old effects sent new → Changes meanings given old effects sent new
+  both : {old middle new : World P C} {first second : List (Effect P C)} {sent more : List (ClientKey × Envelope)}
+      → Changes meanings given old first sent middle → Changes meanings given middle second more new
+      → Changes meanings given old (first ++ second) (sent ++ more) new

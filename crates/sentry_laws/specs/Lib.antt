@@ -1,0 +1,10 @@
+pub mod OwnCalls
+pub mod Changes
+pub mod SentItems
+pub mod PushPop
+pub mod Sessions
+pub mod Wrong
+pub mod Losses
+pub mod Reachable
+pub mod Reports
+pub mod Traces

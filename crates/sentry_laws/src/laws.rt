@@ -1,0 +1,116 @@
+//! Laws of whole runs.
+ghost use Rattle.std.specs.Prelude.{◌≡◌, List};
+ghost use Rattle.sentry_base.specs.Callbacks.{Partial};
+ghost use Rattle.sentry_base.specs.declared.protocol.refusal.Refusal.{Refusal};
+ghost use Rattle.std.specs.Prelude.{Result, ℕ};
+ghost use Rattle.sentry_options.specs.Meanings.{Meanings};
+ghost use Rattle.sentry_state.specs.declared.state.Out.{Out};
+ghost use Rattle.sentry_state.specs.Worlds.{World, starting_world};
+ghost use Rattle.sentry_calls.specs.declared.call.Call.{Call};
+ghost use Rattle.sentry_calls.specs.declared.call.Reply.{Reply};
+ghost use Rattle.sentry_calls.specs.Runs.{Run};
+ghost use Rattle.sentry_laws.specs.OwnCalls.{IsIsolated, KeepsOptions, OwnAloneSuffice};
+ghost use Rattle.sentry_laws.specs.Losses.{BooksBalance, AbsorbedStays};
+ghost use Rattle.sentry_laws.specs.Reports.{ReportsAddUp};
+ghost use Rattle.sentry_laws.specs.Reachable.{NumbersAreFree, BooksAreOfClients, ClientsAreHeld, ActiveSpansAreHeld};
+ghost use Rattle.sentry_laws.specs.PushPop.{PopUndoesPush};
+ghost use Rattle.sentry_laws.specs.Wrong.{DerivedHubLeavesMaker, SilentFlushIsRefused, SecondReportIsRefused};
+ghost use Rattle.sentry_laws.specs.Wrong.{LaterCrashIsRefused, ForeignSpanIsRefused};
+ghost use Rattle.sentry_laws.specs.Sessions.{StatusStays, EndsOnce};
+ghost use Rattle.sentry_laws.specs.Traces.{KeptSpansAreInTrace, HeldSpansAreInTrace};
+ghost use Rattle.sentry_laws.specs.SentItems.{SendsAcceptedLogs, SendsAcceptedMetrics};
+
+/// After any run, each hub has the layers that its own accepted calls give it, and each client that is held has the
+/// options with which it was added.
+pub fn hubs_are_isolated<P, C>()
+    ensures layers { (gives : P → Partial) (meanings : C → Meanings) (tag start : ℕ) (calls : List (Call P C))
+        (answers : List (Result (Out (Reply P C)) Refusal)) (last : World P C)
+        → Run gives meanings (starting_world tag start) calls answers last → IsIsolated meanings calls answers last }
+    ensures options { (gives : P → Partial) (meanings : C → Meanings) (tag start : ℕ) (calls : List (Call P C))
+        (answers : List (Result (Out (Reply P C)) Refusal)) (last : World P C)
+        → Run gives meanings (starting_world tag start) calls answers last → KeepsOptions meanings calls answers last }
+{}
+
+/// After any run, each client whose slot is occupied sent the logs that it accepted, in order and in batches of one up
+/// to its `max_batch_items`, but for those in its queue. The same holds of metrics.
+pub fn accepted_items_are_sent<P, C>()
+    ensures logs { (gives : P → Partial) (meanings : C → Meanings) (tag start : ℕ) (calls : List (Call P C))
+        (answers : List (Result (Out (Reply P C)) Refusal)) (last : World P C)
+        → Run gives meanings (starting_world tag start) calls answers last → SendsAcceptedLogs calls answers last }
+    ensures metrics { (gives : P → Partial) (meanings : C → Meanings) (tag start : ℕ) (calls : List (Call P C))
+        (answers : List (Result (Out (Reply P C)) Refusal)) (last : World P C)
+        → Run gives meanings (starting_world tag start) calls answers last → SendsAcceptedMetrics calls answers last }
+{}
+
+/// After a push, calls that leave the new layer open, and its pop a hub has the layers that it had before.
+pub fn pop_undoes_push<P, C>()
+    ensures { (gives : P → Partial) (meanings : C → Meanings) → PopUndoesPush gives meanings }
+{}
+
+/// A session's status other than `Ok` stays, as long as the session is kept; and once a call ended a session, a second
+/// one from a layer that still names it sends nothing and changes nothing.
+pub fn ended_sessions_stay_ended<P, C>()
+    ensures status { (gives : P → Partial) (meanings : C → Meanings) → StatusStays gives meanings }
+    ensures once { (gives : P → Partial) (meanings : C → Meanings) → EndsOnce gives meanings }
+{}
+
+/// What the laws refuse: a hub that writes into the hub that it was made from, a flush that hands out nothing, a second
+/// report of the same losses, a session that was ended and crashes later, and a span of another trace.
+pub fn wrong_runs_are_refused<P, C>()
+    ensures isolation { (meanings : C → Meanings) → DerivedHubLeavesMaker P C meanings }
+    ensures logs { SilentFlushIsRefused P C }
+    ensures reports { SecondReportIsRefused }
+    ensures status { (gives : P → Partial) (meanings : C → Meanings) → LaterCrashIsRefused gives meanings }
+    ensures trace { ForeignSpanIsRefused P C }
+{}
+
+/// Whatever came to a book of losses: at each index, what its reports told and what is pending is what was recorded and
+/// absorbed, modulo 2^64.
+pub fn books_balance()
+    ensures { BooksBalance }
+{}
+
+/// A hub that was made from no other has the layers that the calls on it alone give it, under the same options of
+/// clients: calls on other hubs can be left out.
+pub fn own_calls_suffice<P, C>()
+    ensures { (meanings : C → Meanings) → OwnAloneSuffice P C meanings }
+{}
+
+/// In every world that calls lead to: the next numbers and all that come after them are free, a label has a book of
+/// losses exactly where a client has the label, and what layers name is held: clients, transactions and spans.
+pub fn worlds_are_consistent<P, C>()
+    ensures numbers { (gives : P → Partial) (meanings : C → Meanings) (tag start : ℕ) (calls : List (Call P C))
+        (answers : List (Result (Out (Reply P C)) Refusal)) (last : World P C)
+        → Run gives meanings (starting_world tag start) calls answers last → NumbersAreFree last }
+    ensures books { (gives : P → Partial) (meanings : C → Meanings) (tag start : ℕ) (calls : List (Call P C))
+        (answers : List (Result (Out (Reply P C)) Refusal)) (last : World P C)
+        → Run gives meanings (starting_world tag start) calls answers last → BooksAreOfClients last }
+    ensures clients { (gives : P → Partial) (meanings : C → Meanings) (tag start : ℕ) (calls : List (Call P C))
+        (answers : List (Result (Out (Reply P C)) Refusal)) (last : World P C)
+        → Run gives meanings (starting_world tag start) calls answers last → ClientsAreHeld last }
+    ensures spans { (gives : P → Partial) (meanings : C → Meanings) (tag start : ℕ) (calls : List (Call P C))
+        (answers : List (Result (Out (Reply P C)) Refusal)) (last : World P C)
+        → Run gives meanings (starting_world tag start) calls answers last → ActiveSpansAreHeld last }
+{}
+
+/// After any run, each span that a transaction keeps has its trace id; and each span that is held belongs to a
+/// transaction that is held, and has its trace id.
+pub fn spans_are_in_trace<P, C>()
+    ensures kept { (gives : P → Partial) (meanings : C → Meanings) (tag start : ℕ) (calls : List (Call P C))
+        (answers : List (Result (Out (Reply P C)) Refusal)) (last : World P C)
+        → Run gives meanings (starting_world tag start) calls answers last → KeptSpansAreInTrace last }
+    ensures held { (gives : P → Partial) (meanings : C → Meanings) (tag start : ℕ) (calls : List (Call P C))
+        (answers : List (Result (Out (Reply P C)) Refusal)) (last : World P C)
+        → Run gives meanings (starting_world tag start) calls answers last → HeldSpansAreInTrace last }
+{}
+
+/// After any run, for each label that a client has and each index of losses: what the reports of the label told, since
+/// when a client has had it without a break, and what is pending is what was recorded and absorbed, modulo 2^64.
+pub fn reports_add_up<P, C>()
+    ensures { (gives : P → Partial) (meanings : C → Meanings) → ReportsAddUp gives meanings }
+{}
+
+/// Each call but `AddClient` and `Absorb` leaves what each book of losses absorbed, and begins no book.
+pub fn absorbed_losses_stay<P, C>()
+    ensures { (gives : P → Partial) (meanings : C → Meanings) → AbsorbedStays gives meanings }
+{}

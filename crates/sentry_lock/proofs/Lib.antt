@@ -1,0 +1,7 @@
+mod WordLemmas
+mod Choices
+mod Bounds
+mod Tied
+mod Labels
+mod Keeps
+mod Sound

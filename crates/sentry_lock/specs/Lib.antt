@@ -1,0 +1,4 @@
+pub mod Plain
+pub mod Words
+pub mod Locked
+pub mod Transports

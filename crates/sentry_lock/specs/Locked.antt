@@ -1,0 +1,67 @@
+-- What holds whenever the lock is free.
+use Rattle.std.specs.Prelude.{◌≡◌, ◌<◌, ◌≤◌, ℕ, List, Option, Some, Ok, Result, length, max}
+use Rattle.sentry_plain.specs.Tables.{value_at}
+use Rattle.sentry_base.specs.declared.protocol.client_report.ClientReport.{ClientReport}
+use Rattle.sentry_base.specs.declared.protocol.envelope.Envelope.{Envelope}
+use Rattle.sentry_base.specs.declared.protocol.keys.ClientKey.{ClientKey}
+use Rattle.sentry_base.specs.declared.protocol.keys.Label.{Label}
+use Rattle.sentry_client_reports.specs.LossBooks.{Book, IsBalanced, LossEntry}
+use Rattle.sentry_client_reports.specs.LossCounts.{CountedPart}
+use Rattle.sentry_options.specs.declared.clientoptions.plain.PlainOptions.{PlainOptions}
+use Rattle.sentry_sessions.specs.declared.session.aggregates.TheConstants.{MAX_INDIVIDUAL}
+use Rattle.sentry_span_table.specs.declared.table.records.TransactionRecord.{TransactionRecord}
+use Rattle.sentry_state.specs.declared.state.Client.{Client}
+use Rattle.sentry_state.specs.declared.state.Out.{Out}
+use Rattle.sentry_state.specs.declared.state.Queues.{Queues}
+use Rattle.sentry_state.specs.declared.state.State.{State}
+use Rattle.sentry_state.specs.Outcomes.{Does, DoesWithoutMemory}
+use Rattle.sentry_state.specs.Worlds.{World, Stands}
+use Rattle.sentry_calls.specs.Losses.{absorb}
+use Rattle.sentry_laws.proofs.Increasing.{IsIncreasing}
+use Rattle.sentry_lock.specs.Words.{Drainers, HasNoOpenWords, DrainsOne, EndsWords}
+
+-- fewer logs, metrics and individual sessions wait in the queues of a client than are sent at once
+pub record AreShort (options : PlainOptions) (queues : Queues) : Type 0 where
+  pub logs : length queues.logs.items < max options.max_batch_items 1
+  pub metrics : length queues.metrics.items < max options.max_batch_items 1
+  pub sessions : length queues.sessions.individual < MAX_INDIVIDUAL
+
+-- an open drainer has taken what the book of its label absorbed
+abbrev pub AreTied : List (ℕ × Book) → Drainers → Type 0
+AreTied books drainers =
+    (n : ℕ) (drainer : CountedPart) (book : Book) → value_at drainers n ≡ Some (Some drainer)
+    → value_at books n ≡ Some book → book.absorbed ≡ drainer.taken
+
+-- the engine stands for a world; the queues of each client are short; each transaction keeps no more spans than its
+-- limit; each book balances; and each open drainer is tied to its book
+pub record IsSound {P C : Type 0} (engine : State P C) (drainers : Drainers) : Type 0 where
+  pub world : World P C
+  pub stands : Stands engine world
+  pub sorted : IsIncreasing 0 world.books
+  pub short : (n : ℕ) (client : Client C) → value_at engine.clients n ≡ Some client
+      → AreShort client.options.plain client.queues
+  pub kept : (n : ℕ) (transaction : TransactionRecord) → value_at engine.spans.transactions n ≡ Some transaction
+      → length transaction.spans ≤ transaction.max_spans
+  pub balanced : (n : ℕ) (book : Book) → value_at engine.books n ≡ Some book → IsBalanced book
+  pub tied : AreTied engine.books drainers
+
+module _ {P C : Type 0} where
+  -- the book of the label absorbed these quantities
+  abbrev pub Absorbs : Label → List ℕ → State P C → State P C → Type 0
+  Absorbs label quantities old new =
+      (out : Out (Unit {0})) × DoesWithoutMemory old new (Ok out) (absorb label quantities)
+
+  -- the words of the label were drained once, and its book absorbed what they gave
+  abbrev pub DrainsAndAbsorbs : Label → List ℕ → State P C → State P C → Drainers → Drainers → Type 0
+  DrainsAndAbsorbs label quantities old new drainers drained =
+      DrainsOne drainers drained label.number quantities × Absorbs label quantities old new
+
+  -- the words of the label were ended, and its book absorbed what stood in them
+  abbrev pub EndsAndAbsorbs : Label → State P C → State P C → Drainers → Drainers → Type 0
+  EndsAndAbsorbs label old new drainers ended =
+      (quantities : List ℕ) × EndsWords drainers ended label.number quantities × Absorbs label quantities old new
+
+  -- nothing changed, and no words of the label are open
+  abbrev pub FindsNoWords : Label → State P C → State P C → Drainers → Drainers → Type 0
+  FindsNoWords label old new drainers after =
+      HasNoOpenWords drainers label.number × (new ≡ old) × (after ≡ drainers)

@@ -1,0 +1,327 @@
+//! A client: its key, and a share of the core that holds it.
+ghost use Rattle.std.specs.Prelude.{◌≡◌, true};
+ghost use Rattle.sentry_lock.specs.Plain.{is_plain_client_call};
+
+mod setup;
+
+use crate::handed::{Ending, Handed};
+use crate::shared_core::SharedCore;
+use crate::transport::Transport;
+use sentry_base::callbacks::EventCallback;
+use sentry_base::protocol::{
+    ClientKey, Draw, Envelope, Event, Fresh, Log, Refusal, SampleRate, Uuid,
+};
+use sentry_batches::metrics::IntoProtocolMetric;
+use sentry_engine::call::{Call, ClientCall, Reply};
+use sentry_options::clientoptions::{Callbacks, ClientOptions};
+use sentry_plain::{Boxed, Shared};
+use sentry_scope::scope::Scope;
+use sentry_texts::dsn::Dsn;
+pub use setup::ClientSetup;
+use std::alloc::AllocError;
+use std::sync::Wait;
+
+/// A client, by its key and a share of the core that holds it. A clone of the value is the same client; `clone_client`
+/// makes another one.
+#[derive(Drop)]
+pub struct Client<P, C, T> {
+    core: SharedCore<P, C, T>,
+    key: ClientKey,
+}
+
+impl<P: Drop, C: Drop, T: Drop> Clone for Client<P, C, T> {
+    fn clone(&self) -> Result<Client<P, C, T>, AllocError> {
+        Ok(Client {
+            core: self.core.clone()?,
+            key: self.key,
+        })
+    }
+}
+
+impl<P: EventCallback + Drop, C: Callbacks, T: Transport + Drop> Client<P, C, T> {
+    // The client of a key.
+    pub(crate) fn of_key(
+        core: &SharedCore<P, C, T>,
+        key: ClientKey,
+    ) -> Result<Client<P, C, T>, AllocError> {
+        Ok(Client {
+            core: core.clone()?,
+            key,
+        })
+    }
+
+    /// Adds a client, after the `setup` of its integrations. It sends its envelopes by the transport, if there is one
+    /// and the options have a DSN. `now` is the moment in nanoseconds since the epoch.
+    ///
+    /// `ForeignLosses`: the setup was made by another core. `Full`: the numbers are used up. `OutOfMemory`.
+    pub fn with_options<R: Wait>(
+        rt: &R,
+        core: &SharedCore<P, C, T>,
+        setup: ClientSetup<C>,
+        transport: Option<T>,
+        now: u64,
+    ) -> Result<Client<P, C, T>, Refusal> {
+        let share = core.clone()?;
+        let key = core.lock(rt).add_setup(setup, transport, now)?;
+        Ok(Client { core: share, key })
+    }
+
+    /// The same as `with_options`.
+    pub fn from_config<R: Wait>(
+        rt: &R,
+        core: &SharedCore<P, C, T>,
+        setup: ClientSetup<C>,
+        transport: Option<T>,
+        now: u64,
+    ) -> Result<Client<P, C, T>, Refusal> {
+        Client::with_options(rt, core, setup, transport, now)
+    }
+
+    /// The key of the client.
+    pub fn key(&self) -> ClientKey {
+        self.key
+    }
+
+    /// The core that holds it.
+    pub fn core(&self) -> &SharedCore<P, C, T> {
+        &self.core
+    }
+
+    /// The options, as a share: after the `setup` of the integrations, which are among them.
+    ///
+    /// `Stale`: the client isn't held. `OutOfMemory`.
+    pub fn options<R: Wait>(&self, rt: &R) -> Result<Shared<ClientOptions<C>>, Refusal> {
+        let out = self.core.lock(rt).engine().options(self.key)?;
+        Ok(out.reply)
+    }
+
+    /// Where the client sends to, if anywhere.
+    ///
+    /// `Stale`: the client isn't held. `OutOfMemory`.
+    pub fn dsn<R: Wait>(&self, rt: &R) -> Result<Option<Dsn>, Refusal> {
+        let out = self.core.lock(rt).engine().dsn(self.key)?;
+        Ok(out.reply)
+    }
+
+    /// Whether the client has a DSN, now and when it was added, and a transport. It takes no memory.
+    ///
+    /// `Stale`: the client isn't held.
+    pub fn is_enabled<R: Wait>(&self, rt: &R) -> Result<bool, Refusal> {
+        let out = self.core.lock(rt).engine().is_enabled(self.key)?;
+        Ok(out.reply)
+    }
+
+    /// Whether what has this draw is sent at this rate. It takes no memory, and is never refused.
+    pub fn sample_should_send<R: Wait>(
+        &self,
+        rt: &R,
+        rate: SampleRate,
+        draw: Draw,
+    ) -> Result<bool, Refusal> {
+        let out = self.core.lock(rt).engine().sample_should_send(rate, draw)?;
+        Ok(out.reply)
+    }
+
+    /// The event as the client would send it under a scope, if one is given; `None` if it is dropped, which counts as a
+    /// loss.
+    ///
+    /// `Stale`: the client isn't held, or the span of the scope isn't. `OutOfMemory`.
+    pub fn prepare_event<R: Wait>(
+        &self,
+        rt: &R,
+        event: Event,
+        scope: Option<&Scope<P>>,
+        fresh: Fresh,
+    ) -> Result<Option<Boxed<Event>>, Refusal> {
+        self.core
+            .lock(rt)
+            .prepare_event(self.key, event, scope, fresh)
+    }
+
+    // The lock is free again when it returns, as when each of the next does.
+    fn event_captured<R: Wait>(
+        &self,
+        rt: &R,
+        event: Event,
+        scope: Option<&Scope<P>>,
+        fresh: Fresh,
+    ) -> Result<Handed<Uuid, T>, Refusal> {
+        let mut core = self.core.lock(rt);
+        core.drain_all();
+        core.capture_event(self.key, event, scope, fresh)
+    }
+
+    /// Captures an event under a scope, if one is given. Its id is the reply; the nil id if it was not sent.
+    ///
+    /// `Stale`: the client isn't held, or the span of the scope isn't. `OutOfMemory`.
+    pub fn capture_event<R: Wait>(
+        &self,
+        rt: &R,
+        event: Event,
+        scope: Option<&Scope<P>>,
+        fresh: Fresh,
+    ) -> Result<Uuid, Refusal> {
+        let handed = self.event_captured(rt, event, scope, fresh)?;
+        Ok(handed.deliver())
+    }
+
+    fn log_captured<R: Wait>(
+        &self,
+        rt: &R,
+        log: Log,
+        scope: &Scope<P>,
+    ) -> Result<Handed<(), T>, Refusal> {
+        let mut core = self.core.lock(rt);
+        core.drain_all();
+        core.capture_log(self.key, log, scope)
+    }
+
+    /// Captures a log under a scope.
+    ///
+    /// `Stale`: the client isn't held, or the span of the scope isn't. `OutOfMemory`.
+    pub fn capture_log<R: Wait>(&self, rt: &R, log: Log, scope: &Scope<P>) -> Result<(), Refusal> {
+        let handed = self.log_captured(rt, log, scope)?;
+        handed.deliver();
+        Ok(())
+    }
+
+    fn metric_captured<R: Wait, M: IntoProtocolMetric>(
+        &self,
+        rt: &R,
+        metric: M,
+        scope: &Scope<P>,
+        now: u64,
+    ) -> Result<Handed<(), T>, Refusal> {
+        let mut core = self.core.lock(rt);
+        core.drain_all();
+        core.capture_metric(self.key, metric.into_draft(), scope, now)
+    }
+
+    /// Captures a metric under a scope. `now` is its moment in nanoseconds since the epoch.
+    ///
+    /// `Stale`: the client isn't held, or the span of the scope isn't. `OutOfMemory`.
+    pub fn capture_metric<R: Wait, M: IntoProtocolMetric>(
+        &self,
+        rt: &R,
+        metric: M,
+        scope: &Scope<P>,
+        now: u64,
+    ) -> Result<(), Refusal> {
+        let handed = self.metric_captured(rt, metric, scope, now)?;
+        handed.deliver();
+        Ok(())
+    }
+
+    /// Sends an envelope, with the pending report as its last item. Without a transport nothing is sent.
+    ///
+    /// `Stale`: the client isn't held. `OutOfMemory`.
+    pub fn send_envelope<R: Wait>(&self, rt: &R, envelope: Envelope) -> Result<(), Refusal> {
+        self.done(
+            rt,
+            ClientCall::SendEnvelope {
+                client: self.key,
+                envelope,
+            },
+        )
+    }
+
+    // A call whose reply says no more than that it is done.
+    fn done<R: Wait>(&self, rt: &R, call: ClientCall<P, C>) -> Result<(), Refusal>
+        requires { is_plain_client_call call ≡ true }
+    {
+        drop(self.core.call(rt, Call::Client(call))?);
+        Ok(())
+    }
+
+    fn flushed<R: Wait>(&self, rt: &R) -> Result<(Handed<(), T>, Option<u64>), Refusal> {
+        let mut core = self.core.lock(rt);
+        core.drain_all();
+        let option = core.engine().shutdown_timeout(self.key);
+        Ok((core.flush(self.key)?, option))
+    }
+
+    /// Sends what waits in the queues, and then calls the transport's `flush`, once, with the timeout, in nanoseconds,
+    /// or with the option `shutdown_timeout` if none is given. Answers what that gave; true if the client has no
+    /// transport, or was closed.
+    ///
+    /// `Stale`: the client isn't held. `OutOfMemory`.
+    pub fn flush<R: Wait>(&self, rt: &R, timeout: Option<u64>) -> Result<bool, Refusal> {
+        let (handed, option) = self.flushed(rt)?;
+        Ok(self.ended(handed, option, timeout, Ending::Flush))
+    }
+
+    fn closed<R: Wait>(&self, rt: &R) -> Result<(Handed<(), T>, Option<u64>), Refusal> {
+        let mut core = self.core.lock(rt);
+        core.drain_all();
+        let option = core.engine().shutdown_timeout(self.key);
+        Ok((core.close(self.key)?, option))
+    }
+
+    /// Closes the client: what waits in its queues is sent, and nothing comes to them any more. Then it calls the
+    /// transport's `shutdown`, once, with the timeout, in nanoseconds, or with the option `shutdown_timeout` if none is
+    /// given. Answers what that gave; true if the client has no transport, or was closed before. Its clones are not
+    /// closed.
+    ///
+    /// `Stale`: the client isn't held. `OutOfMemory`.
+    pub fn close<R: Wait>(&self, rt: &R, timeout: Option<u64>) -> Result<bool, Refusal> {
+        let (handed, option) = self.closed(rt)?;
+        Ok(self.ended(handed, option, timeout, Ending::Shutdown))
+    }
+
+    // Delivers, and then ends at the transport, unless the slot of the client was empty before the call: then there is
+    // no timeout by the options.
+    fn ended(
+        &self,
+        handed: Handed<(), T>,
+        option: Option<u64>,
+        timeout: Option<u64>,
+        ending: Ending,
+    ) -> bool {
+        match option {
+            None => {
+                handed.deliver();
+                true
+            }
+            Some(option) => handed.deliver_and_end(self.key, ending, timeout.unwrap_or(option)),
+        }
+    }
+
+    /// Tells the client the moment, in nanoseconds since the epoch: what is due is sent.
+    ///
+    /// `Stale`: the client isn't held. `OutOfMemory`.
+    pub fn tick<R: Wait>(&self, rt: &R, now: u64) -> Result<(), Refusal> {
+        self.done(
+            rt,
+            ClientCall::Tick {
+                client: self.key,
+                now,
+            },
+        )
+    }
+
+    /// Adds a client with the options, the label and the transport of this one. `now` is the moment in nanoseconds since
+    /// the epoch.
+    ///
+    /// `Stale`: the client isn't held. `Full`: the numbers are used up. `OutOfMemory`.
+    pub fn clone_client<R: Wait>(&self, rt: &R, now: u64) -> Result<Client<P, C, T>, Refusal> {
+        let core = self.core.clone()?;
+        let call = ClientCall::CloneClient {
+            client: self.key,
+            now,
+        };
+        match self.core.call(rt, Call::Client(call))? {
+            Reply::Client(key) => Ok(Client { core, key }),
+            // No call that makes a client replies otherwise.
+            _ => Err(Refusal::Stale),
+        }
+    }
+
+    /// Gives the client back, which no layer of a hub names and under which no session and no transaction goes on. What
+    /// waits in its queues is sent.
+    ///
+    /// `Stale`: the client isn't held. `StillNamed`: a layer of a hub names it, a session that goes on started under it,
+    /// or it will send a transaction that is unfinished. `OutOfMemory`.
+    pub fn drop_client<R: Wait>(&self, rt: &R) -> Result<(), Refusal> {
+        self.done(rt, ClientCall::DropClient(self.key))
+    }
+}

@@ -1,0 +1,10 @@
+//! One lock around an engine, the drainers of its losses, and the transports of its clients.
+#![tactic(auto)]
+
+pub mod client;
+mod handed;
+pub mod locked;
+pub mod scope_edits;
+pub mod shared_core;
+pub mod transport;
+mod words;

@@ -1,0 +1,60 @@
+//! What lies under the lock: an engine, the drainers of its losses, and the transports of its clients.
+ghost use Rattle.std.specs.Prelude.{◌≡◌};
+ghost use Rattle.sentry_lock.specs.Locked.{IsSound};
+ghost use Rattle.sentry_lock.specs.Words.{AreLabelled};
+
+mod calls;
+mod clients;
+mod losses;
+mod sending;
+
+use crate::handed::Transports;
+use crate::words::Drainers;
+use sentry_base::callbacks::EventCallback;
+use sentry_engine::engine::Engine;
+use sentry_options::clientoptions::Callbacks;
+use sentry_plain::{Shared, Table};
+use std::alloc::{AllocError, Global};
+
+/// What lies under the lock: an engine, the drainers of the losses of its labels, and the transports of its clients.
+///
+/// Whenever the lock is free, the engine stands for a world; fewer logs, metrics and individual sessions wait in each
+/// client than are sent at once; each transaction keeps no more spans than its limit; for each label what was recorded
+/// and absorbed is what was reported and is pending; and while its words are open, what was absorbed is what its drainer
+/// took.
+#[derive(Drop)]
+pub struct Core<P, C, T> {
+    engine: Engine<P, C>,
+    // The engine's.
+    tag: u64,
+    // By the number of their label.
+    drainers: Drainers,
+    // By the number of their client.
+    transports: Transports<T>,
+    // The number of the next label.
+    next_label: u64,
+    alloc: Global,
+    pub ghost sound: { ∥ IsSound engine drainers ∥₁ },
+    pub ghost labelled: { AreLabelled tag drainers },
+}
+
+impl<P: EventCallback + Drop, C: Callbacks, T: Drop> Core<P, C, T> {
+    /// A core that holds nothing. The keys of its engine carry the tag.
+    #[tactic(auto, using(crate::proofs::Sound::first_sound, crate::proofs::Labels::none_labelled))]
+    pub(crate) fn new(alloc: Global, tag: u64) -> Result<Core<P, C, T>, AllocError> {
+        let transports = Shared::new(alloc, Table::new(alloc))?;
+        Ok(Core {
+            engine: Engine::new(alloc, tag),
+            tag,
+            drainers: Table::new(alloc),
+            transports,
+            next_label: 0,
+            alloc,
+        })
+    }
+
+    /// The engine, to read.
+    pub(crate) fn engine(&self) -> &Engine<P, C> {
+        &self.engine
+    }
+}

@@ -1,0 +1,103 @@
+//! Calls as values, under the lock.
+
+ghost use Rattle.std.specs.Prelude.{◌≡◌, Ok, true, IfOk, IfErr};
+ghost use Rattle.sentry_calls.specs.Steps.{step, takes_no_memory};
+ghost use Rattle.sentry_state.specs.Outcomes.{DoesWith};
+ghost use Rattle.sentry_lock.specs.Plain.{is_plain_call};
+
+use crate::handed::{Handed, Transports};
+use crate::locked::Core;
+use sentry_base::callbacks::EventCallback;
+use sentry_base::protocol::Refusal;
+use sentry_engine::call::{Answer, Call, ClientCall, HubCall, Reply, SpanCall};
+use sentry_options::clientoptions::Callbacks;
+use std::alloc::AllocError;
+
+fn client_call_can_hand_out<P, C>(call: &ClientCall<P, C>) -> bool {
+    match call {
+        ClientCall::Options(_)
+        | ClientCall::Dsn(_)
+        | ClientCall::IsEnabled(_)
+        | ClientCall::SampleShouldSend { .. }
+        | ClientCall::PrepareEvent { .. }
+        | ClientCall::CloneClient { .. }
+        | ClientCall::TakeReport(_) => false,
+        _ => true,
+    }
+}
+
+fn hub_call_can_hand_out<P>(call: &HubCall<P>) -> bool {
+    match call {
+        HubCall::NewHub { .. }
+        | HubCall::AddBreadcrumbs { .. }
+        | HubCall::LastEventId(_)
+        | HubCall::Client(_)
+        | HubCall::IsActive(_)
+        | HubCall::Scope(_)
+        | HubCall::PushScope(_)
+        | HubCall::NewHubFromTop(_)
+        | HubCall::BindClient { .. } => false,
+        _ => true,
+    }
+}
+
+// Whether a call can hand out envelopes: all others leave the losses in their words, and take no share of the transports.
+fn can_hand_out<P, C>(call: &Call<P, C>) -> bool {
+    match call {
+        Call::Client(call) => client_call_can_hand_out(call),
+        Call::Hub(call) => hub_call_can_hand_out(call),
+        Call::Span(SpanCall::FinishTransaction { .. }) => true,
+        Call::Span(_) => false,
+    }
+}
+
+impl<P: EventCallback + Drop, C: Callbacks, T: Drop> Core<P, C, T> {
+    // A share of the transports as they are, for a call that can hand out envelopes.
+    fn transports_for(&self, call: &Call<P, C>) -> Result<Option<Transports<T>>, AllocError> {
+        if !can_hand_out(call) {
+            return Ok(None);
+        }
+        Ok(Some(self.transports.clone()?))
+    }
+
+    // Makes one call of the engine.
+    fn apply_call(&mut self, call: Call<P, C>) -> Answer<P, C>
+        requires { is_plain_call call ≡ true }
+        ensures { DoesWith (takes_no_memory call) self.old.engine self.new.engine result (step P.gives C.meanings call) }
+    {
+        self.engine.apply(call)
+    }
+
+    /// Makes one call, which isn't made by a method of its own.
+    pub(crate) fn apply(&mut self, call: Call<P, C>) -> Result<Handed<Reply<P, C>, T>, Refusal>
+        requires { is_plain_call call ≡ true }
+        ensures done { IfOk result (λ handed. DoesWith (takes_no_memory call) self.old.engine self.new.engine
+            (Ok handed.out) (step P.gives C.meanings call)) }
+        ensures refused { IfErr result (λ _. self.new.engine ≡ self.old.engine) }
+    {
+        let transports = self.transports_for(&call)?;
+        let after = self.transports_after(&call)?;
+        let dropped = self.dropped_label(&call);
+        let out = self.apply_call(call)?;
+        if let Some(after) = after {
+            self.transports = after;
+        }
+        if let Some(label) = dropped {
+            self.forget_unused(label);
+        }
+        Ok(Handed { out, transports })
+    }
+
+    /// Drains the words of all labels, if the call can hand out envelopes, and makes the call.
+    pub(crate) fn drain_and_apply(
+        &mut self,
+        call: Call<P, C>,
+    ) -> Result<Handed<Reply<P, C>, T>, Refusal>
+        requires { is_plain_call call ≡ true }
+    {
+        if can_hand_out(&call) {
+            self.drain_all();
+        }
+        self.apply(call)
+    }
+}

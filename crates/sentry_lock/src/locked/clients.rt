@@ -1,0 +1,199 @@
+//! Clients that come and go, with their transports and the drainers of their losses.
+
+ghost use Rattle.std.specs.Prelude.{◌≡◌, None, Ok, Some, IfOk, IfErr, false};
+ghost use Rattle.std.specs.Option.{is_some};
+ghost use Rattle.sentry_base.specs.Losses.{no_losses};
+ghost use Rattle.sentry_calls.specs.Clients as clients;
+ghost use Rattle.sentry_plain.specs.Tables.{value_at};
+ghost use Rattle.sentry_state.specs.Books.{has_book};
+ghost use Rattle.sentry_state.specs.Outcomes.{Does};
+ghost use Rattle.sentry_state.specs.Worlds.{World, Stands};
+
+use crate::client::ClientSetup;
+use crate::handed::Transports;
+use crate::locked::Core;
+use sentry_base::callbacks::EventCallback;
+use sentry_base::protocol::{ClientKey, Label, Refusal};
+use sentry_client_reports::client_reports::CountedDrainer;
+use sentry_engine::call::{Call, ClientCall};
+use sentry_engine::engine::Out;
+use sentry_options::clientoptions::{Callbacks, ClientOptions};
+use sentry_plain::Shared;
+use std::alloc::{AllocError, Global};
+
+// The transports with one more, under this number.
+fn with_transport<T: Drop>(
+    alloc: Global,
+    transports: &Transports<T>,
+    number: u64,
+    transport: Option<Shared<T>>,
+) -> Result<Transports<T>, AllocError> {
+    let Some(transport) = transport else {
+        return transports.clone();
+    };
+    let mut table = transports.get().clone()?;
+    table.insert(number, transport)?;
+    Shared::new(alloc, table)
+}
+
+// The transports without the one under this number.
+fn without_transport<T: Drop>(
+    alloc: Global,
+    transports: &Transports<T>,
+    number: u64,
+) -> Result<Transports<T>, AllocError> {
+    let mut table = transports.get().clone()?;
+    drop(table.remove(number));
+    Shared::new(alloc, table)
+}
+
+// A share of the transport under this number.
+fn share_at<T: Drop>(
+    transports: &Transports<T>,
+    number: u64,
+) -> Result<Option<Shared<T>>, AllocError> {
+    match transports.get().get(number) {
+        Some(transport) => Ok(Some(transport.clone()?)),
+        None => Ok(None),
+    }
+}
+
+impl<P: EventCallback + Drop, C: Callbacks, T: Drop> Core<P, C, T> {
+    /// The label of the next client. Each is given once.
+    ///
+    /// `Full`: the labels are used up.
+    pub(crate) fn take_label(&mut self) -> Result<Label, Refusal> {
+        if self.next_label == u64::MAX {
+            return Err(Refusal::Full);
+        }
+        let label = Label {
+            tag: self.tag,
+            number: self.next_label,
+        };
+        self.next_label += 1;
+        Ok(label)
+    }
+
+    // The transports as they are once the call is done, if it changes them.
+    pub(crate) fn transports_after(
+        &self,
+        call: &Call<P, C>,
+    ) -> Result<Option<Transports<T>>, AllocError> {
+        let Call::Client(call) = call else {
+            return Ok(None);
+        };
+        match call {
+            ClientCall::CloneClient { client, now: _ } => {
+                let share = share_at(&self.transports, client.number)?;
+                let number = self.engine.next_client();
+                Ok(Some(with_transport(self.alloc, &self.transports, number, share)?))
+            }
+            ClientCall::DropClient(client) => Ok(Some(without_transport(
+                self.alloc,
+                &self.transports,
+                client.number,
+            )?)),
+            _ => Ok(None),
+        }
+    }
+
+    // The label of the client that a call drops.
+    pub(crate) fn dropped_label(&self, call: &Call<P, C>) -> Option<Label> {
+        match call {
+            Call::Client(ClientCall::DropClient(client)) => self.engine.client_label(*client),
+            _ => None,
+        }
+    }
+
+    // Makes a place for the drainer of a label: after the engine's call nothing may fail.
+    fn make_place(&mut self, number: u64) -> Result<(), AllocError>
+        ensures engine { self.new.engine ≡ self.old.engine }
+        ensures tag { self.new.tag ≡ self.old.tag }
+        ensures place { IfOk result (λ _. value_at self.new.drainers number ≡ Some None) }
+    {
+        self.drainers.insert(number, None)?;
+        Ok(())
+    }
+
+    // Adds a client, whose drainer has a place. If it is refused, the place stays without one.
+    fn add_at_place(
+        &mut self,
+        options: ClientOptions<C>,
+        transport: bool,
+        label: Label,
+        drainer: CountedDrainer,
+        now: u64,
+    ) -> Result<Out<ClientKey>, Refusal>
+        requires tag { label.tag ≡ self.old.tag }
+        requires free { (world : World P C) → Stands self.old.engine world → false ≡ has_book world label }
+        requires place { value_at self.old.drainers label.number ≡ Some None }
+        requires label { drainer.part.label ≡ label }
+        requires none { drainer.taken ≡ no_losses }
+        ensures done { IfOk result (λ out. Does self.old.engine self.new.engine (Ok out)
+            (clients.add_client C.meanings options transport label now)) }
+        ensures refused { IfErr result (λ _. self.new.engine ≡ self.old.engine) }
+    {
+        match self.engine.add_client(options, transport, label, now) {
+            Ok(out) => {
+                self.drainers.set(label.number, Some(drainer));
+                Ok(out)
+            }
+            Err(refusal) => Err(refusal),
+        }
+    }
+
+    /// Adds a client with the drainer of its words and its transport, and answers its key. `now` is the moment in
+    /// nanoseconds since the epoch.
+    ///
+    /// `ForeignLosses`: the label has another tag, or a client that is held names it. `Full`: the numbers are used up.
+    /// `OutOfMemory`.
+    pub(crate) fn add_client(
+        &mut self,
+        options: ClientOptions<C>,
+        transport: Option<T>,
+        label: Label,
+        drainer: CountedDrainer,
+        now: u64,
+    ) -> Result<Out<ClientKey>, Refusal>
+        requires label { drainer.part.label ≡ label }
+        requires none { drainer.taken ≡ no_losses }
+        ensures done { IfOk result (λ out. Does self.old.engine self.new.engine (Ok out)
+            (clients.add_client C.meanings options (is_some transport) label now)) }
+        ensures refused { IfErr result (λ _. self.new.engine ≡ self.old.engine) }
+    {
+        if label.tag != self.tag || self.engine.has_book(label) {
+            return Err(Refusal::ForeignLosses);
+        }
+        let has_transport = transport.is_some();
+        let share = match transport {
+            Some(transport) => Some(Shared::new(self.alloc, transport)?),
+            None => None,
+        };
+        let number = self.engine.next_client();
+        if number == u64::MAX {
+            return Err(Refusal::Full);
+        }
+        let transports = with_transport(self.alloc, &self.transports, number, share)?;
+        self.make_place(label.number)?;
+        let out = self.add_at_place(options, has_transport, label, drainer, now)?;
+        self.transports = transports;
+        Ok(out)
+    }
+
+    /// Adds a client that is so set up.
+    pub(crate) fn add_setup(
+        &mut self,
+        setup: ClientSetup<C>,
+        transport: Option<T>,
+        now: u64,
+    ) -> Result<ClientKey, Refusal> {
+        let ClientSetup {
+            options,
+            label,
+            recorder: _,
+            drainer,
+        } = setup;
+        let out = self.add_client(options, transport, label, drainer, now)?;
+        Ok(out.reply)
+    }
+}

@@ -1,0 +1,3 @@
+mod LimitLemmas
+mod QueueLemmas
+mod RecordingLemmas

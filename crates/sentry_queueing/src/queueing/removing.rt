@@ -1,0 +1,28 @@
+//! Envelopes without their limited items.
+ghost use Rattle.std.specs.Prelude.{◌≡◌};
+ghost use Rattle.sentry_queueing.specs.Limits.{other_items, without_limited};
+ghost use Rattle.sentry_queueing.specs.QueueHistories.{is_limited_by};
+
+use crate::queueing::limits::Limits;
+use sentry_base::protocol::{Envelope, EnvelopeItem};
+use sentry_plain::Items;
+
+// The items that are not limited, in place of all. It takes no memory.
+fn other_items(limits: &Limits, items: Items<EnvelopeItem>, now: u64) -> Items<EnvelopeItem>
+    ensures { result ≡ other_items (is_limited_by limits.now.until now) items }
+{
+    let mut items = items.into_vec();
+    items.retain(|item| !limits.is_item_limited(item, now));
+    Items::from_vec(items)
+}
+
+/// The envelope without its limited items. It takes no memory.
+pub(crate) fn without_limited(limits: &Limits, envelope: Envelope, now: u64) -> Envelope
+    ensures { result ≡ without_limited (is_limited_by limits.now.until now) envelope }
+{
+    let Envelope { header, items } = envelope;
+    Envelope {
+        header,
+        items: other_items(limits, items, now),
+    }
+}

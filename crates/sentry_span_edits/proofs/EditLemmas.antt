@@ -1,0 +1,22 @@
+-- What an engine has of a transaction that is edited.
+use Rattle.std.proofs.Common.{◌≡◌, refl, ap, sym, List}
+use Rattle.std.specs.Prelude.{Option, Some, None}
+use Rattle.std.specs.Option.{option_map}
+use Rattle.sentry_base.specs.declared.protocol.span.Span.{Span}
+use Rattle.sentry_span_edits.specs.Edits.{edit_held, edit_transaction, edit_unfinished}
+use Rattle.sentry_span_edits.specs.declared.edit.SpanEdit.{SpanEdit}
+use Rattle.sentry_span_table.specs.SpanLists.{TransactionState, kept_spans, plain_transaction, spans_left}
+use Rattle.sentry_span_table.specs.declared.table.records.Unfinished.{Unfinished}
+
+-- a change of what is unfinished leaves the spans that are kept
+spans_stay : (change : Unfinished → Unfinished) (unfinished : Option Unfinished) (kept : List Span)
+    → spans_left unfinished kept ≡ spans_left (option_map change unfinished) kept
+spans_stay change None kept = refl
+spans_stay change (Some unfinished) kept = refl
+
+-- an edit of what the engine has is what the engine has after the edit
+pub held_edited : (edit : SpanEdit) (state : TransactionState)
+    → edit_held edit (plain_transaction state) ≡ plain_transaction (edit_transaction edit state)
+held_edited edit state =
+    ap (λ spans. record (plain_transaction (edit_transaction edit state)) { spans = spans })
+    (spans_stay (edit_unfinished edit) state.unfinished (kept_spans state.tracing state.max_spans state.finished))

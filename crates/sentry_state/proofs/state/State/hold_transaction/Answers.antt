@@ -1,0 +1,19 @@
+use Rattle.std.proofs.Common.{◌≡◌, ◌∙◌, ◌+◌, ap}
+use Rattle.sentry_state.specs.declared.state.NextNumbers.{NextNumbers}
+use Rattle.sentry_state.proofs.SpanKeeping.{transaction_stored}
+use Rattle.sentry_state.proofs.state.State.hold_transaction.Goals as goal
+
+-- it stands under the number that is next, and the number after it is next
+pub returns-clause-in_world : goal.returns-clause-in_world
+returns-clause-in_world g c = λ world state s is. (
+  (λ i. record { tag = s.tag i; number = (s.next i).transaction }),
+  record {
+    tag = s.tag;
+    next = ap (λ (next : NextNumbers). record next { transaction = next.transaction + 1 }) s.next;
+    clients = s.clients;
+    hubs = c.expect_transaction.ensures ∙ s.hubs;
+    sessions = s.sessions;
+    books = s.books;
+    spans = c.in_ok-insert_transaction.ensures.ok ∙ transaction_stored c.args.self.now world s state c.args.transaction is;
+  },
+)

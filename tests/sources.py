@@ -1,0 +1,95 @@
+"""What the sources of crates/ declare: exports, functions, records. It reads files, and proves nothing."""
+import glob
+import os
+import re
+
+TOP = os.path.dirname(os.path.dirname(os.path.abspath(__file__)))
+CRATES = os.path.join(TOP, "crates")
+ITEM = re.compile(r"^pub (?:const )?(?:struct|enum|trait|type|fn|const) (\w+)", re.M)
+BLOCK = re.compile(r"^((?:impl|pub trait)\b[^{]*)\{$(.*?)^\}", re.M | re.S)
+
+
+class Checks:
+    """Counts what holds, and keeps a line for each thing that doesn't."""
+
+    def __init__(self):
+        self.passed, self.faults = 0, []
+
+    def check(self, holds, fault):
+        if holds:
+            self.passed += 1
+        else:
+            self.faults.append(fault)
+
+    def report(self):
+        """Prints the faults and the numbers of both. Answers the exit status."""
+        for fault in self.faults:
+            print(fault)
+        print(f"{self.passed} passed, {len(self.faults)} failed")
+        return 1 if self.faults else 0
+
+
+def read(*path):
+    with open(os.path.join(TOP, *path), encoding="utf-8") as file:
+        return file.read()
+
+
+def sources():
+    """The text of each source file of the repository."""
+    for file in sorted(glob.glob(os.path.join(CRATES, "*", "src", "**", "*.rt"), recursive=True)):
+        yield read(file)
+
+
+def module_file(path):
+    """The source of the module `(crate, module, ..)`, or None if that is no module."""
+    base = os.path.join(CRATES, path[0], "src", *path[1:])
+    file = os.path.join(base, "lib.rt") if len(path) == 1 else base + ".rt"
+    return file if os.path.isfile(file) else None
+
+
+def leaves(tree, prefix=()):
+    """The (path, name) of each leaf of a use tree such as `a::{b, c as d}`."""
+    if "{" in tree:
+        head, inner = tree.split("{", 1)
+        prefix += tuple(part for part in head.strip().split("::") if part)
+        for leaf in inner.rsplit("}", 1)[0].split(","):
+            if leaf.strip():
+                yield from leaves(leaf, prefix)
+    else:
+        path, _, name = tree.partition(" as ")
+        path = prefix + tuple(path.strip().split("::"))
+        yield path, name.strip() or path[-1]
+
+
+def exports(crate):
+    """Every public path below a crate. A module that is reached by two paths is gone through once."""
+    names, seen, left = set(), set(), [((crate,), "")]
+    while left:
+        module, prefix = left.pop(0)
+        if module in seen:
+            continue
+        seen.add(module)
+        text = re.sub(r"//.*", "", read(module_file(module)))
+        names.update(prefix + name for name in ITEM.findall(text))
+        found = [(module + (name,), name) for name in re.findall(r"^pub mod (\w+)", text, re.M)]
+        for tree in re.findall(r"^pub use ([^;]+);", text, re.M):
+            for path, name in leaves(tree):
+                path = (crate,) + path[1:] if path[0] == "crate" else path
+                found.append((path if module_file(path[:1]) else module + path, name))
+        for path, name in found:
+            names.add(prefix + name)
+            if module_file(path):
+                left.append((path, prefix + name + "::"))
+    return names
+
+
+def functions():
+    """The functions of each type and trait of the repository, by its name."""
+    of_type = {}
+    for text in sources():
+        for head, body in BLOCK.findall(re.sub(r"//.*", "", text)):
+            head = re.sub(r"^impl<.*?>(?= \w)", "", head.split("\n")[0])
+            name = re.search(r"\b[A-Z]\w*", head)
+            if name and " for " not in head:
+                of_type.setdefault(name.group(), set()).update(re.findall(r"^    (?:pub )?fn (\w+)", body, re.M))
+    return of_type
