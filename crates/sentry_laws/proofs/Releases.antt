@@ -3,11 +3,10 @@ use Rattle.std.proofs.Common.{◌≡◌, refl, ap, ◌∙◌, sym, subst, ℕ, �
 use Rattle.std.proofs.lemmas.Bool.Decides.{nat_tests}
 use Rattle.std.specs.Prelude.{Option, Some, None, if◌then◌else◌, ◌==◌, ◌&&◌, ◌||◌}
 use Rattle.std.specs.List.{list_any}
-use Rattle.sentry_plain.specs.Tables.{value_at, put, replace_at, without}
+use Rattle.sentry_plain.specs.Tables.{value_at, replace_at, without}
 use Rattle.sentry_plain.specs.Texts.{Bytes}
 use Rattle.sentry_base.specs.declared.protocol.keys.SessionKey.{SessionKey}
 use Rattle.sentry_base.specs.declared.protocol.keys.TransactionKey.{TransactionKey}
-use Rattle.sentry_base.specs.declared.protocol.session.SessionStatus.{SessionStatus}
 use Rattle.sentry_scope.specs.declared.scope.stack.Stack.{Stack}
 use Rattle.sentry_scope.specs.declared.scope.stack.StackLayer.{StackLayer}
 use Rattle.sentry_scope.specs.Stacks.{depth, pop, stack_of, stack_of_any, is_session, names_session}
@@ -15,7 +14,7 @@ use Rattle.sentry_sessions.specs.Sessions.{closed, session_of, pending_update}
 use Rattle.sentry_sessions.specs.declared.session.record.SessionStart.{SessionStart}
 use Rattle.sentry_hub_table.specs.declared.hub.Hub.{Hub}
 use Rattle.sentry_state.specs.Worlds.{World, SessionState}
-use Rattle.sentry_state.specs.Outcomes.{session_at, value_under, with_stack}
+use Rattle.sentry_state.specs.Outcomes.{session_at, transaction_at, value_under, with_stack}
 use Rattle.sentry_state.specs.Changes.{with_session, with_new_session}
 use Rattle.sentry_sending.specs.Sending.{Sending, send_nothing, send_some}
 use Rattle.sentry_sending.specs.SessionEnds.{is_session_named, end_session, end_unnamed_session, release_session}
@@ -24,7 +23,6 @@ use Rattle.sentry_span_edits.specs.Setters.{with_edited, with_found_edited}
 use Rattle.sentry_span_edits.specs.declared.edit.SpanEdit.{SpanEdit}
 use Rattle.sentry_span_edits.specs.declared.edit.SpanEdit.TheVariants.{Name}
 use Rattle.sentry_span_table.specs.SpanLists.{TransactionState}
-use Rattle.sentry_state.specs.Outcomes.{transaction_at}
 use Rattle.sentry_calls.specs.Hubs.{with_names}
 use Rattle.sentry_laws.specs.Reachable.{SessionsAreNamed}
 use Rattle.sentry_laws.proofs.Tables.{AreBelow, below_put, own_replaced}
