@@ -5,7 +5,13 @@ ghost use Rattle.sentry_calls.specs.Steps.{step, takes_no_memory};
 ghost use Rattle.sentry_engine.specs.Ends.{AtEnd, EndsIn};
 ghost use Rattle.sentry_laws.specs.OwnCalls.{IsIsolated, KeepsOptions};
 ghost use Rattle.sentry_laws.specs.PushPop.{PopUndoesPush};
-ghost use Rattle.sentry_laws.specs.Reachable.{NumbersAreFree, BooksAreOfClients, ClientsAreHeld, ActiveSpansAreHeld};
+ghost use Rattle.sentry_laws.specs.Reachable.{
+  NumbersAreFree,
+  BooksAreOfClients,
+  ClientsAreHeld,
+  ActiveSpansAreHeld,
+  SessionsAreNamed,
+};
 ghost use Rattle.sentry_laws.specs.Reports.{LabelsAddUp};
 ghost use Rattle.sentry_laws.specs.SentItems.{SendsAcceptedLogs, SendsAcceptedMetrics};
 ghost use Rattle.sentry_laws.specs.Sessions.{StatusStays, EndsOnce};
@@ -42,8 +48,9 @@ impl<P: EventCallback + Drop, C: Callbacks> Engine<P, C> {
     ///
     /// The laws of `sentry_laws` hold of these calls and answers: a hub shows what its own calls did (`hubs`), options
     /// of clients stay (`options`), accepted logs and metrics are sent (`logs`, `metrics`), spans are in the trace of
-    /// their transaction (`traces`), reports add up (`reports`), and what is named is held (`worlds`). The laws of parts
-    /// of a run hold too: a pop undoes its push (`layers`), a session's end stays (`status`) and is told once (`once`).
+    /// their transaction (`traces`), reports add up (`reports`), and what is named is held, as each session that is held
+    /// is named (`worlds`). The laws of parts of a run hold too: a pop undoes its push (`layers`), a session's end stays
+    /// (`status`) and is told once (`once`).
     ///
     /// `OutOfMemory`: no memory for the list of answers; then no call was made.
     pub fn run(
@@ -67,7 +74,7 @@ impl<P: EventCallback + Drop, C: Callbacks> Engine<P, C> {
             (λ last run. LabelsAddUp P.gives C.meanings (first_world tag) calls.items end.1.items last run)) }
         ensures worlds { IfOk result (λ end. AtEnd P.gives C.meanings tag calls.items end.1.items
             (λ last run. NumbersAreFree last × BooksAreOfClients last × ClientsAreHeld last
-            × ActiveSpansAreHeld last)) }
+            × ActiveSpansAreHeld last × SessionsAreNamed last)) }
         ensures layers { PopUndoesPush P.gives C.meanings }
         ensures status { StatusStays P.gives C.meanings }
         ensures once { EndsOnce P.gives C.meanings }

@@ -27,7 +27,7 @@ use Rattle.sentry_calls.specs.declared.call.hubs.HubCall.TheVariants.{NewHub, Ne
 use Rattle.sentry_calls.specs.declared.call.Reply.{Reply}
 use Rattle.sentry_calls.specs.declared.call.Reply.TheVariants as reply
 use Rattle.sentry_calls.specs.Steps.{step}
-use Rattle.sentry_laws.specs.OwnCalls.{Effect, client_added, client_cloned, hub_made, hub_made_from, hub_changed, hub_released, losses_absorbed, report_taken, effects, client_effects, hub_effects, on_client, on_hub, on_report}
+use Rattle.sentry_laws.specs.OwnCalls.{Effect, client_added, client_cloned, hub_made, hub_made_from, hub_changed, hub_released, losses_absorbed, report_taken, session_started, effects, client_effects, hub_effects, on_client, on_hub, on_report}
 use Rattle.sentry_laws.proofs.Trails.{is_own, own_effects, TellsBy}
 use Rattle.sentry_laws.proofs.Calls.{told_step}
 use Rattle.sentry_laws.specs.SentItems.{handed_in}
@@ -202,6 +202,7 @@ module _ {P C : Type 0} where
   silent_own (hub_released number) h = refl
   silent_own (losses_absorbed label losses) h = absurd cc
   silent_own (report_taken label report) h = absurd cc
+  silent_own (session_started number) h = refl
 
   loud-by : (b : Bool) (effect : Effect P C) (rest own : List (Effect P C)) → is_own effect ≡ b
       → (list_any is_loud own ≡ false → list_any is_loud rest ≡ false)

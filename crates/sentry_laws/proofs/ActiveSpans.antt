@@ -45,7 +45,7 @@ use Rattle.sentry_laws.proofs.Found.{same_number, found_put, found_replaced, fou
 use Rattle.sentry_laws.proofs.Keeping.{kept_by_run}
 use Rattle.sentry_laws.proofs.LabelBooks.{and_left, and_right, own_number}
 use Rattle.sentry_laws.proofs.Layers.{AllLayers, all_map, all_pushed, all_popped}
-use Rattle.sentry_laws.proofs.Numbers.{IsNumbered, client_numbered, numbered_change, none_numbered}
+use Rattle.sentry_laws.proofs.Numbered.{IsNumbered, client_numbered, numbered_change, none_numbered}
 use Rattle.sentry_laws.proofs.Tests.{fails_found, or_left, or_right}
 use Rattle.sentry_laws.proofs.Traces.{value_mapped}
 use Rattle.sentry_laws.proofs.Trails.{found_under}

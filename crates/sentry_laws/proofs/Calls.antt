@@ -41,6 +41,7 @@ use Rattle.sentry_calls.specs.Clients.{holds_active_span}
 use Rattle.sentry_state.specs.Clients.{new_client, is_client_named, has_session_of}
 use Rattle.sentry_state.specs.Changes.{with_session, with_breadcrumbs, is_session_number_left, next_hub_key}
 use Rattle.sentry_state.specs.Books.{has_book}
+use Rattle.sentry_sending.specs.SessionEnds.{release_session}
 use Rattle.sentry_captures.specs.Captures.{capture, captured_id, capture_event, message_event, capture_named_session, update_along, attachments_of}
 use Rattle.sentry_queues.specs.declared.flushes.Flush.TheVariants.{All, Due, Closing}
 use Rattle.sentry_queues.specs.Flushes.{flush_queues}
@@ -65,8 +66,10 @@ use Rattle.sentry_laws.specs.OwnCalls.{Effect, scope_edited, breadcrumbs_came, c
 use Rattle.sentry_laws.specs.Changes.{one, held_options, makes_hub, makes_hub_from, changes_hub, leaves_hub, notes_event_id, releases_hub, adds_client, clones_client, drops_client, mails, takes_report, absorbs}
 use Rattle.sentry_laws.specs.SentItems.{handed_in}
 use Rattle.sentry_laws.proofs.SpanTrails.{quiet_names, told_span_step}
-use Rattle.sentry_laws.proofs.Trails.{found_under, Told, told_trail, told_nothing, told_some, told_client, told_let, told_let_client, told_require, told_if, told_sending, told_mapped, quiet_last, quiet_more}
+use Rattle.sentry_laws.proofs.Trails.{found_under, Told, told_trail, told_named, told_nothing, told_some, told_client, told_let, told_let_client, told_require, told_if, told_sending, told_mapped, quiet_last, quiet_more}
 use Rattle.sentry_laws.proofs.SendingTrails.{flushes, flush_hubs, flushed_client, keeps_log, keeps_metric, ends, releases, replaces, found_released, release_spans}
+use Rattle.sentry_laws.proofs.Naming.{hub_replaced_named}
+use Rattle.sentry_laws.proofs.Releases.{all_released_named, popped_named, hub_released_named, renamed_named, replaced_named}
 use Rattle.sentry_laws.proofs.CaptureTrails.{fate_of, captures, loses_if_any, captures_session, found_captured}
 
 abbrev quiet : {P C T : Type 0} → T → List (Effect P C)
@@ -118,7 +121,7 @@ module _ {P C : Type 0} (meanings : C → Meanings) where
       told_require meanings None ForeignLosses (label.tag == world.tag) (λ own.
       told_require meanings None Full (nat_lt world.next.client (2 ^ 64 - 1)) (λ left.
       told_trail meanings None _
-      (one (adds_client world (new_client meanings options transport label now) now refl refl own)) refl))
+      (one (adds_client world (new_client meanings options transport label now) now refl refl own)) refl refl))
 
   told_clone : (key : ClientKey) (now : ℕ) (world : World P C)
       → Told meanings None world (λ made. client_effects {P = P} {C = C} meanings (on_client.CloneClient key now)
@@ -127,7 +130,7 @@ module _ {P C : Type 0} (meanings : C → Meanings) where
   told_clone key now world =
       told_some meanings None Stale (client_at world key) (λ client found.
       told_require meanings None Full (nat_lt world.next.client (2 ^ 64 - 1)) (λ left.
-      told_trail meanings None _ (one (clones_client world key client now found)) refl))
+      told_trail meanings None _ (one (clones_client world key client now found)) refl refl))
 
   told_drop : (key : ClientKey) (world : World P C) → Told meanings None world quiet (clients.drop_client key world)
   unfolding clients.drop_client
@@ -139,7 +142,7 @@ module _ {P C : Type 0} (meanings : C → Meanings) where
       let left = flushed_client All key world client found in
       told_trail meanings None tt (quiet_last meanings None (flushes meanings All key world).changes
       (drops_client (flush_queues All key world).after key left.0 client.label left.1 left.2
-      (ap (is_client_named key) (flush_hubs All key world) ∙ not_true _ unnamed))) refl))))
+      (ap (is_client_named key) (flush_hubs All key world) ∙ not_true _ unnamed))) refl refl))))
 
   told_options : (key : ClientKey) (world : World P C) → Told meanings None world quiet (clients.options key world)
   unfolding clients.options
@@ -184,7 +187,7 @@ module _ {P C : Type 0} (meanings : C → Meanings) where
       told_client meanings (Some envelope) Stale (client_at world key) _ (λ client found.
       told_if meanings (Some envelope) client.occupied
       (λ occupied. told_trail meanings (Some envelope) tt
-      (one (mails world key client envelope found occupied (inl refl))) refl)
+      (one (mails world key client envelope found occupied (inl refl))) refl refl)
       (λ empty. told_nothing meanings (Some envelope) tt refl))
 
   -- ---- events
@@ -199,7 +202,7 @@ module _ {P C : Type 0} (meanings : C → Meanings) where
         told_require meanings None Stale (holds_active_span world scope) (λ active.
         told_trail meanings None _ (loses_if_any meanings None world key client found
         (loss_reason (pipeline.prepare_event gives meanings (span_table world)
-        client.options scope fresh event).preparation)) refl))
+        client.options scope fresh event).preparation)) refl refl))
 
     told_client_capture : (key : ClientKey) (event : Event) (scope : Option (declared_scope.Scope P)) (fresh : Fresh)
         (world : World P C) → Told meanings None world quiet
@@ -209,7 +212,7 @@ module _ {P C : Type 0} (meanings : C → Meanings) where
         told_client meanings None Stale (client_at world key) _ (λ client found.
         told_require meanings None Stale (holds_active_span world scope) (λ active.
         told_trail meanings None _ (captures meanings None refl world key client found None (attachments_of scope) _ _
-        (fate_of gives meanings (span_table world) (plain_client client) scope fresh event)) refl))
+        (fate_of gives meanings (span_table world) (plain_client client) scope fresh event)) refl refl))
 
     told_capture : (key : HubKey) (event : Event) (fresh : Fresh) (world : World P C) → Told meanings None world quiet
         (capture_event gives meanings key event fresh world)
@@ -230,7 +233,7 @@ module _ {P C : Type 0} (meanings : C → Meanings) where
         (captures_session meanings None world client.label made.entry hub.stack.top.session (plain_client client) made))
         (notes_event_id _ key.number hub (record hub { last_event_id = Some (captured_id made.event) })
         (found_captured world client.label made.entry hub.stack.top.session session key.number hub
-        (found_hub key world hub found)) refl)) refl)))
+        (found_hub key world hub found)) refl)) refl refl)))
 
     told_message : (key : HubKey) (message : Bytes) (level : Level) (fresh : Fresh) (world : World P C)
         → Told meanings None world quiet (hubs.capture_message gives meanings key message level fresh world)
@@ -296,13 +299,13 @@ module _ {P C : Type 0} (meanings : C → Meanings) where
       (losses.take_report label world)
   unfolding losses.take_report
   told_take label world = told_require meanings None ForeignLosses (has_book world label)
-      (λ has. told_trail meanings None _ (one (takes_report world label has)) refl)
+      (λ has. told_trail meanings None _ (one (takes_report world label has)) refl refl)
 
   told_absorb : (label : Label) (quantities : List ℕ) (world : World P C) → Told meanings None world
       (λ _. losses_absorbed label quantities ∷ []) (losses.absorb label quantities world)
   unfolding losses.absorb
   told_absorb label quantities world = told_require meanings None ForeignLosses (has_book world label)
-      (λ has. told_trail meanings None _ (one (absorbs world label quantities has)) refl)
+      (λ has. told_trail meanings None _ (one (absorbs world label quantities has)) refl refl)
 
   -- ---- hubs
 
@@ -337,7 +340,7 @@ module _ {P C : Type 0} (meanings : C → Meanings) where
       told_require meanings None Stale (is_held_or_none world client) (λ held.
       told_require meanings None Stale (is_held (span_table world) scope.span) (λ active.
       told_require meanings None Full (nat_lt world.next.hub (2 ^ 64 - 1)) (λ left.
-      told_trail meanings None (next_hub_key world) (one (makes_hub world client scope held active)) refl)))
+      told_trail meanings None (next_hub_key world) (one (makes_hub world client scope held active)) refl refl)))
 
   told_new_from : (key : HubKey) (world : World P C)
       → Told meanings None world (λ made. hub_effects {P = P} {C = C} meanings (on_hub.NewHubFromTop key)
@@ -347,7 +350,7 @@ module _ {P C : Type 0} (meanings : C → Meanings) where
       told_some meanings None Stale (hub_at world key) (λ hub found.
       told_require meanings None Full (nat_lt world.next.hub (2 ^ 64 - 1)) (λ left.
       told_trail meanings None (next_hub_key world)
-      (one (makes_hub_from world key.number hub (found_hub key world hub found))) refl))
+      (one (makes_hub_from world key.number hub (found_hub key world hub found))) refl refl))
 
   came_by : (world : World P C) (breadcrumbs : List Breadcrumb) (hub : Hub P) → (length breadcrumbs == 0) ≡ false
       → change_layers meanings (held_options world) (breadcrumbs_came breadcrumbs) hub.stack ≡ add_under meanings
@@ -392,20 +395,20 @@ module _ {P C : Type 0} (meanings : C → Meanings) where
       told_if meanings None (length breadcrumbs == 0)
       (λ none. told_trail meanings None tt
       (one (leaves_hub world key.number hub (breadcrumbs_came breadcrumbs) here (came_none world breadcrumbs hub none)))
-      refl) (λ some.
+      refl refl) (λ some.
       told_let meanings None hub.stack.top.client
       (λ none. told_trail meanings None tt
       (one (leaves_hub world key.number hub (breadcrumbs_came breadcrumbs) here
-      (came_no_client world breadcrumbs hub some none))) refl) (λ client_key named_.
+      (came_no_client world breadcrumbs hub some none))) refl refl) (λ client_key named_.
       told_let_client meanings None (client_at world client_key) _ _
       (λ none. told_trail meanings None tt
       (one (leaves_hub world key.number hub (breadcrumbs_came breadcrumbs) here
-      (came_client world breadcrumbs hub client_key None some named_ none))) refl) (λ client held.
+      (came_client world breadcrumbs hub client_key None some named_ none))) refl refl) (λ client held.
       told_trail meanings None tt
       (one (changes_hub world key.number hub (with_breadcrumbs hub client.options.plain.max_breadcrumbs
       (call_on_each (meanings client.options.callbacks).before_breadcrumb breadcrumbs))
       (breadcrumbs_came breadcrumbs) here
-      (sym (came_client world breadcrumbs hub client_key (Some client) some named_ held)) tt)) refl))))
+      (sym (came_client world breadcrumbs hub client_key (Some client) some named_ held)) tt)) refl refl))))
 
   told_configure : (key : HubKey) (edits : List (ScopeEdit P)) (now : ℕ) (world : World P C)
       → Told meanings None world (λ _. hub_changed key.number (scope_edited edits) ∷ [])
@@ -417,16 +420,20 @@ module _ {P C : Type 0} (meanings : C → Meanings) where
       let here = found_hub key world hub found in
       let renames = renames_after (span_table world) edits hub.stack.top.scope [] in
       told_if meanings None (list_any is_clear edits)
-      (λ clears. told_trail meanings None tt
+      (λ clears. told_named meanings None tt
       (quiet_names meanings (quiet_last meanings None (releases meanings key.number hub now world here).changes
       (changes_hub _ key.number (with_session hub None)
       (with_scope (with_session hub None) (edit_all edits hub.stack.top.scope)) (scope_edited edits)
       (found_released key.number hub now world here) refl
-      (ap (λ t. all_name_held_spans t edits) (release_spans key.number hub now world) ∙ active))) renames) refl)
+      (ap (λ t. all_name_held_spans t edits) (release_spans key.number hub now world) ∙ active))) renames) refl
+      (λ n h. renamed_named renames _ (hub_replaced_named (release_session key.number hub now world).after key.number
+      (with_session hub None) (with_scope (with_session hub None) (edit_all edits hub.stack.top.scope))
+      (found_released key.number hub now world here) (λ k named. named)
+      (all_released_named key.number hub now world here n h))))
       (λ keeps. told_trail meanings None tt
       (quiet_names meanings
       (one (changes_hub world key.number hub (with_scope hub (edit_all edits hub.stack.top.scope)) (scope_edited edits)
-      here refl active)) renames) refl)))
+      here refl active)) renames) refl refl)))
 
   told_push : (key : HubKey) (world : World P C)
       → Told meanings None world (λ _. hub_changed key.number layer_pushed ∷ []) (layers.push_scope key world)
@@ -435,7 +442,7 @@ module _ {P C : Type 0} (meanings : C → Meanings) where
       told_some meanings None Stale (hub_at world key) (λ hub found.
       told_trail meanings None _
       (one (changes_hub world key.number hub (with_stack hub (push hub.stack)) layer_pushed
-      (found_hub key world hub found) refl tt)) refl)
+      (found_hub key world hub found) refl tt)) refl refl)
 
   told_pop : (key : HubKey) (given now : ℕ) (world : World P C)
       → Told meanings None world (λ _. hub_changed key.number (layer_popped given) ∷ [])
@@ -445,11 +452,11 @@ module _ {P C : Type 0} (meanings : C → Meanings) where
       told_some meanings None Stale (hub_at world key) (λ hub found.
       let here = found_hub key world hub found in
       told_require meanings None OutOfOrder (depth hub.stack == given && nat_lt 0 given) (λ top.
-      told_trail meanings None tt (quiet_last meanings None (releases meanings key.number hub now world here).changes
+      told_named meanings None tt (quiet_last meanings None (releases meanings key.number hub now world here).changes
       (changes_hub _ key.number (with_session hub None) (with_stack hub (pop hub.stack)) (layer_popped given)
       (found_released key.number hub now world here)
       (popped_same hub.stack.below hub.stack (with_session hub None).stack (above_ground (depth hub.stack) given top))
-      (same_depth (depth hub.stack) given top))) refl))
+      (same_depth (depth hub.stack) given top))) refl (popped_named key.number hub now world here)))
 
   told_release : (key : HubKey) (now : ℕ) (world : World P C)
       → Told meanings None world (λ _. hub_released key.number ∷ []) (layers.release_hub key now world)
@@ -457,11 +464,13 @@ module _ {P C : Type 0} (meanings : C → Meanings) where
   told_release key now world =
       told_some meanings None Stale (hub_at world key) (λ hub found.
       told_require meanings None ScopesOpen (depth hub.stack == 0) (λ alone.
-      told_trail meanings None tt
+      told_named meanings None tt
       (quiet_last meanings None (releases meanings key.number hub now world (found_hub key world hub found)).changes
       (releases_hub _ key.number (with_session hub None)
       (found_released key.number hub now world (found_hub key world hub found))
-      (none_below (depth hub.stack) alone))) refl))
+      (none_below (depth hub.stack) alone))) refl
+      (hub_released_named key.number hub now world (found_hub key world hub found)
+      (none_below (depth hub.stack) alone))))
 
   told_bind : (key : HubKey) (client : Option ClientKey) (world : World P C)
       → Told meanings None world (λ _. hub_changed key.number (client_bound client) ∷ [])
@@ -472,7 +481,7 @@ module _ {P C : Type 0} (meanings : C → Meanings) where
       told_require meanings None Stale (is_held_or_none world client) (λ held.
       told_trail meanings None tt
       (one (changes_hub world key.number hub (with_client hub client) (client_bound client)
-      (found_hub key world hub found) refl held)) refl))
+      (found_hub key world hub found) refl held)) refl refl))
 
   -- ---- sessions
 
@@ -487,8 +496,9 @@ module _ {P C : Type 0} (meanings : C → Meanings) where
       told_let meanings None (start_of client_key client.options.plain hub.stack.top.scope.user fresh.uuid fresh.now)
       (λ none. told_nothing meanings None _ refl) (λ start is.
       told_require meanings None Full (is_session_number_left world) (λ left.
-      told_trail meanings None tt (replaces meanings key.number hub fresh.now start world
-      (found_hub key world hub found)).changes refl)))))
+      told_named meanings None tt (replaces meanings key.number hub fresh.now start world
+      (found_hub key world hub found)).changes refl
+      (replaced_named key.number hub fresh.now start world (found_hub key world hub found)))))))
 
   told_end : (key : HubKey) (status : SessionStatus) (now : ℕ) (world : World P C) → Told meanings None world quiet
       (sessions.end_session_with_status key status now world)

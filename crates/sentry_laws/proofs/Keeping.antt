@@ -1,4 +1,4 @@
--- What each change keeps, each run keeps.
+-- What each change or each call keeps, each run keeps.
 use Rattle.std.proofs.Common.{sym, subst, List, [], ◌∷◌}
 use Rattle.std.specs.Prelude.{Option, Result, Ok, Err}
 use Rattle.sentry_base.specs.Callbacks.{Partial}
@@ -29,6 +29,24 @@ module _ {P C : Type 0} (gives : P → Partial) (meanings : C → Meanings) wher
       (subst (λ answer. TellsBy meanings (handed_in call) world (effects meanings call) answer
       (step gives meanings call world).after) may.0 (told_step gives meanings call world).tells)
 
+  -- what each call that is accepted keeps
+  module _ (Holds : World P C → Type 0)
+      (kept : (call : Call P C) (out : Out (Reply P C)) (world next : World P C) → May gives meanings world call (Ok out)
+      next → Holds world → Holds next) where
+    answered : (call : Call P C) (answer : Result (Out (Reply P C)) Refusal) (world next : World P C)
+        → May gives meanings world call answer next → Holds world → Holds next
+    answered call (Ok out) world next may h = kept call out world next may h
+    answered call (Err refusal) world next may h = subst Holds (sym may.1) h
+
+    pub kept_by_calls : (calls : List (Call P C)) (answers : List (Result (Out (Reply P C)) Refusal))
+        (world last : World P C) → Run gives meanings world calls answers last → Holds world → Holds last
+    kept_by_calls [] [] world last run h = subst Holds (sym run) h
+    kept_by_calls (call ∷ calls) (answer ∷ answers) world last run h =
+        kept_by_calls calls answers run.0 last run.2 (answered call answer world run.0 run.1 h)
+    kept_by_calls [] (answer ∷ answers) world last run h = absurd run
+    kept_by_calls (call ∷ calls) [] world last run h = absurd run
+
+  -- what each change keeps
   module _ (Holds : World P C → Type 0)
       (kept : (given : Option Envelope) (old new : World P C) (some : List (Effect P C))
       (sent : List (ClientKey × Envelope)) → Change meanings given old some sent new → Holds old → Holds new) where
@@ -45,8 +63,5 @@ module _ {P C : Type 0} (gives : P → Partial) (meanings : C → Meanings) wher
 
     pub kept_by_run : (calls : List (Call P C)) (answers : List (Result (Out (Reply P C)) Refusal))
         (world last : World P C) → Run gives meanings world calls answers last → Holds world → Holds last
-    kept_by_run [] [] world last run h = subst Holds (sym run) h
-    kept_by_run (call ∷ calls) (answer ∷ answers) world last run h =
-        kept_by_run calls answers run.0 last run.2 (kept_by_call call answer world run.0 run.1 h)
-    kept_by_run [] (answer ∷ answers) world last run h = absurd run
-    kept_by_run (call ∷ calls) [] world last run h = absurd run
+    kept_by_run calls answers world last run h =
+        kept_by_calls Holds (λ call out. kept_by_call call (Ok out)) calls answers world last run h

@@ -3,11 +3,14 @@ pub mod Found
 pub mod Increasing
 pub mod Tests
 pub mod Keeping
+pub mod Numbered
+pub mod Naming
 pub mod Trails
 pub mod Parts
 pub mod SendingTrails
 pub mod CaptureTrails
 pub mod SpanTrails
+pub mod Releases
 pub mod Calls
 pub mod Isolation
 pub mod SentBatches
@@ -24,3 +27,4 @@ pub mod Numbers
 pub mod Traces
 pub mod Layers
 pub mod ActiveSpans
+pub mod NamedSessions

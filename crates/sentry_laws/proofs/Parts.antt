@@ -64,7 +64,7 @@ module _ {P C X : Type 0} (part : World P C → X) (no_books : (world : World P 
 
   module _ (no_sessions : (world : World P C) (sessions : List (ℕ × SessionState))
       → part (record world { sessions = sessions }) ≡ part world) where
-    end_part : (key : SessionKey) (status : Option SessionStatus) (now : ℕ) (world : World P C)
+    pub end_part : (key : SessionKey) (status : Option SessionStatus) (now : ℕ) (world : World P C)
         → part (end_session key status now world).after ≡ part world
     unfolding end_session
     end_part key status now world =

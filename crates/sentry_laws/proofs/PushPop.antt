@@ -38,13 +38,14 @@ use Rattle.sentry_calls.specs.Layers as layer_calls
 use Rattle.sentry_calls.specs.Runs.{May, Run}
 use Rattle.sentry_calls.specs.Steps.{step, hub_step}
 use Rattle.sentry_span_calls.specs.Replies.{map_answer}
-use Rattle.sentry_laws.specs.OwnCalls.{Effect, LayerChange, scope_edited, breadcrumbs_came, client_bound, layer_pushed, layer_popped, session_named, hub_changed, hub_made, hub_made_from, hub_released, losses_absorbed, report_taken, client_added, client_cloned, effects, client_effects, hub_effects, on_client, on_hub, on_report, change_layers, add_under}
+use Rattle.sentry_laws.specs.OwnCalls.{Effect, LayerChange, scope_edited, breadcrumbs_came, client_bound, layer_pushed, layer_popped, session_named, hub_changed, hub_made, hub_made_from, hub_released, losses_absorbed, report_taken, session_started, client_added, client_cloned, effects, client_effects, hub_effects, on_client, on_hub, on_report, change_layers, add_under}
 use Rattle.sentry_laws.specs.Changes.{Change, Changes, nothing, one, both, held_options, IsAllowed, after_arrival, envelopes_on_arrival, makes_hub, makes_hub_from, changes_hub, leaves_hub, notes_event_id, releases_hub, adds_client, clones_client, drops_client, arrives, mails, loses, takes_report, absorbs, starts_session, changes_session, ends_session, starts_transaction, starts_span, changes_spans}
 use Rattle.sentry_laws.specs.SentItems.{handed_in}
 use Rattle.sentry_laws.specs.PushPop.{pops, LeavesOpen, stack_at, PopUndoesPush}
 use Rattle.sentry_laws.proofs.Tables.{AreBelow, below_put, below_replaced, below_without, own_replaced, others_put}
 use Rattle.sentry_laws.proofs.Found.{same_number, found_replaced, found_without}
 use Rattle.sentry_laws.proofs.SentBatches.{found_below}
+use Rattle.sentry_laws.proofs.Tests.{any_first, any_second}
 use Rattle.sentry_laws.proofs.SendingTrails.{found_released}
 use Rattle.sentry_laws.proofs.Trails.{found_under, is_own, own_effects, Trail, TellsBy}
 use Rattle.sentry_laws.proofs.Calls.{told_step}
@@ -71,16 +72,6 @@ same_depth deep given top = let same : (deep == given) ≡ true = and_left (deep
 
 same_value : {X : Type 0} (o : Option X) (x y : X) → o ≡ Some x → o ≡ Some y → x ≡ y
 same_value o x y p q = cc
-
-module _ {A : Type 0} (test : A → Bool) where
-  any_first : (xs ys : List A) → list_any test (xs ++ ys) ≡ false → list_any test xs ≡ false
-  any_first [] ys h = refl
-  any_first (x ∷ xs) ys h = ap (λ b. b || list_any test xs) (or_left (test x) _ h) ∙ any_first xs ys
-      (or_right (test x) _ h)
-
-  any_second : (xs ys : List A) → list_any test (xs ++ ys) ≡ false → list_any test ys ≡ false
-  any_second [] ys h = h
-  any_second (x ∷ xs) ys h = any_second xs ys (or_right (test x) _ h)
 
 module _ {P : Type 0} where
   -- the stack of all layers of a stack
@@ -314,6 +305,7 @@ module _ {P C : Type 0} (meanings : C → Meanings) (n : ℕ) (base : List (Stac
   session_unpopped (hub_released number) h = refl
   session_unpopped (losses_absorbed label losses) h = refl
   session_unpopped (report_taken label report) h = refl
+  session_unpopped (session_started session) h = refl
 
   unpopped-at : (b : Bool) (effect : Effect P C) (rest : List (Effect P C)) → is_own effect ≡ b
       → (list_any is_popped (own_effects rest) ≡ false → list_any is_popped rest ≡ false)

@@ -43,7 +43,7 @@ use Rattle.sentry_calls.specs.declared.call.hubs.HubCall.{HubCall}
 use Rattle.sentry_calls.specs.declared.call.hubs.HubCall.TheVariants.{NewHub, NewHubFromTop}
 use Rattle.sentry_calls.specs.declared.call.Reply.{Reply}
 use Rattle.sentry_calls.specs.declared.call.Reply.TheVariants as reply
-use Rattle.sentry_laws.specs.OwnCalls.{Effect, client_added, client_cloned, hub_made, hub_made_from, hub_changed, hub_released, losses_absorbed, report_taken, effects, client_effects, hub_effects, on_client, on_hub, on_report}
+use Rattle.sentry_laws.specs.OwnCalls.{Effect, client_added, client_cloned, hub_made, hub_made_from, hub_changed, hub_released, losses_absorbed, report_taken, session_started, effects, client_effects, hub_effects, on_client, on_hub, on_report}
 use Rattle.sentry_laws.specs.Changes.{Change, Changes, nothing, one, both, is_batch_or_report, Arrival, log_came, metric_came, session_ended, flush_came, after_arrival, envelopes_on_arrival, makes_hub, makes_hub_from, changes_hub, leaves_hub, notes_event_id, releases_hub, adds_client, clones_client, drops_client, arrives, mails, loses, takes_report, absorbs, starts_session, changes_session, ends_session, starts_transaction, starts_span, changes_spans}
 use Rattle.sentry_laws.specs.Losses.{told_by, reported}
 use Rattle.sentry_laws.specs.Reports.{told_by_item, told_by_items, own_items, told_by_envelopes, has_label, told_by_reply, told_by_answer, history_of, told_since, ReportsAddUp}
@@ -199,6 +199,7 @@ module _ (label : Label) (i : ℕ) where
     session_silent (hub_changed number change) h = refl
     session_silent (hub_released number) h = refl
     session_silent (losses_absorbed other losses) h = refl
+    session_silent (session_started session) h = refl
 
     own-by : (b : Bool) (effect : Effect P C) (rest : List (Effect P C)) → is_own effect ≡ b
         → told_by_effects (own_effects rest) ≡ told_by_effects rest

@@ -25,7 +25,7 @@ use Rattle.sentry_sending.specs.Sessions.{replace_session}
 use Rattle.sentry_queues.specs.declared.flushes.Flush.{Flush}
 use Rattle.sentry_queues.specs.Flushes.{flush_queues, flushed_envelopes, after_flush}
 use Rattle.sentry_queues.specs.Telemetry.{accept_log, accept_metric, keep_log, keep_metric}
-use Rattle.sentry_laws.specs.OwnCalls.{hub_changed, session_named}
+use Rattle.sentry_laws.specs.OwnCalls.{hub_changed, session_named, session_started}
 use Rattle.sentry_laws.specs.Changes.{Changes, one, both, log_came, metric_came, session_ended, flush_came, changes_hub, arrives, loses, starts_session, ends_session}
 use Rattle.sentry_laws.proofs.Tables.{own_replaced}
 use Rattle.sentry_laws.proofs.Parts.{flush_part, queue_update_part, release_part}
@@ -36,17 +36,22 @@ tag-by true o x h = refl
 tag-by false o x h = absurd cc
 
 module _ {P C : Type 0} where
-  -- ---- the hubs, the tag and the spans stay
+  -- ---- the hubs, the tag, the next numbers and the spans stay
 
   pub release_hubs : (number : ℕ) (hub : Hub P) (now : ℕ) (world : World P C)
       → (release_session number hub now world).after.hubs ≡ replace_at world.hubs number (with_session hub None)
   release_hubs number hub now world = release_part (λ (w : World P C). w.hubs) (λ w b. refl) (λ w c. refl) (λ w s. refl)
       number hub now world
 
-  release_tag : (number : ℕ) (hub : Hub P) (now : ℕ) (world : World P C)
+  pub release_tag : (number : ℕ) (hub : Hub P) (now : ℕ) (world : World P C)
       → (release_session number hub now world).after.tag ≡ world.tag
   release_tag number hub now world = release_part (λ (w : World P C). w.tag) (λ w b. refl) (λ w c. refl) (λ w s. refl)
       number hub now world
+
+  pub release_next : (number : ℕ) (hub : Hub P) (now : ℕ) (world : World P C)
+      → (release_session number hub now world).after.next ≡ world.next
+  release_next number hub now world = release_part (λ (w : World P C). w.next) (λ w b. refl) (λ w c. refl)
+      (λ w s. refl) number hub now world
 
   pub release_spans : (number : ℕ) (hub : Hub P) (now : ℕ) (world : World P C)
       → span_table (release_session number hub now world).after ≡ span_table world
@@ -55,12 +60,12 @@ module _ {P C : Type 0} where
 
   -- ---- the other sessions stay
 
-  some_sessions : {X : Type 0} (world : World P C) (o : Option X) (go : X → Sending P C)
+  pub some_sessions : {X : Type 0} (world : World P C) (o : Option X) (go : X → Sending P C)
       → ((x : X) → (go x).after.sessions ≡ world.sessions) → (send_some world o go).after.sessions ≡ world.sessions
   some_sessions world None go h = refl
   some_sessions world (Some x) go h = h x
 
-  queue_update_sessions : (key : ClientKey) (update : SessionUpdate) (world : World P C)
+  pub queue_update_sessions : (key : ClientKey) (update : SessionUpdate) (world : World P C)
       → (queue_update key update world).after.sessions ≡ world.sessions
   queue_update_sessions key update world = queue_update_part (λ (w : World P C). w.sessions) (λ w b. refl) (λ w c. refl)
       key update world
@@ -283,8 +288,8 @@ module _ {P C : Type 0} (meanings : C → Meanings) where
 
   pub replaces : (number : ℕ) (hub : Hub P) (now : ℕ) (start : SessionStart) (world : World P C)
       → value_at world.hubs number ≡ Some hub
-      → Sends meanings None world (hub_changed number (session_named None) ∷ hub_changed number
-      (session_named (Some (record {
+      → Sends meanings None world (session_started world.next.session ∷ hub_changed number (session_named None)
+      ∷ hub_changed number (session_named (Some (record {
         tag = world.tag;
         number =
             (release_session number hub now (with_new_session start world)).after.next.session;
@@ -295,8 +300,7 @@ module _ {P C : Type 0} (meanings : C → Meanings) where
       let begun = with_new_session start world in
       let released = release_session number hub now begun in
       let but = release_but counted number hub now begun in
-      let same : released.after.next ≡ world.next =
-      ap (λ (w : World P C). w.next) (release_but world.next number hub now begun).after in
+      let same : released.after.next ≡ world.next = release_next number hub now begun in
       let tag : released.after.tag ≡ world.tag = release_tag number hub now begun in
       let freed : Changes meanings None (record begun { next = counted }) (hub_changed number (session_named None) ∷ [])
       released.sent (record released.after { next = counted }) =
@@ -308,7 +312,7 @@ module _ {P C : Type 0} (meanings : C → Meanings) where
       (releases number hub now (record begun { next = counted }) found).changes) in
       record {
         changes = subst (λ (n : NextNumbers). Changes meanings None world
-            (hub_changed number (session_named None) ∷ hub_changed number
+            (session_started world.next.session ∷ hub_changed number (session_named None) ∷ hub_changed number
             (session_named (Some (record { tag = world.tag; number = n.session }))) ∷ []) released.sent
             (record released.after {
               next = record n { session = n.session + 1 };
@@ -317,7 +321,7 @@ module _ {P C : Type 0} (meanings : C → Meanings) where
                   (with_session hub (Some (record { tag = released.after.tag; number = n.session })));
             })) (sym same)
             (subst (λ t. Changes meanings None world
-            (hub_changed number (session_named None) ∷ hub_changed number
+            (session_started world.next.session ∷ hub_changed number (session_named None) ∷ hub_changed number
             (session_named (Some (record { tag = world.tag; number = world.next.session }))) ∷ []) released.sent
             (record released.after {
               next = counted;

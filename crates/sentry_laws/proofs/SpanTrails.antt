@@ -191,12 +191,12 @@ module _ {P C : Type 0} (meanings : C → Meanings) where
   unfolding change
   told_change by (key_of.Transaction key) world =
       told_some meanings None Stale (plain_transaction_at world key)
-      (λ held found. told_trail meanings None tt (edits_held by key world) refl)
+      (λ held found. told_trail meanings None tt (edits_held by key world) refl refl)
   told_change by (key_of.Span key) world =
       told_some meanings None Stale (span_at world key) (λ held found.
       told_trail meanings None tt
       (one (changes_spans world _ _ (changes_span key.number held (edit_span_record by held)
-      (found_under world.tag world.spans key.tag key.number held found) refl (span_trace by held.span)))) refl)
+      (found_under world.tag world.spans key.tag key.number held found) refl (span_trace by held.span)))) refl refl)
 
   told_start : (key : HubKey) (context : TransactionContext) (start : ℕ) (fresh : Fresh) (world : World P C)
       → Silent world (start_transaction_with_timestamp meanings key context start fresh world)
@@ -207,7 +207,7 @@ module _ {P C : Type 0} (meanings : C → Meanings) where
       told_trail meanings None (next_transaction_key world)
       (one (starts_transaction world _
       (started_new meanings hub.stack.top.client (option_and_then (plain_client_at world) hub.stack.top.client)
-      context start fresh))) refl))
+      context start fresh))) refl refl))
 
   told_continue : (name op : Bytes) (span : Option TransactionOrSpanKey) (fresh : Fresh) (world : World P C)
       → Silent world (continue_from_span name op span fresh world)
@@ -223,7 +223,7 @@ module _ {P C : Type 0} (meanings : C → Meanings) where
       told_some meanings None Stale (place_in (span_table world) parent) (λ place found.
       told_require meanings None Full (is_span_number_left world) (λ left.
       told_trail meanings None (next_span_key world)
-      (one (starts_span world parent place (child_of place op description id start) found refl refl)) refl))
+      (one (starts_span world parent place (child_of place op description id start) found refl refl)) refl refl))
 
   told_finish : (key : SpanKey) (moment : ℕ) (world : World P C) → Silent world (finish_span key moment world)
   unfolding finish_span
@@ -235,7 +235,7 @@ module _ {P C : Type 0} (meanings : C → Meanings) where
       told_trail meanings None tt
       (both (one (changes_spans world _ _ (changes_span key.number held done here refl refl)))
       (finishes-in (with_span key.number done world) key.number done (transaction_at world held.transaction)
-      (own_replaced world.spans key.number done held here) refl)) refl))
+      (own_replaced world.spans key.number done held here) refl)) refl refl))
 
   told_by_tracing : {T : Type 0} (tracing : TracingState) (world : World P C) (untraced unsampled : Outcome P C T)
       (sampled : ℕ → Outcome P C T)
@@ -253,15 +253,15 @@ module _ {P C : Type 0} (meanings : C → Meanings) where
       told_some meanings None Stale (hub_at world hub_key) (λ hub hub_found.
       told_let meanings None held.unfinished (λ none. told_nothing meanings None tt refl) (λ unfinished is.
       told_by_tracing held.tracing world _ _ _
-      (told_trail meanings None tt (closes key world) refl)
+      (told_trail meanings None tt (closes key world) refl refl)
       (told_trail meanings None tt (both (closes key world) (client_loses unfinished.client _ (with_closed key world)))
-      refl)
+      refl refl)
       (λ rate. told_let_client meanings None (client_at world unfinished.client) _ _
-      (λ none. told_trail meanings None tt (closes key world) refl) (λ client client_found.
+      (λ none. told_trail meanings None tt (closes key world) refl refl) (λ client client_found.
       told_trail meanings None tt (both (closes key world)
       (mails_from client.occupied world (with_closed key world) unfinished.client client _
       (closed_books key.number (transaction_at world key) world)
-      (closed_client key.number (transaction_at world key) world unfinished.client ∙ client_found) refl refl)) refl)))))
+      (closed_client key.number (transaction_at world key) world unfinished.client ∙ client_found) refl refl)) refl refl)))))
 
   told_discard : (name : TransactionOrSpanKey) (world : World P C) → Silent world (discard name world)
   unfolding discard
@@ -272,12 +272,12 @@ module _ {P C : Type 0} (meanings : C → Meanings) where
       told_require meanings None StillNamed (not (has_span_of (span_table world) key)) (λ spanless.
       told_trail meanings None tt
       (one (changes_spans world _ _ (drops_transaction key state.0 state.1 (not_true _ unnamed)
-      (not_true _ spanless)))) refl)))
+      (not_true _ spanless)))) refl refl)))
   told_discard (key_of.Span key) world =
       told_some meanings None Stale (span_at world key) (λ held found.
       told_require meanings None StillNamed (not (is_active_on (key_of.Span key) world.hubs)) (λ unnamed.
       told_trail meanings None tt (one (changes_spans world _ _ (drops_span key held found (not_true _ unnamed))))
-      refl))
+      refl refl))
 
   told_read : {T : Type 0} (of_transaction : TransactionRecord → T) (of_span : SpanRecord → T)
       (name : TransactionOrSpanKey) (world : World P C) → Silent world (read of_transaction of_span name world)

@@ -1,5 +1,5 @@
 -- Whether something in a table passes a test, after a change of the table.
-use Rattle.std.proofs.Common.{◌≡◌, ◌<◌, ◌+◌, refl, ap, ◌∙◌, sym, ℕ, List, [], ◌∷◌, Bool, true, false, cond, arith}
+use Rattle.std.proofs.Common.{◌≡◌, ◌<◌, ◌+◌, refl, ap, ◌∙◌, sym, ℕ, List, [], ◌∷◌, ◌++◌, Bool, true, false, cond, arith}
 use Rattle.std.proofs.lemmas.Bool.Decides.{nat_tests}
 use Rattle.std.specs.Prelude.{Some, ◌||◌}
 use Rattle.std.specs.List.{list_any}
@@ -33,6 +33,25 @@ pub or_right : (a b : Bool) → (a || b) ≡ false → b ≡ false
 or_right true b h = absurd cc
 or_right false b h = h
 
+or_first : (a b c : Bool) → (a ≡ true → b ≡ true) → (a || c) ≡ true → (b || c) ≡ true
+or_first true b c more h = ap (λ d. d || c) (more refl)
+or_first false b c more h = or_true b c h
+
+pub or_rest : (a b c : Bool) → (b ≡ true → c ≡ true) → (a || b) ≡ true → (a || c) ≡ true
+or_rest true b c more h = refl
+or_rest false b c more h = more h
+
+-- what none of two lists has, neither of them has
+module _ {X : Type 0} (test : X → Bool) where
+  pub any_first : (xs ys : List X) → list_any test (xs ++ ys) ≡ false → list_any test xs ≡ false
+  any_first [] ys h = refl
+  any_first (x ∷ xs) ys h =
+      ap (λ b. b || list_any test xs) (or_left (test x) _ h) ∙ any_first xs ys (or_right (test x) _ h)
+
+  pub any_second : (xs ys : List X) → list_any test (xs ++ ys) ≡ false → list_any test ys ≡ false
+  any_second [] ys h = h
+  any_second (x ∷ xs) ys h = any_second xs ys (or_right (test x) _ h)
+
 module _ {X : Type 0} (test : X → Bool) where
   -- a value of the table passes the test
   abbrev pub passes : List (ℕ × X) → Bool
@@ -65,6 +84,23 @@ module _ {X : Type 0} (test : X → Bool) where
   passes_replaced [] n x y found same = refl
   passes_replaced (e ∷ es) n x y found same = replaced-at (is_at (nat_cmp n) e.0) e es n x y found same
       (λ f. passes_replaced es n x y f same)
+
+  raised-at : (b : Bool) (e : ℕ × X) (es : List (ℕ × X)) (n : ℕ) (x y : X) → cond b (Some e.1) (value_at es n) ≡ Some y
+      → (test y ≡ true → test x ≡ true) → passes (e ∷ es) ≡ true
+      → (value_at es n ≡ Some y → passes es ≡ true → passes (replace_at es n x) ≡ true)
+      → passes (cond b ((e.0, x) ∷ es) (e ∷ replace_at es n x)) ≡ true
+  raised-at true e es n x y found more h rest =
+      let here : e.1 ≡ y = cc in
+      or_first (test e.1) (test x) (passes es) (λ t. more (sym (ap test here) ∙ t)) h
+  raised-at false e es n x y found more h rest =
+      or_rest (test e.1) (passes es) (passes (replace_at es n x)) (rest found) h
+
+  -- another value that passes the test if the old one does
+  pub passes_raised : (m : List (ℕ × X)) (n : ℕ) (x y : X) → value_at m n ≡ Some y → (test y ≡ true → test x ≡ true)
+      → passes m ≡ true → passes (replace_at m n x) ≡ true
+  passes_raised [] n x y found more h = h
+  passes_raised (e ∷ es) n x y found more h = raised-at (is_at (nat_cmp n) e.0) e es n x y found more h
+      (λ f. passes_raised es n x y f more)
 
   without-at : (b : Bool) (e : ℕ × X) (es : List (ℕ × X)) (n : ℕ) (y : X) → cond b (Some e.1) (value_at es n) ≡ Some y
       → test y ≡ false

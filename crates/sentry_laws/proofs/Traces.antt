@@ -40,7 +40,8 @@ use Rattle.sentry_laws.specs.Traces.{KeptSpansAreInTrace, HeldSpansAreInTrace}
 use Rattle.sentry_laws.proofs.Found.{same_number, found_put, found_replaced, found_without, all_by, all_without}
 use Rattle.sentry_laws.proofs.Keeping.{kept_by_run}
 use Rattle.sentry_laws.proofs.LabelBooks.{own_number}
-use Rattle.sentry_laws.proofs.Numbers.{IsNumbered, client_numbered, numbered_change, none_numbered, free_from}
+use Rattle.sentry_laws.proofs.Numbered.{IsNumbered, client_numbered, numbered_change, none_numbered}
+use Rattle.sentry_laws.proofs.Numbers.{free_from}
 use Rattle.sentry_laws.proofs.Tests.{fails_found}
 use Rattle.sentry_laws.proofs.Trails.{found_under}
 

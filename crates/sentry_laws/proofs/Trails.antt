@@ -2,6 +2,7 @@
 use Rattle.std.proofs.Common.{◌≡◌, refl, sym, subst, ℕ, List, [], ◌∷◌, ◌++◌, Bool, true, false, cond}
 use Rattle.std.proofs.lemmas.List.{append-nil}
 use Rattle.std.specs.Prelude.{Option, Some, None, Result, Ok, Err, ◌==◌, if◌then◌else◌}
+use Rattle.std.specs.List.{list_any}
 use Rattle.std.specs.Option.{option_map}
 use Rattle.sentry_plain.specs.Tables.{value_at}
 use Rattle.sentry_base.specs.declared.protocol.envelope.Envelope.{Envelope}
@@ -14,8 +15,11 @@ use Rattle.sentry_state.specs.Worlds.{World, ClientState, plain_client}
 use Rattle.sentry_state.specs.Outcomes.{Outcome, require_some, let_some, require, reply_with, value_under}
 use Rattle.sentry_sending.specs.Sending.{Sending, send_nothing, send_some, reply_sending}
 use Rattle.sentry_span_calls.specs.Replies.{map_reply, map_answer}
-use Rattle.sentry_laws.specs.OwnCalls.{Effect, hub_changed, session_named}
+use Rattle.sentry_laws.specs.OwnCalls.{Effect, hub_changed, session_named, session_started}
 use Rattle.sentry_laws.specs.Changes.{Change, Changes, nothing, one, both}
+use Rattle.sentry_laws.specs.Reachable.{SessionsAreNamed}
+use Rattle.sentry_laws.proofs.Numbered.{IsNumbered}
+use Rattle.sentry_laws.proofs.Naming.{is_unnaming, names_kept}
 
 under-at : {X : Type 0} (b : Bool) (o : Option X) (x : X) → cond b o None ≡ Some x → o ≡ Some x
 under-at true o x h = h
@@ -29,6 +33,7 @@ found_under tag entries key_tag number x h = under-at (key_tag == tag) (value_at
 module _ {P C : Type 0} where
   abbrev pub is_own : Effect P C → Bool
   is_own (hub_changed number (session_named session)) = false
+  is_own (session_started number) = false
   is_own _ = true
 
   -- the effects, sessions aside
@@ -37,12 +42,13 @@ module _ {P C : Type 0} where
   own_effects (effect ∷ rest) = cond (is_own effect) (effect ∷ own_effects rest) (own_effects rest)
 
 module _ {P C : Type 0} (meanings : C → Meanings) (given : Option Envelope) where
-  -- changes whose effects, sessions aside, are these
+  -- changes whose effects, sessions aside, are these, and after which each session that is held is named as before
   pub record Trail (world : World P C) (own : List (Effect P C)) (sent : List (ClientKey × Envelope))
       (after : World P C) : Type 0 where
     pub effects : List (Effect P C)
     pub changes : Changes meanings given world effects sent after
     pub same : own_effects effects ≡ own
+    pub names : IsNumbered world → SessionsAreNamed world → SessionsAreNamed after
 
   abbrev pub TellsBy : {T : Type 0} → World P C → (T → List (Effect P C)) → Result (Out T) Refusal → World P C → Type 0
   TellsBy world own (Ok out) after = Trail world (own out.reply) out.sent after
@@ -73,14 +79,22 @@ module _ {P C : Type 0} (meanings : C → Meanings) (given : Option Envelope) wh
   -- ---- outcomes
 
   module _ {T : Type 0} {world : World P C} {own : T → List (Effect P C)} where
+    pub told_named : (reply : T) {sent : List (ClientKey × Envelope)} {after : World P C} {effects : List (Effect P C)}
+        → Changes meanings given world effects sent after → own_effects effects ≡ own reply
+        → (IsNumbered world → SessionsAreNamed world → SessionsAreNamed after)
+        → Told world own (reply_with reply sent after)
+    told_named reply {sent} {after} {effects} t same names =
+        record { tells = record { effects = effects; changes = t; same = same; names = names } }
+
+    -- by these changes no session starts, and no layer gives one up
     pub told_trail : (reply : T) {sent : List (ClientKey × Envelope)} {after : World P C} {effects : List (Effect P C)}
         → Changes meanings given world effects sent after → own_effects effects ≡ own reply
+        → list_any is_unnaming effects ≡ false
         → Told world own (reply_with reply sent after)
-    told_trail reply {sent} {after} {effects} t same =
-        record { tells = record { effects = effects; changes = t; same = same } }
+    told_trail reply t same calm = told_named reply t same (λ n h. names_kept meanings t calm n h)
 
     pub told_nothing : (reply : T) → own reply ≡ [] → Told world own (reply_with reply [] world)
-    told_nothing reply same = told_trail reply (nothing world) (sym same)
+    told_nothing reply same = told_trail reply (nothing world) (sym same) refl
 
     pub told_some : {X : Type 0} (refusal : Refusal) (o : Option X) {go : X → Outcome P C T}
         → ((x : X) → o ≡ Some x → Told world own (go x)) → Told world own (require_some refusal world o go)
@@ -119,7 +133,7 @@ module _ {P C : Type 0} (meanings : C → Meanings) (given : Option Envelope) wh
 
     pub told_sending : (reply : T) {sending : Sending P C} → Sends world [] sending → own reply ≡ []
         → Told world own (reply_sending reply sending)
-    told_sending reply s same = told_trail reply s.changes (sym same)
+    told_sending reply s same = told_trail reply s.changes (sym same) refl
 
   mapped-by : {T U : Type 0} (world : World P C) (own : U → List (Effect P C)) (f : T → U)
       (answer : Result (Out T) Refusal) (after : World P C)

@@ -1,5 +1,6 @@
 -- What the laws refuse.
-use Rattle.std.proofs.Common.{◌≡◌, ◌≢◌, ◌<◌, ◌+◌, ◌%◌, ◌^◌, ap, ◌∙◌, sym, subst, ℕ, [], ◌∷◌, arith}
+use Rattle.std.proofs.Common.{◌≡◌, ◌≢◌, ◌<◌, ◌+◌, ◌%◌, ◌^◌, ap, ◌∙◌, sym, subst, ℕ, [], ◌∷◌, true, false, arith}
+use Rattle.sentry_hub_table.specs.Hubs.{is_session_named}
 use Rattle.std.specs.Prelude.{slice_index}
 use Rattle.std.specs.List.{AllByRecursion}
 use Rattle.sentry_base.specs.Callbacks.{Partial}
@@ -12,7 +13,7 @@ use Rattle.sentry_laws.proofs.Losses.{books_balance}
 use Rattle.sentry_laws.proofs.Sessions.{status_stays}
 use Rattle.sentry_options.specs.Meanings.{Meanings}
 use Rattle.sentry_batches.specs.Batches.{queued_items, accepted_items}
-use Rattle.sentry_laws.specs.Wrong.{DerivedHubLeavesMaker, SilentFlushIsRefused, SecondReportIsRefused, LaterCrashIsRefused, ForeignSpanIsRefused}
+use Rattle.sentry_laws.specs.Wrong.{DerivedHubLeavesMaker, SilentFlushIsRefused, SecondReportIsRefused, LaterCrashIsRefused, ForeignSpanIsRefused, OutlivingSessionIsRefused}
 
 module _ (P C : Type 0) (meanings : C → Meanings) where
   pub derived_leaves : DerivedHubLeavesMaker P C meanings
@@ -46,3 +47,8 @@ pub foreign_refused : (P C : Type 0) → ForeignSpanIsRefused P C
 foreign_refused P C world key transaction span rest found keeps foreign traced =
     foreign (subst (AllByRecursion (λ (s : Span). s.trace_id ≡ transaction.context.trace_id)) keeps
     (traced key transaction found)).0
+
+pub outliving_refused : (P C : Type 0) → OutlivingSessionIsRefused P C
+outliving_refused P C world key session none held named =
+    let no : false ≡ true = ap (is_session_named key) (sym none) ∙ named key session held in
+    absurd cc

@@ -43,7 +43,7 @@ use Rattle.sentry_state.specs.Books.{with_book, with_entry, pending_report, has_
 use Rattle.sentry_sending.specs.Sending.{send}
 use Rattle.sentry_queues.specs.declared.flushes.Flush.{Flush}
 use Rattle.sentry_queues.specs.Flushes.{after_flush, flushed_envelopes, batch_envelopes}
-use Rattle.sentry_laws.specs.OwnCalls.{Effect, LayerChange, client_added, client_cloned, hub_made, hub_made_from, hub_changed, hub_released, losses_absorbed, report_taken, scope_edited, client_bound, layer_popped, session_named, change_layers}
+use Rattle.sentry_laws.specs.OwnCalls.{Effect, LayerChange, client_added, client_cloned, hub_made, hub_made_from, hub_changed, hub_released, losses_absorbed, report_taken, session_started, scope_edited, client_bound, layer_popped, session_named, change_layers}
 
 -- ---- what comes to the queues of a client
 
@@ -190,7 +190,7 @@ pub data Change {P C : Type 0} (meanings : C → Meanings) (given : Option Envel
       (with_entry world label (drained_losses losses))
   -- a session under the next number, which no layer names yet
   starts_session : (world : World P C) (start : SessionStart)
-      → Change meanings given world [] []
+      → Change meanings given world (session_started world.next.session ∷ []) []
       (record (with_new_session start world) { next = record world.next { session = world.next.session + 1 } })
   changes_session : (world : World P C) (number : ℕ) (old new : SessionState) (later : List SessionEntry)
       → value_at world.sessions number ≡ Some old

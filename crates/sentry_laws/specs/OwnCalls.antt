@@ -85,6 +85,8 @@ pub data Effect (P C : Type 0) : Type 0 where
   losses_absorbed : Label → List ℕ → Effect P C
   -- the report of a label was taken, if there was one
   report_taken : Label → Option ClientReport → Effect P C
+  -- a session started under this number
+  session_started : ℕ → Effect P C
 
 module _ {P C : Type 0} where
   abbrev pub on_client : Reply P C → (ClientKey → Effect P C) → List (Effect P C)
@@ -137,7 +139,7 @@ module _ {P C : Type 0} (meanings : C → Meanings) where
   hub_effects call made = []
 
   -- what an accepted call with this reply changes in the clients' options, the hubs' layers and the books of losses;
-  -- names of sessions don't count
+  -- sessions that start, and names of sessions, don't count
   abbrev pub effects : Call P C → Reply P C → List (Effect P C)
   effects (group.Client call) made = client_effects call made
   effects (group.Hub call) made = hub_effects call made

@@ -3,12 +3,14 @@ use Rattle.std.specs.Prelude.{◌≡◌, ◌≤◌, ℕ, true, Some, None, List,
 use Rattle.std.specs.List.{AllByRecursion}
 use Rattle.sentry_plain.specs.Tables.{value_at}
 use Rattle.sentry_base.specs.declared.protocol.keys.Label.{Label}
+use Rattle.sentry_base.specs.declared.protocol.keys.SessionKey.{SessionKey}
+use Rattle.sentry_hub_table.specs.Hubs.{is_session_named}
 use Rattle.sentry_hub_table.specs.declared.hub.Hub.{Hub}
 use Rattle.sentry_scope.specs.declared.scope.stack.StackLayer.{StackLayer}
 use Rattle.sentry_span_table.specs.SpanTables.{is_held}
 use Rattle.sentry_state.specs.Books.{has_book, has_client_of}
-use Rattle.sentry_state.specs.Outcomes.{is_held_or_none}
-use Rattle.sentry_state.specs.Worlds.{World, span_table}
+use Rattle.sentry_state.specs.Outcomes.{is_held_or_none, session_at}
+use Rattle.sentry_state.specs.Worlds.{World, SessionState, span_table}
 
 -- nothing stands under a number from this one on
 abbrev pub IsFreeFrom : {X : Type 0} → ℕ → List (ℕ × X) → Type 0
@@ -41,3 +43,9 @@ module _ {P C : Type 0} where
   -- a transaction or a span that the scope of a layer names is held
   abbrev pub ActiveSpansAreHeld : World P C → Type 0
   ActiveSpansAreHeld world = EachLayer (λ layer. is_held (span_table world) layer.scope.span ≡ true) world
+
+  -- a session that is held is named by a layer of some hub
+  abbrev pub SessionsAreNamed : World P C → Type 0
+  SessionsAreNamed world =
+      (key : SessionKey) (session : SessionState) → session_at world key ≡ Some session
+      → is_session_named key world.hubs ≡ true

@@ -5,6 +5,7 @@ use Rattle.sentry_plain.specs.Tables.{value_at}
 use Rattle.sentry_base.specs.Callbacks.{Partial}
 use Rattle.sentry_base.specs.declared.protocol.keys.ClientKey.{ClientKey}
 use Rattle.sentry_base.specs.declared.protocol.keys.HubKey.{HubKey}
+use Rattle.sentry_base.specs.declared.protocol.keys.SessionKey.{SessionKey}
 use Rattle.sentry_base.specs.declared.protocol.keys.TransactionKey.{TransactionKey}
 use Rattle.sentry_base.specs.declared.protocol.log.Log.{Log}
 use Rattle.sentry_base.specs.declared.protocol.losses.TheConstants.{LOSS_QUANTITIES}
@@ -20,7 +21,7 @@ use Rattle.sentry_scope.specs.Stacks.{one_layer}
 use Rattle.sentry_hub_table.specs.declared.hub.Hub.{Hub}
 use Rattle.sentry_state.specs.declared.state.Out.{Out}
 use Rattle.sentry_span_table.specs.declared.table.records.TransactionRecord.{TransactionRecord}
-use Rattle.sentry_state.specs.Outcomes.{plain_transaction_at}
+use Rattle.sentry_state.specs.Outcomes.{plain_transaction_at, session_at}
 use Rattle.sentry_state.specs.Worlds.{World, ClientState, SessionState, plain_session, starting_world}
 use Rattle.sentry_calls.specs.Runs.{Run}
 use Rattle.sentry_calls.specs.declared.call.Call.{Call}
@@ -31,6 +32,7 @@ use Rattle.sentry_calls.specs.declared.call.Reply.{Reply}
 use Rattle.sentry_calls.specs.declared.call.Reply.TheVariants as reply
 use Rattle.sentry_laws.specs.OwnCalls.{IsIsolated, without_sessions}
 use Rattle.sentry_laws.specs.Losses.{came_in, reported}
+use Rattle.sentry_laws.specs.Reachable.{SessionsAreNamed}
 use Rattle.sentry_laws.specs.SentItems.{SendsAcceptedLogs}
 use Rattle.sentry_laws.specs.Traces.{KeptSpansAreInTrace}
 
@@ -81,3 +83,9 @@ ForeignSpanIsRefused P C =
     (world : World P C) (key : TransactionKey) (transaction : TransactionRecord) (span : Span) (rest : List Span)
     → plain_transaction_at world key ≡ Some transaction → transaction.spans ≡ span ∷ rest
     → span.trace_id ≢ transaction.context.trace_id → KeptSpansAreInTrace world → ⊥
+
+-- a session that is still held where no hub is left
+abbrev pub OutlivingSessionIsRefused : Type 0 → Type 0 → Type 0
+OutlivingSessionIsRefused P C =
+    (world : World P C) (key : SessionKey) (session : SessionState) → world.hubs ≡ []
+    → session_at world key ≡ Some session → SessionsAreNamed world → ⊥

@@ -13,9 +13,10 @@ ghost use Rattle.sentry_laws.specs.OwnCalls.{IsIsolated, KeepsOptions, OwnAloneS
 ghost use Rattle.sentry_laws.specs.Losses.{BooksBalance, AbsorbedStays};
 ghost use Rattle.sentry_laws.specs.Reports.{ReportsAddUp};
 ghost use Rattle.sentry_laws.specs.Reachable.{NumbersAreFree, BooksAreOfClients, ClientsAreHeld, ActiveSpansAreHeld};
+ghost use Rattle.sentry_laws.specs.Reachable.{SessionsAreNamed};
 ghost use Rattle.sentry_laws.specs.PushPop.{PopUndoesPush};
 ghost use Rattle.sentry_laws.specs.Wrong.{DerivedHubLeavesMaker, SilentFlushIsRefused, SecondReportIsRefused};
-ghost use Rattle.sentry_laws.specs.Wrong.{LaterCrashIsRefused, ForeignSpanIsRefused};
+ghost use Rattle.sentry_laws.specs.Wrong.{LaterCrashIsRefused, ForeignSpanIsRefused, OutlivingSessionIsRefused};
 ghost use Rattle.sentry_laws.specs.Sessions.{StatusStays, EndsOnce};
 ghost use Rattle.sentry_laws.specs.Traces.{KeptSpansAreInTrace, HeldSpansAreInTrace};
 ghost use Rattle.sentry_laws.specs.SentItems.{SendsAcceptedLogs, SendsAcceptedMetrics};
@@ -55,13 +56,15 @@ pub fn ended_sessions_stay_ended<P, C>()
 {}
 
 /// What the laws refuse: a hub that writes into the hub that it was made from, a flush that hands out nothing, a second
-/// report of the same losses, a session that was ended and crashes later, and a span of another trace.
+/// report of the same losses, a session that was ended and crashes later, a span of another trace, and a session that
+/// is still held where no hub is left.
 pub fn wrong_runs_are_refused<P, C>()
     ensures isolation { (meanings : C → Meanings) → DerivedHubLeavesMaker P C meanings }
     ensures logs { SilentFlushIsRefused P C }
     ensures reports { SecondReportIsRefused }
     ensures status { (gives : P → Partial) (meanings : C → Meanings) → LaterCrashIsRefused gives meanings }
     ensures trace { ForeignSpanIsRefused P C }
+    ensures sessions { OutlivingSessionIsRefused P C }
 {}
 
 /// Whatever came to a book of losses: at each index, what its reports told and what is pending is what was recorded and
@@ -77,7 +80,8 @@ pub fn own_calls_suffice<P, C>()
 {}
 
 /// In every world that calls lead to: the next numbers and all that come after them are free, a label has a book of
-/// losses exactly where a client has the label, and what layers name is held: clients, transactions and spans.
+/// losses exactly where a client has the label, what layers name is held: clients, transactions and spans; and a session
+/// that is held is named by a layer.
 pub fn worlds_are_consistent<P, C>()
     ensures numbers { (gives : P → Partial) (meanings : C → Meanings) (tag start : ℕ) (calls : List (Call P C))
         (answers : List (Result (Out (Reply P C)) Refusal)) (last : World P C)
@@ -91,6 +95,9 @@ pub fn worlds_are_consistent<P, C>()
     ensures spans { (gives : P → Partial) (meanings : C → Meanings) (tag start : ℕ) (calls : List (Call P C))
         (answers : List (Result (Out (Reply P C)) Refusal)) (last : World P C)
         → Run gives meanings (starting_world tag start) calls answers last → ActiveSpansAreHeld last }
+    ensures sessions { (gives : P → Partial) (meanings : C → Meanings) (tag start : ℕ) (calls : List (Call P C))
+        (answers : List (Result (Out (Reply P C)) Refusal)) (last : World P C)
+        → Run gives meanings (starting_world tag start) calls answers last → SessionsAreNamed last }
 {}
 
 /// After any run, each span that a transaction keeps has its trace id; and each span that is held belongs to a

@@ -5,6 +5,7 @@ use Rattle.sentry_state.specs.Worlds.{first_world}
 use Rattle.sentry_laws.proofs.ActiveSpans.{active_spans_held}
 use Rattle.sentry_laws.proofs.Isolation.{isolated, keeps_options, named_clients_held}
 use Rattle.sentry_laws.proofs.LabelBooks.{books_of_clients}
+use Rattle.sentry_laws.proofs.NamedSessions.{sessions_named}
 use Rattle.sentry_laws.proofs.Numbers.{numbers_are_free}
 use Rattle.sentry_laws.proofs.PushPop.{pop_undoes_push}
 use Rattle.sentry_laws.proofs.Reports.{reports_add_up}
@@ -63,6 +64,7 @@ returns-clause-worlds g c = λ last run. (
   books_of_clients g.P.EventCallback.gives g.C.Callbacks.meanings c.args.tag 0 c.args.calls.items c.loop-call.answers.items last run,
   named_clients_held g.P.EventCallback.gives g.C.Callbacks.meanings c.args.tag 0 c.args.calls.items c.loop-call.answers.items last run,
   active_spans_held g.P.EventCallback.gives g.C.Callbacks.meanings c.args.tag 0 c.args.calls.items c.loop-call.answers.items last run,
+  sessions_named g.P.EventCallback.gives g.C.Callbacks.meanings c.args.tag 0 c.args.calls.items c.loop-call.answers.items last run,
 )
 
 pub returns-clause-layers : goal.returns-clause-layers
