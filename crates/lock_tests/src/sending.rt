@@ -7,6 +7,7 @@ use crate::workshop::{
 use sentry_base::callbacks::BoxedEventCallback;
 use sentry_base::protocol::{Envelope, Refusal, Uuid};
 use sentry_engine::call::{Call, HubCall, Reply};
+use sentry_engine::engine::ScopeGuard;
 use sentry_lock::scope_edits::ScopeEdits;
 use sentry_lock::transport::{
     BoxedTransport, NoOpTransport, Transport, TransportFactory, TransportOptions,
@@ -148,10 +149,29 @@ fn a_setup_gives_the_options_of_its_transport_once(rt: HostRuntime) -> Result<()
     Ok(())
 }
 
-fn both<T: Drop>(alloc: Global, first: T, second: T) -> Result<Vec<T>, AllocError>
+fn both(
+    alloc: Global,
+    first: Call<BoxedEventCallback, Callbacks>,
+    second: Call<BoxedEventCallback, Callbacks>,
+) -> Result<Vec<Call<BoxedEventCallback, Callbacks>>, AllocError>
     ensures { IfOk result (λ both. both.items ≡ first ∷ second ∷ []) }
 {
     Ok(vec![in alloc; first, second]?)
+}
+
+// Pops the layer of a guard. A guard that is refused is taken apart.
+fn pop_scope<R: Wait, T: Transport + Drop>(
+    rt: &R,
+    client: &Client<T>,
+    guard: ScopeGuard,
+) -> Result<(), Refusal> {
+    match client.core().pop_scope(rt, guard, 0) {
+        Ok(()) => Ok(()),
+        Err((refusal, guard)) => {
+            guard.into_parts();
+            Err(refusal)
+        }
+    }
 }
 
 // A hub with a client, and a message on it.
@@ -187,10 +207,7 @@ fn message_on<R: Wait, T: Transport + Drop>(
     let calls = both(alloc, configure, capture)?;
     client.core().call_all(rt, calls)?;
     let guard = client.core().push_scope(rt, hub)?;
-    if let Err((refusal, guard)) = client.core().pop_scope(rt, guard, 0) {
-        guard.into_parts();
-        return Err(refusal);
-    }
+    pop_scope(rt, client, guard)?;
     match client
         .core()
         .call(rt, Call::Hub(HubCall::LastEventId(hub)))?
