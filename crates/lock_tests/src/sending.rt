@@ -208,13 +208,13 @@ fn message_on<R: Wait, T: Transport + Drop>(
     client.core().call_all(rt, calls)?;
     let guard = client.core().push_scope(rt, hub)?;
     pop_scope(rt, client, guard)?;
-    match client
+    let reply = client
         .core()
-        .call(rt, Call::Hub(HubCall::LastEventId(hub)))?
-    {
-        Reply::LastEvent(last) => Ok(last),
-        _ => Ok(None),
-    }
+        .call(rt, Call::Hub(HubCall::LastEventId(hub)))?;
+    let Reply::LastEvent(last) = reply else {
+        return Ok(None);
+    };
+    Ok(last)
 }
 
 #[test]
