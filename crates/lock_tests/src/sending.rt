@@ -62,8 +62,8 @@ fn two_threads_hand_over_each_message_once(rt: HostRuntime) -> Result<(), Fail> 
     let envelopes = transport.take(alloc);
     assert_eq!(rt; envelopes.len(), 200);
     let mut expected = Vec::new(alloc);
-    for number in 1..201u128 {
-        expected.push(number)?;
+    for number in 1..201u64 {
+        expected.push(u128::from(number))?;
     }
     assert!(rt; ids(alloc, &envelopes)? == expected);
     Ok(())
