@@ -1,7 +1,8 @@
-//! The types that users configure, over boxed callbacks.
+//! The types that users configure, over boxed callbacks and transports.
 use sentry_base::callbacks::{
     BoxedBreadcrumbCallback, BoxedEventCallback, BoxedLogCallback, BoxedMetricCallback,
 };
+use sentry_lock::transport::BoxedTransport;
 use sentry_options::integration::BoxedIntegration;
 use sentry_options::sampler::BoxedTracesSampler;
 
@@ -29,3 +30,22 @@ pub type Stack = sentry_scope::scope::Stack<BoxedEventCallback>;
 
 /// A client, or none, and a scope.
 pub type StackLayer = sentry_scope::scope::StackLayer<BoxedEventCallback>;
+
+/// A share of an engine under its lock, with the transports of its clients.
+pub type SharedCore = sentry_lock::shared_core::SharedCore<
+    BoxedEventCallback,
+    ClientCallbacks,
+    BoxedTransport,
+>;
+
+/// What lies under the lock.
+pub type Core = sentry_lock::locked::Core<BoxedEventCallback, ClientCallbacks, BoxedTransport>;
+
+/// What a client is made of.
+pub type ClientSetup = sentry_lock::client::ClientSetup<ClientCallbacks>;
+
+/// A client, by its key and a share of the core that holds it.
+pub type Client = sentry_lock::client::Client<BoxedEventCallback, ClientCallbacks, BoxedTransport>;
+
+/// A copy of a scope to read, and the setters of a scope, whose calls are done later as one.
+pub type ScopeEdits = sentry_lock::scope_edits::ScopeEdits<BoxedEventCallback>;

@@ -1,5 +1,5 @@
 //! The core of an error-reporting SDK, with each name where the Rust crate `sentry-core` has it. The layers below are
-//! generic in the callbacks that a caller hands in; here these are boxes.
+//! generic in the callbacks and transports that a caller hands in; here these are boxes.
 #![tactic(auto)]
 
 mod boxed;
@@ -10,7 +10,10 @@ pub mod queueing;
 pub mod types;
 pub mod utils;
 
-pub use boxed::{ClientCallbacks, ClientOptions, Scope, ScopeEdit, Stack, StackLayer};
+pub use boxed::{
+    Client, ClientCallbacks, ClientOptions, ClientSetup, Core, Scope, ScopeEdit, ScopeEdits,
+    SharedCore, Stack, StackLayer,
+};
 pub use sentry_base::callbacks::{
     BoxedBreadcrumbCallback, BoxedEventCallback, BoxedLogCallback, BoxedMetricCallback,
     BreadcrumbCallback, EventCallback, LogCallback, MetricCallback,
@@ -20,6 +23,9 @@ pub use sentry_base::protocol::{Breadcrumb, Envelope, Level, User};
 pub use sentry_batches::batcher::Batch;
 pub use sentry_batches::metrics;
 pub use sentry_engine::engine::ScopeGuard;
+pub use sentry_lock::transport::{
+    BoxedTransport, NoOpTransport, Transport, TransportFactory, TransportOptions,
+};
 pub use sentry_options::clientoptions::{
     EventSamplingStrategy, MaxRequestBodySize, PlainOptions, SessionMode, TracesSamplingStrategy,
     UserAgent,
