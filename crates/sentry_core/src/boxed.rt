@@ -5,6 +5,7 @@ use sentry_base::callbacks::{
 use sentry_lock::transport::BoxedTransport;
 use sentry_options::integration::BoxedIntegration;
 use sentry_options::sampler::BoxedTracesSampler;
+use sentry_thread_hub::clock::BoxedClock;
 
 /// The callbacks of a client.
 pub type ClientCallbacks = sentry_options::clientoptions::ClientCallbacks<
@@ -49,3 +50,46 @@ pub type Client = sentry_lock::client::Client<BoxedEventCallback, ClientCallback
 
 /// A copy of a scope to read, and the setters of a scope, whose calls are done later as one.
 pub type ScopeEdits = sentry_lock::scope_edits::ScopeEdits<BoxedEventCallback>;
+
+/// A hub, by its key and a share of the core that holds it.
+pub type Hub = sentry_hub::hub::Hub<BoxedEventCallback, ClientCallbacks, BoxedTransport>;
+
+/// A transaction, by its key and a share of the core that holds it.
+pub type Transaction = sentry_hub::performance::Transaction<
+    BoxedEventCallback,
+    ClientCallbacks,
+    BoxedTransport,
+>;
+
+/// A span, by its key and a share of the core that holds it.
+pub type Span = sentry_hub::performance::Span<BoxedEventCallback, ClientCallbacks, BoxedTransport>;
+
+/// A transaction or a span.
+pub type TransactionOrSpan = sentry_hub::performance::TransactionOrSpan<
+    BoxedEventCallback,
+    ClientCallbacks,
+    BoxedTransport,
+>;
+
+/// What the ids and draws of a thread come from.
+pub type Generator = rand::rngs::StdRng;
+
+/// The hubs of a thread: its main hub, its current hub, a clock and a generator.
+pub type ThreadHub = sentry_thread_hub::thread_hub::ThreadHub<Hub, BoxedClock, Generator>;
+
+/// Makes a hub the current one of a thread, and restores the earlier one when it is dropped.
+pub type HubSwitchGuard<'a> = sentry_thread_hub::hub_switch_guard::HubSwitchGuard<
+    'a,
+    Hub,
+    BoxedClock,
+    Generator,
+>;
+
+/// A future that is polled while its hub is the current one of a thread.
+pub type SentryFuture<'a, F> = sentry_thread_hub::hub_future::SentryFuture<
+    'a,
+    F,
+    Hub,
+    BoxedClock,
+    Generator,
+>;
