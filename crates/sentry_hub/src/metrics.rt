@@ -1,4 +1,6 @@
 //! Metrics that are captured on the current hub.
+ghost use Rattle.std.specs.Prelude.{◌≡◌};
+
 use crate::hub::Hub;
 use sentry_base::callbacks::EventCallback;
 use sentry_base::protocol::Refusal;
@@ -18,7 +20,9 @@ pub trait CaptureMetric {
         self,
         rt: &R,
         thread: &mut ThreadHub<Hub<P, C, T>, K, G>,
-    ) -> Result<(), Refusal>;
+    ) -> Result<(), Refusal>
+        ensures main { thread.new.main ≡ thread.old.main }
+        ensures current { thread.new.current ≡ thread.old.current };
 }
 
 impl<U> CaptureMetric for TypedMetric<U> {

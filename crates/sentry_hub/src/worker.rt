@@ -11,9 +11,19 @@ use std::thread;
 use std::thread::{JoinHandle, Threads};
 
 /// Tells a worker when its client is to be ticked.
-pub trait TickClock: Drop {
+pub trait TickClock {
     /// Waits for the moment of the next tick, in nanoseconds since the epoch. `None` ends the worker.
     fn next(&mut self) -> Option<u64>;
+}
+
+/// Such a clock in a box.
+pub type BoxedTickClock = Box<dyn TickClock + Send + Sync + Drop>;
+
+/// Forwards the call.
+impl TickClock for BoxedTickClock {
+    fn next(&mut self) -> Option<u64> {
+        TickClock::next(&mut **self)
+    }
 }
 
 /// A thread that ticks a client at the moments of a clock. It ends when the clock has no more of them, and when a tick is
@@ -33,7 +43,7 @@ impl Worker {
         P: EventCallback + Drop + Send + Sync + 'static,
         C: Callbacks + Send + Sync + 'static,
         T: Transport + Drop + Send + Sync + 'static,
-        K: TickClock + Send + 'static,
+        K: TickClock + Drop + Send + 'static,
     >(rt: R, client: Client<P, C, T>, clock: K) -> Result<Worker, Refusal> {
         Ok(start_thread(rt, client, clock)?)
     }
@@ -52,7 +62,7 @@ fn start_thread<
     P: EventCallback + Drop + Send + Sync + 'static,
     C: Callbacks + Send + Sync + 'static,
     T: Transport + Drop + Send + Sync + 'static,
-    K: TickClock + Send + 'static,
+    K: TickClock + Drop + Send + 'static,
 >(rt: R, client: Client<P, C, T>, clock: K) -> Result<Worker, AllocError> {
     let stop = Arc::new(client.core().allocator(), AtomicU64::new(0))?;
     let theirs = stop.clone()?;
@@ -65,12 +75,13 @@ fn is_set(word: &AtomicU64) -> bool {
 }
 
 // Ticks the client until the word is set, the clock ends, or a tick is refused for anything but want of memory.
-fn tick_all<R: Wait, P: EventCallback + Drop, C: Callbacks, T: Transport + Drop, K: TickClock>(
-    rt: &R,
-    stop: &AtomicU64,
-    client: &Client<P, C, T>,
-    clock: K,
-) {
+fn tick_all<
+    R: Wait,
+    P: EventCallback + Drop,
+    C: Callbacks,
+    T: Transport + Drop,
+    K: TickClock + Drop,
+>(rt: &R, stop: &AtomicU64, client: &Client<P, C, T>, clock: K) {
     let mut clock = clock;
     for _ in rt.forever() {
         if is_set(stop) {

@@ -2,7 +2,7 @@
 use crate::breadcrumbs::IntoBreadcrumbs;
 use crate::hub::Hub;
 use sentry_base::callbacks::EventCallback;
-use sentry_base::protocol::{Fresh, Refusal, SessionStatus, Uuid};
+use sentry_base::protocol::{Breadcrumb, Fresh, Refusal, SessionStatus, Uuid};
 use sentry_engine::call::{HubCall, Reply};
 use sentry_lock::client::Client;
 use sentry_lock::transport::Transport;
@@ -71,8 +71,23 @@ impl<P: EventCallback + Drop, C: Callbacks, T: Transport + Drop> Hub<P, C, T> {
         }
     }
 
-    /// Adds breadcrumbs to the trail of the top layer, each of them after the client's `before_breadcrumb`. Without a
-    /// client there is none.
+    /// Adds breadcrumbs, oldest first, to the trail of the top layer, each of them after the client's
+    /// `before_breadcrumb`. Without a client there is none.
+    ///
+    /// `Stale`: the hub isn't held. `OutOfMemory`.
+    pub fn add_breadcrumbs<R: Wait>(
+        &self,
+        rt: &R,
+        breadcrumbs: Vec<Breadcrumb>,
+    ) -> Result<(), Refusal> {
+        let call = HubCall::AddBreadcrumbs {
+            hub: self.key,
+            breadcrumbs: Items::from_vec(breadcrumbs),
+        };
+        self.done(rt, call)
+    }
+
+    /// The same of a breadcrumb, of none or one, or of a list.
     ///
     /// `Stale`: the hub isn't held. `OutOfMemory`.
     pub fn add_breadcrumb<R: Wait, B: IntoBreadcrumbs>(
@@ -81,11 +96,7 @@ impl<P: EventCallback + Drop, C: Callbacks, T: Transport + Drop> Hub<P, C, T> {
         breadcrumb: B,
     ) -> Result<(), Refusal> {
         let breadcrumbs = breadcrumb.into_breadcrumbs(self.core.allocator())?;
-        let call = HubCall::AddBreadcrumbs {
-            hub: self.key,
-            breadcrumbs: Items::from_vec(breadcrumbs),
-        };
-        self.done(rt, call)
+        self.add_breadcrumbs(rt, breadcrumbs)
     }
 
     /// The same of what a closure makes, which is called only if the top layer has a client. It runs without the lock.

@@ -1,0 +1,11 @@
+//! Tests of hubs and clients as users name them: each call on one is also made on an engine, which must reply and send
+//! the same; and what no contract says of the hubs of a thread, of futures, of macros and of workers.
+#![tactic(auto)]
+
+#[cfg(test)]
+mod twins;
+#[cfg(test)]
+mod workshop;
+
+#[cfg(test)]
+mod clients;
