@@ -9,6 +9,7 @@ use std::sync::Wait;
 use thiserror::Error;
 
 /// A request, as it comes in.
+#[derive(Drop)]
 pub struct Incoming<'a> {
     pub method: &'a str,
     pub path: &'a str,
