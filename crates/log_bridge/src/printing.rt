@@ -1,7 +1,7 @@
-//! A transport that prints, and a clock that needs no system.
+//! A transport that prints.
 use anyhow::Result;
 use sentry_core::protocol::{EnvelopeItem, Event, Log, Value};
-use sentry_core::{Clock, Envelope, Text, Transport};
+use sentry_core::{Envelope, Text, Transport};
 
 /// Prints what it is to send. A real transport sends it, and counts what it loses.
 #[derive(Drop)]
@@ -11,17 +11,6 @@ impl<R: Print> Transport for Printer<R> {
     fn send_envelope(&self, envelope: Envelope) {
         // a transport has no one to tell of a line that can't be printed
         drop(print_envelope(&self.0, &envelope));
-    }
-}
-
-/// A clock that is a second further each time that it is asked. A real one asks the system.
-#[derive(Drop)]
-pub struct Seconds(pub u64);
-
-impl Clock for Seconds {
-    fn now(&mut self) -> u64 {
-        self.0 = self.0.saturating_add(1_000_000_000);
-        self.0
     }
 }
 

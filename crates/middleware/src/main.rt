@@ -40,11 +40,16 @@ fn connect<R: Wait>(
 }
 
 fn serve<R: Wait + Print>(rt: &R, alloc: Global, thread: &mut ThreadHub) -> Result<()> {
-    for path in ["/lamps", "/chairs", "/tables"] {
+    let requests = [
+        ("/lamps", CONTINUED.as_slice()),
+        ("/chairs", [].as_slice()),
+        ("/tables", CONTINUED.as_slice()),
+    ];
+    for (path, headers) in requests {
         let request = Incoming {
             method: "GET",
             path,
-            headers: &CONTINUED,
+            headers,
         };
         let status = answer_request(rt, alloc, thread, &request)?;
         println!(rt; "GET {path}: {status}")?;

@@ -66,23 +66,18 @@ fn print_transaction(rt: &impl Print, transaction: &Transaction) -> Result<()> {
 
 fn print_trace(rt: &impl Print, contexts: &TextMap<Context>) -> Result<()> {
     if let Some(Context::Trace(trace)) = contexts.get("trace") {
-        println!(rt; "  trace {}", trace.trace_id)?;
-        print_parent(rt, trace)?;
+        match trace.parent_span_id {
+            Some(parent) => println!(rt; "  in trace {}, below {parent}", trace.trace_id)?,
+            None => println!(rt; "  in a trace of its own")?,
+        }
         print_status(rt, trace)?;
-    }
-    Ok(())
-}
-
-fn print_parent(rt: &impl Print, trace: &TraceContext) -> Result<()> {
-    if let Some(parent) = trace.parent_span_id {
-        println!(rt; "  below {parent}")?;
     }
     Ok(())
 }
 
 fn print_status(rt: &impl Print, trace: &TraceContext) -> Result<()> {
     if let Some(Value::Int(code)) = trace.data_.get("http.response.status_code") {
-        println!(rt; "  code {code}")?;
+        println!(rt; "  response {code}")?;
     }
     if let Some(status) = trace.status {
         println!(rt; "  status {status:?}")?;
