@@ -1,5 +1,5 @@
 //! The functions on the current hub of a thread.
-use crate::hubs::{breadcrumb, one_link};
+use crate::hubs::{breadcrumb, one_breadcrumb, one_link};
 use crate::pairs::tag;
 use crate::spans::context;
 use crate::twins::Twins;
@@ -48,7 +48,7 @@ fn prepare<R: Wait>(rt: &R, twins: &mut Twins, thread: &mut ThreadHub) -> Result
     let alloc = twins.alloc;
     let hub = thread.current.key();
     let found = add_breadcrumb(rt, thread, breadcrumb(alloc, 1)?);
-    let one = vec![in alloc; breadcrumb(alloc, 1)?]?;
+    let one = one_breadcrumb(alloc)?;
     let expected = twins.engine.add_breadcrumbs(hub, one);
     twins.note(expected, found)?;
     let found = configure_scope(rt, thread, |edits| edits.set_tag("a", "1"));

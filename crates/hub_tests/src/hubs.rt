@@ -2,7 +2,7 @@
 use crate::twins::Twins;
 use crate::workshop::{at, event, fresh, options, thread_of};
 use sentry_core::protocol::{ErrorLink, Refusal};
-use sentry_core::{Breadcrumb, Client, Hub, ScopeGuard};
+use sentry_core::{Breadcrumb, Client, Hub, Scope, ScopeGuard};
 use std::alloc::{AllocError, Global};
 use std::sync::Wait;
 use std::test::Fail;
@@ -212,6 +212,11 @@ pub(crate) fn breadcrumb(alloc: Global, second: u8) -> Result<Breadcrumb, AllocE
     Breadcrumb::new(alloc, at(second))
 }
 
+/// A list of one breadcrumb.
+pub(crate) fn one_breadcrumb(alloc: Global) -> Result<Vec<Breadcrumb>, AllocError> {
+    Ok(vec![in alloc; breadcrumb(alloc, 1)?]?)
+}
+
 fn two_breadcrumbs(alloc: Global) -> Result<Vec<Breadcrumb>, AllocError> {
     Ok(vec![in alloc; breadcrumb(alloc, 2)?, breadcrumb(alloc, 3)?]?)
 }
@@ -220,7 +225,7 @@ fn two_breadcrumbs(alloc: Global) -> Result<Vec<Breadcrumb>, AllocError> {
 fn add_breadcrumbs<R: Wait>(rt: &R, twins: &mut Twins, hub: &Hub) -> Result<(), Refusal> {
     let alloc = twins.alloc;
     let found = hub.add_breadcrumb(rt, breadcrumb(alloc, 1)?);
-    let one = vec![in alloc; breadcrumb(alloc, 1)?]?;
+    let one = one_breadcrumb(alloc)?;
     let expected = twins.engine.add_breadcrumbs(hub.key(), one);
     twins.note(expected, found)?;
     let found = hub.add_breadcrumb(rt, two_breadcrumbs(alloc)?);
@@ -233,16 +238,21 @@ fn add_breadcrumbs<R: Wait>(rt: &R, twins: &mut Twins, hub: &Hub) -> Result<(), 
     Ok(twins.note(expected, found)?)
 }
 
-// When the breadcrumbs of the top layer were made, in seconds.
-fn trail<R: Wait>(rt: &R, hub: &Hub) -> Result<Vec<u64>, Refusal> {
-    let mut seconds = Vec::new(hub.core().allocator());
-    let scope = hub.scope(rt)?;
+// When the breadcrumbs of a scope were made, in seconds.
+fn seconds_of(alloc: Global, scope: &Scope) -> Result<Vec<u64>, AllocError> {
+    let mut seconds = Vec::new(alloc);
     if let Some(trail) = scope.breadcrumbs.get() {
         for breadcrumb in trail.to_items()?.as_slice() {
             seconds.push(breadcrumb.timestamp / 1_000_000_000)?;
         }
     }
     Ok(seconds)
+}
+
+// The same of the top layer of a hub.
+fn trail<R: Wait>(rt: &R, hub: &Hub) -> Result<Vec<u64>, Refusal> {
+    let scope = hub.scope(rt)?;
+    Ok(seconds_of(hub.core().allocator(), &scope)?)
 }
 
 // A hub of a client that keeps one breadcrumb, with a copy of the scope of another hub, after a list of no breadcrumbs.
