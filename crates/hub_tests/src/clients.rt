@@ -3,21 +3,30 @@ use crate::pairs::log;
 use crate::twins::Twins;
 use crate::workshop::{Collector, at, drops_events, event, fresh, options, scope};
 use sentry_core::metrics::{IntoProtocolMetric, gauge};
-use sentry_core::protocol::{Draw, Event, Refusal, SampleRate, Uuid};
+use sentry_core::protocol::{Draw, Event, Refusal, SampleRate};
 use sentry_core::{Boxed, BoxedTransport, Client, Scope, SharedCore};
 use std::alloc::Global;
 use std::sync::{Arc, Wait};
 use std::test::Fail;
 
-// The id of an event that was prepared.
-fn prepared_id(event: Option<Boxed<Event>>) -> Option<Uuid> {
+// An event that was prepared, out of its box.
+fn unbox(event: Option<Boxed<Event>>) -> Option<Event> {
     match event {
-        Some(event) => Some(event.get().event_id),
+        Some(event) => Some(event.into_inner()),
         None => None,
     }
 }
 
-// The release and the DSN in options, whether the client sends, and a decision.
+// Whether what has this draw is sent at the rate of one in a million.
+fn decide<R: Wait>(rt: &R, twins: &mut Twins, client: &Client, draw: u32) -> Result<(), Refusal> {
+    let rate = SampleRate::new(1)?;
+    let draw = Draw::new(draw).ok_or(Refusal::InvalidRate)?;
+    let found = client.sample_should_send(rt, rate, draw);
+    let expected = twins.engine.sample_should_send(rate, draw);
+    Ok(twins.note(expected, found)?)
+}
+
+// The release and the DSN in options, whether the client sends, and two decisions.
 fn ask<R: Wait>(rt: &R, twins: &mut Twins, client: &Client) -> Result<(), Refusal> {
     let found = client.options(rt)?;
     let expected = twins.engine.options(client.key())?.reply;
@@ -31,11 +40,8 @@ fn ask<R: Wait>(rt: &R, twins: &mut Twins, client: &Client) -> Result<(), Refusa
     let found = client.is_enabled(rt);
     let expected = twins.engine.is_enabled(client.key());
     twins.note(expected, found)?;
-    let rate = SampleRate::new(1)?;
-    let draw = Draw::new(0).ok_or(Refusal::InvalidRate)?;
-    let found = client.sample_should_send(rt, rate, draw);
-    let expected = twins.engine.sample_should_send(rate, draw);
-    Ok(twins.note(expected, found)?)
+    decide(rt, twins, client, 0)?;
+    decide(rt, twins, client, 1)
 }
 
 #[test]
@@ -94,7 +100,7 @@ fn prepare<R: Wait>(
         .engine
         .prepare_event(client.key(), copy, Some(scope), fresh(3))?;
     let expected = twins.keep(expected)?;
-    twins.compare(prepared_id(expected), prepared_id(found));
+    twins.compare(unbox(expected), unbox(found));
     Ok(())
 }
 

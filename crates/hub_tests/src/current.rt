@@ -3,7 +3,7 @@ use crate::hubs::{breadcrumb, one_breadcrumb, one_link};
 use crate::pairs::tag;
 use crate::spans::context;
 use crate::twins::Twins;
-use crate::workshop::{at, event, options, thread_of};
+use crate::workshop::{at, event, fresh, options, thread_of};
 use sentry_core::protocol::{Refusal, SessionStatus};
 use sentry_core::{
     Hub, Level, ThreadHub, add_breadcrumb, capture_error, capture_event, capture_message,
@@ -237,7 +237,7 @@ fn a_scope_of_its_own_is_left_again(rt: HostRuntime) -> Result<(), Fail> {
     Ok(())
 }
 
-// Sets a tag on the hub itself, and sends a message under a scope of the hub.
+// Sets a tag by a closure, and sends a message.
 fn configure_hub<R: Wait>(rt: &R, twins: &mut Twins, hub: &Hub) -> Result<(), Refusal> {
     let found = hub.configure_scope(rt, at(1), |edits| {
         edits.set_tag("a", "1")?;
@@ -246,10 +246,21 @@ fn configure_hub<R: Wait>(rt: &R, twins: &mut Twins, hub: &Hub) -> Result<(), Re
     let edits = tag(twins.alloc, "a", "1")?;
     let expected = twins.engine.configure(hub.key(), edits, at(1));
     twins.note(expected, found)?;
-    let answer = hub.with_scope(rt, at(1), |edits| edits.set_tag("b", "2"), || 7u8);
-    let answer = answer.map_err(Refusal::from)?;
-    twins.compare(7, answer);
     twins.message(rt, hub, 1)
+}
+
+// Sends a message by a closure, under a scope with a tag more.
+fn send_within<R: Wait>(rt: &R, hub: &Hub) -> Result<(), Refusal> {
+    let id = hub
+        .with_scope(
+            rt,
+            at(1),
+            |edits| edits.set_tag("b", "2"),
+            || hub.capture_message(rt, "within", Level::Info, fresh(2)),
+        )
+        .map_err(Refusal::from)??;
+    drop(id);
+    Ok(())
 }
 
 #[test]
@@ -258,6 +269,11 @@ fn scopes_are_configured_by_closures(rt: HostRuntime) -> Result<(), Fail> {
     let mut twins = Twins::new(alloc)?;
     let (client, hub) = twins.new_client_and_hub(&rt, options(alloc)?)?;
     configure_hub(&rt, &mut twins, &hub)?;
+    assert_eq!(rt; twins.sent()?.as_str(), "event a=1");
+    send_within(&rt, &hub)?;
+    let sent = twins.sent_by_core()?;
+    assert_eq!(rt; sent.as_str(), "event a=1 b=2");
+    twins.message(&rt, &hub, 3)?;
     assert_eq!(rt; twins.sent()?.as_str(), "event a=1");
     drop(client);
     Ok(())

@@ -1,8 +1,8 @@
 //! The hubs of a thread: guards, and closures under another hub.
 use crate::twins::Twins;
-use crate::workshop::{options, thread_of};
+use crate::workshop::{fresh, options, thread_of};
 use sentry_core::protocol::{HubKey, Refusal};
-use sentry_core::{Hub, HubSwitchGuard, ThreadHub};
+use sentry_core::{Hub, HubSwitchGuard, Level, ThreadHub};
 use std::alloc::{AllocError, Global};
 use std::sync::Wait;
 use std::test::Fail;
@@ -41,6 +41,40 @@ fn ask<R: Wait>(rt: &R, thread: &mut ThreadHub) -> Result<(u64, u64), Refusal> {
     let any = Hub::with(thread, |hub, _thread| hub.key().number)?;
     let active = Hub::with_active(rt, thread, |hub, _thread| hub.key().number)?;
     Ok((any, active))
+}
+
+// A thread whose current hub was made from the top of this one.
+fn thread_beside<R: Wait>(rt: &R, hub: &Hub) -> Result<ThreadHub, Refusal> {
+    let main = thread_of(hub.core().allocator(), hub)?;
+    let ThreadHub {
+        main,
+        current: _,
+        clock,
+        generator: _,
+    } = main;
+    ThreadHub::from_main(rt, main, clock, [4; 32])
+}
+
+#[test]
+fn a_thread_beside_another_has_a_hub_of_its_own(rt: HostRuntime) -> Result<(), Fail> {
+    let alloc: Global = rt.alloc();
+    let mut twins = Twins::new(alloc)?;
+    let (client, hub) = twins.new_client_and_hub(&rt, options(alloc)?)?;
+    twins.set_tag(&rt, &hub, "a", "1")?;
+    let thread = thread_beside(&rt, &hub)?;
+    assert_eq!(rt;
+        (thread.main.key().number, thread.current.key().number),
+        (0, 1)
+    );
+    drop(
+        thread
+            .current
+            .capture_message(&rt, "beside", Level::Info, fresh(1))?,
+    );
+    let sent = twins.sent_by_core()?;
+    assert_eq!(rt; sent.as_str(), "event a=1");
+    drop(client);
+    Ok(())
 }
 
 #[test]

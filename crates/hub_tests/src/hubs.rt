@@ -221,7 +221,7 @@ fn two_breadcrumbs(alloc: Global) -> Result<Vec<Breadcrumb>, AllocError> {
     Ok(vec![in alloc; breadcrumb(alloc, 2)?, breadcrumb(alloc, 3)?]?)
 }
 
-// Adds three breadcrumbs to the trail, by a value, by a list, and by a closure that adds none.
+// Adds four breadcrumbs to the trail, by a value, by a list, and by a closure.
 fn add_breadcrumbs<R: Wait>(rt: &R, twins: &mut Twins, hub: &Hub) -> Result<(), Refusal> {
     let alloc = twins.alloc;
     let found = hub.add_breadcrumb(rt, breadcrumb(alloc, 1)?);
@@ -232,9 +232,9 @@ fn add_breadcrumbs<R: Wait>(rt: &R, twins: &mut Twins, hub: &Hub) -> Result<(), 
     let both = two_breadcrumbs(alloc)?;
     let expected = twins.engine.add_breadcrumbs(hub.key(), both);
     twins.note(expected, found)?;
-    let none: Option<Breadcrumb> = None;
-    let found = hub.add_breadcrumb_with(rt, || Ok(none));
-    let expected = twins.engine.add_breadcrumbs(hub.key(), Vec::new(alloc));
+    let found = hub.add_breadcrumb_with(rt, || breadcrumb(alloc, 1));
+    let one = one_breadcrumb(alloc)?;
+    let expected = twins.engine.add_breadcrumbs(hub.key(), one);
     Ok(twins.note(expected, found)?)
 }
 
@@ -275,9 +275,9 @@ fn the_trail_keeps_the_last_breadcrumbs(rt: HostRuntime) -> Result<(), Fail> {
     let mut twins = Twins::new(alloc)?;
     let (client, hub) = twins.new_client_and_hub(&rt, options(alloc)?.max_breadcrumbs(2))?;
     add_breadcrumbs(&rt, &mut twins, &hub)?;
-    assert!(rt; trail(&rt, &hub)?.as_slice() == [2, 3].as_slice());
+    assert!(rt; trail(&rt, &hub)?.as_slice() == [3, 1].as_slice());
     let copy = copy_trail(&rt, &mut twins, &hub)?;
-    assert!(rt; trail(&rt, &copy)?.as_slice() == [2, 3].as_slice());
+    assert!(rt; trail(&rt, &copy)?.as_slice() == [3, 1].as_slice());
     twins.message(&rt, &copy, 1)?;
     assert_eq!(rt; twins.sent()?.as_str(), "event");
     drop(client);
@@ -293,6 +293,23 @@ fn a_trail_of_no_breadcrumbs_stays_empty(rt: HostRuntime) -> Result<(), Fail> {
     assert!(rt; trail(&rt, &hub)?.is_empty());
     twins.message(&rt, &hub, 1)?;
     assert_eq!(rt; twins.sent()?.as_str(), "event");
+    drop(client);
+    Ok(())
+}
+
+// Adds a breadcrumb by a closure that is refused its memory.
+fn starve<R: Wait>(rt: &R, hub: &Hub) -> Result<(), Refusal> {
+    hub.add_breadcrumb_with(rt, || -> Result<Breadcrumb, AllocError> { Err(AllocError) })
+}
+
+#[test]
+fn a_breadcrumb_is_made_only_for_a_client(rt: HostRuntime) -> Result<(), Fail> {
+    let alloc: Global = rt.alloc();
+    let mut twins = Twins::new(alloc)?;
+    let silent = twins.new_hub(&rt, None)?;
+    let (client, hub) = twins.new_client_and_hub(&rt, options(alloc)?)?;
+    assert_eq!(rt; starve(&rt, &silent), Ok(()));
+    assert_eq!(rt; starve(&rt, &hub), Err(Refusal::OutOfMemory));
     drop(client);
     Ok(())
 }

@@ -27,14 +27,20 @@ fn a_hundred_ended_sessions_are_sent_at_once(rt: HostRuntime) -> Result<(), Fail
     Ok(())
 }
 
+// Starts a session, in which there is an error.
+fn hold_session<R: Wait>(rt: &R, twins: &mut Twins, hub: &Hub) -> Result<(), Refusal> {
+    twins.sessions(rt, hub, 1)?;
+    twins.message(rt, hub, 2)
+}
+
 // A hub from the top of another: a session on a pushed layer, with an error; then errors on both hubs.
 fn pop_a_session<R: Wait>(rt: &R, twins: &mut Twins) -> Result<(), Refusal> {
     let (client, first) = twins.new_client_and_hub(rt, options(twins.alloc)?)?;
     let hub = twins.new_from_top(rt, &first)?;
     let guards = twins.push(rt, &hub)?;
-    twins.sessions(rt, &hub, 1)?;
-    twins.message(rt, &hub, 2)?;
+    let held = hold_session(rt, twins, &hub);
     leave(rt, twins, &hub, guards)?;
+    held?;
     twins.flush(rt, &client)?;
     twins.message(rt, &hub, 3)?;
     twins.message(rt, &first, 4)

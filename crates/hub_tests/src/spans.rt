@@ -1,7 +1,7 @@
 //! Calls on transactions, on spans, and on what is either.
 use crate::twins::Twins;
 use crate::workshop::{at, fresh, options, thread_of};
-use sentry_core::engine::Out;
+use sentry_core::engine::{Call, Out, Reply, SpanCall, SpanReply};
 use sentry_core::protocol::{
     Refusal, Request, SpanId, SpanStatus, TraceId, TransactionOrSpanKey, Value,
 };
@@ -204,6 +204,29 @@ fn start_at<R: Wait>(rt: &R, twins: &mut Twins, hub: &Hub) -> Result<Transaction
     Ok(transaction)
 }
 
+/// Asks a transaction, a child of it and both as what is either whether they are sampled.
+pub(crate) fn ask_sampled<R: Wait>(
+    rt: &R,
+    twins: &mut Twins,
+    transaction: &Transaction,
+) -> Result<(), Refusal> {
+    let child = start_of_transaction(rt, twins, transaction)?;
+    let whole = TransactionOrSpanKey::Transaction(transaction.key());
+    let part = TransactionOrSpanKey::Span(child.key());
+    let found = transaction.is_sampled(rt);
+    let expected = twins.engine.is_sampled(whole);
+    twins.note(expected, found)?;
+    let found = child.is_sampled(rt);
+    let expected = twins.engine.is_sampled(part);
+    twins.note(expected, found)?;
+    let found = TransactionOrSpan::new(&twins.core, whole)?.is_sampled(rt);
+    let expected = twins.engine.is_sampled(whole);
+    twins.note(expected, found)?;
+    let found = TransactionOrSpan::from(child).is_sampled(rt);
+    let expected = twins.engine.is_sampled(part);
+    Ok(twins.note(expected, found)?)
+}
+
 /// Finishes a transaction on the current hub of a thread.
 pub(crate) fn finish<R: Wait>(
     rt: &R,
@@ -289,25 +312,49 @@ fn spans_do_what_an_engine_does(rt: HostRuntime) -> Result<(), Fail> {
     Ok(())
 }
 
-// Sets, reads, starts a child of and finishes what is either, at the second 60 of the thread's clock.
+// Sets, reads and starts a child of what is either.
 fn treat_either<R: Wait>(
     rt: &R,
     twins: &mut Twins,
     value: &TransactionOrSpan,
-    thread: &mut ThreadHub,
 ) -> Result<(), Refusal> {
     set_either(rt, twins, value)?;
     read_either(rt, twins, value)?;
     let child = start_of_either(rt, twins, value)?;
-    finish_span(rt, twins, &child)?;
+    finish_span(rt, twins, &child)
+}
+
+// Finishes what is either at the second 60, by the clock of the thread or by the moment.
+fn finish_either<R: Wait>(
+    rt: &R,
+    twins: &mut Twins,
+    value: &TransactionOrSpan,
+    thread: &mut ThreadHub,
+    by_clock: bool,
+) -> Result<(), Refusal> {
     let hub = thread.current.key();
-    let found = value.finish(rt, thread);
+    let found = if by_clock {
+        value.finish(rt, thread)
+    } else {
+        value.finish_with_timestamp(rt, thread, at(60))
+    };
     let expected = match value.key() {
         TransactionOrSpanKey::Transaction(key) => {
             twins.engine.finish_transaction(key, hub, at(60))
         }
         TransactionOrSpanKey::Span(key) => twins.engine.finish_span(key, at(60)),
     };
+    Ok(twins.note(expected, found)?)
+}
+
+// Forgets what is either.
+fn discard_either<R: Wait>(
+    rt: &R,
+    twins: &mut Twins,
+    value: &TransactionOrSpan,
+) -> Result<(), Refusal> {
+    let found = value.discard(rt);
+    let expected = twins.engine.discard(value.key());
     Ok(twins.note(expected, found)?)
 }
 
@@ -321,11 +368,15 @@ fn what_is_either_does_what_an_engine_does(rt: HostRuntime) -> Result<(), Fail> 
     let span = TransactionOrSpan::from(span);
     let transaction = TransactionOrSpan::from(transaction);
     assert!(rt; span != transaction);
-    treat_either(&rt, &mut twins, &span, &mut thread)?;
-    treat_either(&rt, &mut twins, &transaction, &mut thread)?;
+    treat_either(&rt, &mut twins, &span)?;
+    finish_either(&rt, &mut twins, &span, &mut thread, false)?;
+    treat_either(&rt, &mut twins, &transaction)?;
+    finish_either(&rt, &mut twins, &transaction, &mut thread, true)?;
     let again = TransactionOrSpan::new(&twins.core, transaction.key())?;
     assert!(rt; again == transaction);
-    assert_eq!(rt; again.discard(&rt), Err(Refusal::StillNamed));
+    discard_either(&rt, &mut twins, &again)?;
+    discard_either(&rt, &mut twins, &span)?;
+    discard_either(&rt, &mut twins, &span)?;
     assert_eq!(rt; twins.sent()?.as_str(), "transaction of 3 spans");
     Ok(())
 }
@@ -362,19 +413,70 @@ fn edit_span_data<R: Wait>(rt: &R, twins: &mut Twins, value: &Span) -> Result<()
     Ok(())
 }
 
+// Finishes a span and its transaction at the second 60 of the thread's clock.
+fn finish_by_clock<R: Wait>(
+    rt: &R,
+    twins: &mut Twins,
+    transaction: &Transaction,
+    span: &Span,
+    thread: &mut ThreadHub,
+) -> Result<(), Refusal> {
+    let found = span.finish(rt, thread);
+    let expected = twins.engine.finish_span(span.key(), at(60));
+    twins.note(expected, found)?;
+    let hub = thread.current.key();
+    let found = transaction.finish(rt, thread);
+    let expected = twins
+        .engine
+        .finish_transaction(transaction.key(), hub, at(60));
+    Ok(twins.note(expected, found)?)
+}
+
 #[test]
 fn data_is_lent_as_a_copy_with_its_setters(rt: HostRuntime) -> Result<(), Fail> {
     let mut twins = Twins::new(rt.alloc())?;
     let hub = tracing_hub(&rt, &mut twins)?;
-    let thread = thread_of(rt.alloc(), &hub)?;
+    let mut thread = thread_of(rt.alloc(), &hub)?;
     let transaction = start(&rt, &mut twins, &hub, 1)?;
     let span = start_of_transaction(&rt, &mut twins, &transaction)?;
     edit_data(&rt, &mut twins, &transaction)?;
     edit_data(&rt, &mut twins, &transaction)?;
     edit_span_data(&rt, &mut twins, &span)?;
     edit_span_data(&rt, &mut twins, &span)?;
-    finish_span(&rt, &mut twins, &span)?;
-    finish(&rt, &mut twins, &transaction, &thread)?;
+    finish_by_clock(&rt, &mut twins, &transaction, &span, &mut thread)?;
     assert_eq!(rt; twins.sent()?.as_str(), "transaction of 1 spans");
+    Ok(())
+}
+
+// The trace of a context that goes on from a span, by a call as a value.
+fn continue_trace<R: Wait>(rt: &R, twins: &mut Twins, span: &Span) -> Result<bool, Refusal> {
+    let key = TransactionOrSpanKey::Span(span.key());
+    let call = SpanCall::ContinueFromSpan {
+        name: Text::new(twins.alloc, "ship")?,
+        op: Text::new(twins.alloc, "queue")?,
+        span: Some(key),
+        fresh: fresh(8),
+    };
+    let expected = twins
+        .engine
+        .continue_from_span("ship", "queue", Some(key), fresh(8))?
+        .reply;
+    match twins.core.call(rt, Call::Span(call))? {
+        Reply::Span(SpanReply::Context(found)) => {
+            let is_same = found.trace_id() == expected.trace_id();
+            Ok(is_same && found.name() == "ship" && found.trace_id() == TraceId([1; 16]))
+        }
+        _ => Ok(false),
+    }
+}
+
+#[test]
+fn a_trace_goes_on_from_a_span(rt: HostRuntime) -> Result<(), Fail> {
+    let mut twins = Twins::new(rt.alloc())?;
+    let hub = tracing_hub(&rt, &mut twins)?;
+    let transaction = start(&rt, &mut twins, &hub, 1)?;
+    let span = start_of_transaction(&rt, &mut twins, &transaction)?;
+    assert!(rt; continue_trace(&rt, &mut twins, &span)?);
+    assert_eq!(rt; twins.sent()?.as_str(), "");
     Ok(())
 }

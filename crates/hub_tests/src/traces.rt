@@ -1,5 +1,5 @@
 //! How traces are continued and sampled, and how many spans a transaction keeps.
-use crate::spans::{finish, finish_span, start};
+use crate::spans::{ask_sampled, finish, finish_span, start};
 use crate::twins::Twins;
 use crate::workshop::{fresh, options, thread_of};
 use sentry_core::protocol::{OrganizationId, Refusal, SpanId, TraceId, TransactionOrSpanKey};
@@ -39,6 +39,7 @@ fn trace<R: Wait>(
     let (client, hub) = twins.new_client_and_hub(rt, options)?;
     let thread = thread_of(twins.alloc, &hub)?;
     let transaction = start(rt, twins, &hub, 1)?;
+    ask_sampled(rt, twins, &transaction)?;
     add_spans(rt, twins, &transaction, count)?;
     twins.send_empty(rt, &client)?;
     finish(rt, twins, &transaction, &thread)?;
