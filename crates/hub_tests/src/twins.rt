@@ -1,5 +1,6 @@
 //! An engine, and a core under its lock, on which the same calls are made.
-use crate::workshop::{Collector, scope};
+use crate::sketch::sketch;
+use crate::workshop::{Collector, at, scope};
 use sentry_core::engine::{Engine, Out};
 use sentry_core::protocol::Refusal;
 use sentry_core::{BoxedTransport, Client, ClientOptions, Envelope, Hub, SharedCore};
@@ -45,7 +46,7 @@ impl Twins {
     }
 
     /// A share of the transport that collects.
-    pub(crate) fn transport(&self) -> Result<BoxedTransport, AllocError> {
+    fn transport(&self) -> Result<BoxedTransport, AllocError> {
         let sink = self.sink.clone()?;
         let transport: BoxedTransport = Box::new(self.alloc, sink)?;
         Ok(transport)
@@ -79,15 +80,27 @@ impl Twins {
         Ok(())
     }
 
-    /// Whether all replies so far were equal, and all envelopes since it was last asked; and how many these are.
-    pub(crate) fn agree(&mut self) -> (bool, usize) {
+    /// What the transport was handed since it was last asked, as a line of text: the envelopes of the engine, if all
+    /// replies so far and these envelopes were equal.
+    pub(crate) fn sent(&mut self) -> Result<String, AllocError> {
         let sent = self.sink.take(self.alloc);
         let expected = std::mem::replace(&mut self.expected, Vec::new(self.alloc));
-        let count = sent.len();
-        (self.are_same && sent == expected, count)
+        if !self.are_same {
+            return String::from_str(self.alloc, "other replies than the engine's");
+        }
+        if sent != expected {
+            return String::from_str(self.alloc, "other envelopes than the engine's");
+        }
+        sketch(self.alloc, sent.as_slice())
     }
 
-    /// A client with these options and the transport that collects.
+    /// What the transport was handed since it was last asked, where the engine was not asked for the same.
+    pub(crate) fn sent_by_core(&mut self) -> Result<String, AllocError> {
+        let sent = self.sink.take(self.alloc);
+        sketch(self.alloc, sent.as_slice())
+    }
+
+    /// A client with these options and the transport that collects, from the first second on.
     pub(crate) fn add_client<R: Wait>(
         &mut self,
         rt: &R,
@@ -96,9 +109,9 @@ impl Twins {
         let copy = options.clone()?;
         let setup = self.core.client_setup(rt, options)?;
         let label = setup.label();
-        let client = Client::with_options(rt, &self.core, setup, Some(self.transport()?), 0)?;
-        let out = self.engine.add_client(copy, true, label, 0);
-        self.note(out, Ok(client.key()))?;
+        let client = Client::with_options(rt, &self.core, setup, Some(self.transport()?), at(1))?;
+        let expected = self.engine.add_client(copy, true, label, at(1));
+        self.note(expected, Ok(client.key()))?;
         Ok(client)
     }
 
@@ -108,10 +121,32 @@ impl Twins {
         rt: &R,
         client: Option<&Client>,
     ) -> Result<Hub, Refusal> {
-        let key = client.map(|client| client.key());
+        let key = match client {
+            Some(client) => Some(client.key()),
+            None => None,
+        };
         let hub = Hub::new(rt, &self.core, client, scope(self.alloc))?;
-        let out = self.engine.new_hub(key, scope(self.alloc));
-        self.note(out, Ok(hub.key()))?;
+        let expected = self.engine.new_hub(key, scope(self.alloc));
+        self.note(expected, Ok(hub.key()))?;
         Ok(hub)
+    }
+
+    /// A hub of a new client with these options.
+    pub(crate) fn new_client_and_hub<R: Wait>(
+        &mut self,
+        rt: &R,
+        options: ClientOptions,
+    ) -> Result<(Client, Hub), Refusal> {
+        let client = self.add_client(rt, options)?;
+        let hub = self.new_hub(rt, Some(&client))?;
+        Ok((client, hub))
+    }
+
+    /// A hub from the top of another one.
+    pub(crate) fn new_from_top<R: Wait>(&mut self, rt: &R, hub: &Hub) -> Result<Hub, Refusal> {
+        let made = Hub::new_from_top(rt, hub)?;
+        let expected = self.engine.new_hub_from_top(hub.key());
+        self.note(expected, Ok(made.key()))?;
+        Ok(made)
     }
 }

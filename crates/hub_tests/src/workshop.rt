@@ -1,6 +1,9 @@
 //! What the tests are made of: options, ids, events and a collecting transport.
-use sentry_core::protocol::{Draw, Event, Fresh, Refusal, SpanId, TraceId, Uuid};
-use sentry_core::{ClientOptions, Envelope, Scope, Transport};
+use sentry_core::protocol::{Draw, Event, Fresh, Log, Refusal, SpanId, TraceId, Uuid};
+use sentry_core::{
+    BoxedClock, BoxedEventCallback, BoxedLogCallback, ClientOptions, Clock, Envelope,
+    EventCallback, Hub, LogCallback, Scope, ThreadHub, Transport,
+};
 use std::alloc::{AllocError, Global};
 use std::sync::Mutex;
 
@@ -75,4 +78,63 @@ pub(crate) fn at(second: u8) -> u64 {
 /// An event of its own, with the id of a number.
 pub(crate) fn event(alloc: Global, number: u8) -> Result<Event, AllocError> {
     Event::new(alloc, id(u64::from(number)), at(number))
+}
+
+/// Stands at the second 60.
+#[derive(Drop)]
+struct Minute;
+
+impl Clock for Minute {
+    fn now(&mut self) -> u64 {
+        at(60)
+    }
+}
+
+/// A thread whose main and current hub is this one, and whose clock stands at the second 60.
+pub(crate) fn thread_of(alloc: Global, hub: &Hub) -> Result<ThreadHub, AllocError> {
+    let clock: BoxedClock = Box::new(alloc, Minute)?;
+    ThreadHub::new(hub.clone()?, clock, [3; 32])
+}
+
+/// Drops every event.
+#[derive(Drop)]
+struct DropsEvents;
+
+impl EventCallback for DropsEvents {
+    ghost use Rattle.std.specs.Prelude.{None};
+
+    ghost gives = { λ _ event. None };
+
+    fn call(&self, _event: Event) -> Result<Option<Event>, AllocError> {
+        Ok(None)
+    }
+}
+
+/// A callback that drops every event.
+pub(crate) fn drops_events(alloc: Global) -> Result<BoxedEventCallback, AllocError> {
+    let callback: BoxedEventCallback = Box::new(alloc, DropsEvents)?;
+    Ok(callback)
+}
+
+/// Drops every log, or none.
+#[derive(Drop)]
+struct DropsLogs(bool);
+
+impl LogCallback for DropsLogs {
+    ghost use Rattle.std.specs.Prelude.{Some, None, if◌then◌else◌};
+
+    ghost gives = { λ s log. if s.0 then None else Some log };
+
+    fn call(&self, log: Log) -> Result<Option<Log>, AllocError> {
+        if self.0 {
+            return Ok(None);
+        }
+        Ok(Some(log))
+    }
+}
+
+/// A callback that drops every log, or none.
+pub(crate) fn drops_logs(alloc: Global, drops: bool) -> Result<BoxedLogCallback, AllocError> {
+    let callback: BoxedLogCallback = Box::new(alloc, DropsLogs(drops))?;
+    Ok(callback)
 }

@@ -74,6 +74,9 @@ pub type TransactionOrSpan = sentry_hub::performance::TransactionOrSpan<
 /// What the ids and draws of a thread come from.
 pub type Generator = rand::rngs::StdRng;
 
+/// What a generator starts from.
+pub type Seed = [u8; 32];
+
 /// The hubs of a thread: its main hub, its current hub, a clock and a generator.
 pub type ThreadHub = sentry_thread_hub::thread_hub::ThreadHub<Hub, BoxedClock, Generator>;
 

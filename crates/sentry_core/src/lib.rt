@@ -15,8 +15,8 @@ pub mod utils;
 
 pub use boxed::{
     Client, ClientCallbacks, ClientOptions, ClientSetup, Core, Generator, Hub, HubSwitchGuard,
-    Scope, ScopeEdit, ScopeEdits, SentryFuture, SharedCore, Span, Stack, StackLayer, ThreadHub,
-    Transaction, TransactionOrSpan,
+    Scope, ScopeEdit, ScopeEdits, Seed, SentryFuture, SharedCore, Span, Stack, StackLayer,
+    ThreadHub, Transaction, TransactionOrSpan,
 };
 pub use sentry_base::callbacks::{
     BoxedBreadcrumbCallback, BoxedEventCallback, BoxedLogCallback, BoxedMetricCallback,

@@ -29,7 +29,10 @@ macro_rules! logger_log {
         let hub = &$thread.current;
         let alloc = hub.core().allocator();
         let draft = $crate::logger::LogDraft::new(alloc, $level, $now);
-        $crate::logger::capture_log(&$rt, hub, $crate::logger_log!(@draft alloc, draft, $($rest)+))
+        match $crate::logger_log!(@draft alloc, draft, $($rest)+) {
+            Ok(log) => hub.capture_log(&$rt, log),
+            Err(error) => Err($crate::protocol::Refusal::from(error)),
+        }
     }};
 }
 
