@@ -119,9 +119,7 @@ fn main(rt: HostRuntime) -> Result<()> {
     let ended = engine.end_session_with_status(hub, SessionStatus::Exited, MORNING + 1)?;
     print_sent(&rt, &ended)?;
     print_sent(&rt, &engine.flush(client)?)?;
-    println!(rt;
-        "without a client: {}",
-        ask_nobody(&mut engine, alloc)?.simple()
-    )?;
+    let nil = ask_nobody(&mut engine, alloc)?.simple();
+    println!(rt; "without a client: {nil}")?;
     Ok(())
 }
