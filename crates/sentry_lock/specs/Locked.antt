@@ -86,6 +86,11 @@ module _ {P C : Type 0} where
       × DrainsIfOpen (record { tag = tag; number = entry.0 }) old between drainers left
       × DrainsEach tag entries between new left drained
 
+  -- all labels were drained, or none
+  abbrev pub DrainsFor : Bool → ℕ → Drainers → State P C → State P C → Type 0
+  DrainsFor true tag drainers old new = (drained : Drainers) × DrainsEach tag drainers old new drainers drained
+  DrainsFor false tag drainers old new = new ≡ old
+
 -- the same of the label of the next number, above which there is the rest
 pub record DrainsNext {P C : Type 0} (tag : ℕ) (last : Option ℕ) (number : ℕ) (old new : State P C)
     (drainers drained : Drainers) : Type 0 where
