@@ -95,7 +95,7 @@ module _ {P C : Type 0} where
 
   -- a label that is held is never refused
   pub held_absorbs : (old new : State P C) (label : Label) (quantities : List ℕ)
-      (result : Result (Out (Unit {0})) Refusal) → ∥ (world : World P C) × Stands old world ∥₁ → IsHeld true label old
+      (result : Result (Out (Unit {0})) Refusal) → ∥ ((world : World P C) × Stands old world) ∥₁ → IsHeld true label old
       → DoesWith true old new result (absorb label quantities) → Absorbs label quantities old new
   held_absorbs old new label quantities (Ok out) stands held does = (out, does)
   held_absorbs old new label quantities (Err refusal) stands held does =
@@ -105,7 +105,7 @@ module _ {P C : Type 0} where
 
   -- some world is stood for
   pub some_world : (engine : State P C) (drainers : Drainers) → ∥ IsSound engine drainers ∥₁
-      → ∥ (world : World P C) × Stands engine world ∥₁
+      → ∥ ((world : World P C) × Stands engine world) ∥₁
   some_world engine drainers sound = ∥∥₁_map sound (λ s. (s.world, s.stands))
 
   held_book : (world : World P C) (label : Label) → has_book world label ≡ true

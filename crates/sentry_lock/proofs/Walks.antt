@@ -1,9 +1,11 @@
 -- The walk over the labels.
-use Rattle.std.proofs.Common.{◌≡◌, ◌+◌, refl, ap, ◌∙◌, sym, subst, ℕ, List, [], ◌∷◌, true, false, Ordering, Less, Equal, Greater, length, arith, ◌⊎◌, inl, inr}
+use Rattle.std.proofs.Common.{◌≡◌, ◌+◌, refl, ap, ◌∙◌, sym, subst, ℕ, List, [], ◌∷◌, Bool, true, false, cond, ◌&&◌, Ordering, Less, Equal, Greater, length, arith, ◌⊎◌, inl, inr}
 use Rattle.std.specs.Prelude.{Option, Some, None, Result, Ok, Err, IfOk, IfErr, MatchOption}
 use Rattle.std.specs.Option.{IsSomeAnd}
-use Rattle.std.specs.Ordering.{nat_cmp}
-use Rattle.sentry_plain.specs.Tables.{entries_after, replace_at, value_at}
+use Rattle.std.specs.BTreeMap.Range.{range_contains}
+use Rattle.std.specs.Ordering.{nat_cmp, is_eq, is_lt}
+use Rattle.std.specs.declared.ops.Bound.TheVariants.{Unbounded}
+use Rattle.sentry_plain.specs.Tables.{above, entries_after, replace_at}
 use Rattle.sentry_base.specs.declared.protocol.keys.Label.{Label}
 use Rattle.sentry_base.specs.declared.protocol.losses.Losses.{Losses}
 use Rattle.sentry_base.specs.declared.protocol.refusal.Refusal.{Refusal}
@@ -13,13 +15,33 @@ use Rattle.sentry_state.specs.declared.state.State.{State}
 use Rattle.sentry_lock.specs.Words.{Drainers}
 use Rattle.sentry_lock.specs.Locked.{DrainsAndAbsorbs, DrainsEach, DrainsIfOpen, DrainsNext, FindsNoWords, IsHeld}
 
+abbrev is_after : ℕ → ℕ → Bool
+is_after n m = range_contains nat_cmp (above (Some n)) Unbounded m
+
 module _ {X : Type 0} where
+  -- the value that is replaced is that of the first entry, which isn't above itself
+  after_here : (n : ℕ) (x : X) (e : ℕ × X) (es : List (ℕ × X)) → nat_cmp n e.0 ≡ Equal
+      → entries_after (Some n) (replace_at (e ∷ es) n x) ≡ entries_after (Some n) (e ∷ es)
+  after_here n x e es is =
+      let rest = entries_after (Some n) es in
+      let out : is_after n e.0 ≡ false = ap (λ r. is_lt r && true) is in
+      ap (λ (b : Bool). entries_after (Some n) (cond b ((e.0, x) ∷ es) (e ∷ replace_at es n x))) (ap is_eq is)
+      ∙ (ap (λ (b : Bool). cond b ((e.0, x) ∷ rest) rest) out ∙ sym (ap (λ (b : Bool). cond b (e ∷ rest) rest) out))
+
+  -- or that of a later one
+  after_there : (n : ℕ) (x : X) (e : ℕ × X) (es : List (ℕ × X)) → is_eq (nat_cmp n e.0) ≡ false
+      → entries_after (Some n) (replace_at es n x) ≡ entries_after (Some n) es
+      → entries_after (Some n) (replace_at (e ∷ es) n x) ≡ entries_after (Some n) (e ∷ es)
+  after_there n x e es is rest =
+      ap (λ (b : Bool). entries_after (Some n) (cond b ((e.0, x) ∷ es) (e ∷ replace_at es n x))) is
+      ∙ ap (λ (more : List (ℕ × X)). cond (is_after n e.0) (e ∷ more) more) rest
+
   after_replaced_by : (n : ℕ) (x : X) (e : ℕ × X) (es : List (ℕ × X)) (r : Ordering) → nat_cmp n e.0 ≡ r
       → entries_after (Some n) (replace_at es n x) ≡ entries_after (Some n) es
       → entries_after (Some n) (replace_at (e ∷ es) n x) ≡ entries_after (Some n) (e ∷ es)
-  after_replaced_by n x e es Less is rest = rw is (ap (λ (more : List (ℕ × X)). e ∷ more) rest)
-  after_replaced_by n x e es Equal is rest = rw is refl
-  after_replaced_by n x e es Greater is rest = rw is rest
+  after_replaced_by n x e es Less is rest = after_there n x e es (ap is_eq is) rest
+  after_replaced_by n x e es Equal is rest = after_here n x e es is
+  after_replaced_by n x e es Greater is rest = after_there n x e es (ap is_eq is) rest
 
   -- another value at a number leaves what is above it
   pub after_replaced : (n : ℕ) (x : X) (es : List (ℕ × X))
@@ -89,7 +111,7 @@ module _ {P C : Type 0} where
   leads_on tag last number start engine next first drainers left leads one new drained rest =
       leads new drained
       (subst (λ entries. DrainsEach tag entries engine new drainers drained) (sym one.next)
-      (next, (left, (one.drains, rest))))
+      (next, left, one.drains, rest))
 
   pub leads_to_end : (tag : ℕ) (last : Option ℕ) (start engine new : State P C) (first drainers drained : Drainers)
       → Leads tag last start engine first drainers → entries_after last drainers ≡ [] → new ≡ engine

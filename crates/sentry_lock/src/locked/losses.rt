@@ -18,7 +18,7 @@ use sentry_options::clientoptions::Callbacks;
 
 // Absorbs losses under a label that a client names, which is never refused.
 fn absorb_held<P: Drop, C: Callbacks>(engine: &mut Engine<P, C>, label: Label, losses: &Losses)
-    requires stands { ∥ (world : World P C) × Stands engine.old world ∥₁ }
+    requires stands { ∥ ((world : World P C) × Stands engine.old world) ∥₁ }
     requires held { IsHeld true label engine.old }
     ensures { Absorbs label losses.now.quantities engine.old engine.new }
 {

@@ -25,3 +25,7 @@ invariant_of-self-2 g c =
           labelled_after_end self.tag c.args.label.number self.drainers c.end_words.new.drainers
           c.in-Ok-Some.standing.quantities ends self.labelled;
     }
+
+pub absorb_held-requires-clause-stands : goal.absorb_held-requires-clause-stands
+absorb_held-requires-clause-stands g c =
+    let self = c.args.self.now in some_world self.engine self.drainers self.sound

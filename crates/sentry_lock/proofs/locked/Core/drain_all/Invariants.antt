@@ -6,7 +6,7 @@ use Rattle.sentry_lock.proofs.locked.Core.drain_all.Given as goal
 -- what is left to be drained leads to the whole, and is as much as the loop has still to count
 abbrev pub invariant-loop : goal.invariant-loop
 invariant-loop g l = record {
-  tag : l.self.tag ≡ l.fn.self.tag;
-  leads : Leads l.fn.self.tag l.last l.fn.self.engine l.self.engine l.fn.self.drainers l.self.drainers;
-  left : length (entries_after l.last l.self.drainers) + l.counter ≡ length l.fn.self.drainers;
+  tag : l.self.tag ≡ l.initial.self.tag;
+  leads : Leads l.initial.self.tag l.last l.initial.self.engine l.self.engine l.initial.self.drainers l.self.drainers;
+  left : length (entries_after l.last l.self.drainers) + l.counter ≡ length l.initial.self.drainers;
 }
