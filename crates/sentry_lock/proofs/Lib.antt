@@ -5,3 +5,4 @@ mod Tied
 mod Labels
 mod Keeps
 mod Sound
+mod Walks
