@@ -5,3 +5,6 @@ mod Tied
 mod Labels
 mod Keeps
 mod Sound
+pub mod SentRecords
+mod SentHubs
+mod Sent
