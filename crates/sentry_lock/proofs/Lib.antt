@@ -6,3 +6,6 @@ mod Labels
 mod Keeps
 mod Sound
 mod Walks
+pub mod SentRecords
+mod SentHubs
+mod Sent
