@@ -19,7 +19,7 @@ fn pending<R: Wait, T: Transport + Drop>(
     client: &Client<T>,
     label: Label,
 ) -> Result<u64, Refusal> {
-    match client.core().lock(rt).take_report(label)? {
+    match client.core().lock(rt).core.take_report(label)? {
         None => Ok(0),
         Some(report) => Ok(errors_in(&report)),
     }
@@ -90,13 +90,13 @@ fn four_threads_lose_four_thousand_errors(rt: HostRuntime) -> Result<(), Fail> {
     );
     recorded?;
     sent?;
-    assert!(rt; core.lock(&rt).close_losses(label)?);
+    assert!(rt; core.lock(&rt).core.close_losses(label)?);
     let told = errors_told(transport.take(alloc).as_slice());
     let left = pending(&rt, &client, label)?;
     assert_eq!(rt; told.wrapping_add(left), 4000);
     // a second time nothing is left to end
-    assert!(rt; core.lock(&rt).close_losses(label)?);
-    assert!(rt; core.lock(&rt).drain_and_absorb(label)?.is_none());
+    assert!(rt; core.lock(&rt).core.close_losses(label)?);
+    assert!(rt; core.lock(&rt).core.drain_and_absorb(label)?.is_none());
     assert_eq!(rt; pending(&rt, &client, label)?, 0);
     Ok(())
 }
@@ -113,17 +113,17 @@ fn words_stay_open_while_a_recorder_is_held(rt: HostRuntime) -> Result<(), Fail>
     let client = Client::with_options(&rt, &core, setup, None, 0)?;
     let (first, mut held) = recorder.split().map_err(|(refusal, _)| refusal)?;
     drop(first);
-    assert!(rt; !core.lock(&rt).close_losses(label)?);
+    assert!(rt; !core.lock(&rt).core.close_losses(label)?);
     held.record_lost_data(&lost_error(alloc)?, TransportLossReason::NetworkError);
     assert_eq!(rt; pending(&rt, &client, label)?, 0);
-    let Some(losses) = core.lock(&rt).drain_and_absorb(label)? else {
+    let Some(losses) = core.lock(&rt).core.drain_and_absorb(label)? else {
         panic!(rt; "closed")
     };
     assert_eq!(rt; losses.quantities[6], 1);
     assert_eq!(rt; pending(&rt, &client, label)?, 1);
     held.record_lost_data(&lost_error(alloc)?, TransportLossReason::NetworkError);
     drop(held);
-    assert!(rt; core.lock(&rt).close_losses(label)?);
+    assert!(rt; core.lock(&rt).core.close_losses(label)?);
     assert_eq!(rt; pending(&rt, &client, label)?, 1);
     Ok(())
 }
@@ -154,8 +154,8 @@ fn the_losses_of_a_dropped_client_reach_no_report(rt: HostRuntime) -> Result<(),
     other.send_envelope(&rt, Envelope::new(alloc))?;
     assert!(rt; other.flush(&rt, None)?);
     assert_eq!(rt; errors_told(transport.take(alloc).as_slice()), 0);
-    assert!(rt; is_foreign(core.lock(&rt).drain_and_absorb(label)));
-    assert!(rt; is_foreign(core.lock(&rt).take_report(label)));
-    assert!(rt; is_foreign(core.lock(&rt).close_losses(label)));
+    assert!(rt; is_foreign(core.lock(&rt).core.drain_and_absorb(label)));
+    assert!(rt; is_foreign(core.lock(&rt).core.take_report(label)));
+    assert!(rt; is_foreign(core.lock(&rt).core.close_losses(label)));
     Ok(())
 }
