@@ -61,9 +61,16 @@ def leaves(tree, prefix=()):
         yield path, name.strip() or path[-1]
 
 
+def macros(crate):
+    """The exported macros of a crate, each with its `!`."""
+    files = glob.glob(os.path.join(CRATES, crate, "src", "**", "*.rt"), recursive=True)
+    found = (re.findall(r"^#\[macro_export\]\nmacro_rules! (\w+)", read(file), re.M) for file in files)
+    return {name + "!" for names in found for name in names}
+
+
 def exports(crate):
-    """Every public path below a crate. A module that is reached by two paths is gone through once."""
-    names, seen, left = set(), set(), [((crate,), "")]
+    """Every public path below a crate, and its macros. A module that is reached by two paths is gone through once."""
+    names, seen, left = macros(crate), set(), [((crate,), "")]
     while left:
         module, prefix = left.pop(0)
         if module in seen:

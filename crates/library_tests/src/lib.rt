@@ -13,6 +13,8 @@ mod keys;
 #[cfg(test)]
 mod laws;
 #[cfg(test)]
+mod metrics;
+#[cfg(test)]
 mod options;
 pub mod promises;
 #[cfg(test)]

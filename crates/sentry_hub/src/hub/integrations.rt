@@ -1,0 +1,70 @@
+//! The integrations of the client of a hub.
+use crate::hub::Hub;
+use sentry_base::callbacks::{BreadcrumbCallback, EventCallback, LogCallback, MetricCallback};
+use sentry_base::protocol::Refusal;
+use sentry_lock::transport::Transport;
+use sentry_options::clientoptions::ClientCallbacks;
+use sentry_options::integration::Integration;
+use sentry_options::sampler::TracesSampler;
+use sentry_plain::Shared;
+use std::sync::Wait;
+
+// The first integration of a name.
+fn find_integration<'a, I: Integration>(
+    integrations: &'a [Shared<I>],
+    name: &str,
+) -> Option<&'a Shared<I>> {
+    for integration in integrations {
+        if integration.get().name() == name {
+            return Some(integration);
+        }
+    }
+    None
+}
+
+impl<P, E, I, B, L, M, S, T> Hub<P, ClientCallbacks<E, I, B, L, M, S>, T>
+where
+    P: EventCallback + Drop,
+    E: EventCallback + Drop,
+    I: Integration + Drop,
+    B: BreadcrumbCallback + Drop,
+    L: LogCallback + Drop,
+    M: MetricCallback + Drop,
+    S: TracesSampler + Drop,
+    T: Transport + Drop,
+{
+    // A share of the first integration of this name that the client of the top layer has.
+    pub(crate) fn integration<R: Wait>(
+        &self,
+        rt: &R,
+        name: &str,
+    ) -> Result<Option<Shared<I>>, Refusal> {
+        let Some(client) = self.client(rt)? else {
+            return Ok(None);
+        };
+        let options = client.options(rt)?;
+        match find_integration(options.get().callbacks.integrations.as_slice(), name) {
+            None => Ok(None),
+            Some(integration) => Ok(Some(integration.clone()?)),
+        }
+    }
+
+    /// Lends the closure the first integration of this name that the client of the top layer has. Without a client, or
+    /// without such an integration, the closure does not run, and the answer is the default of its type. It runs without
+    /// the lock.
+    ///
+    /// `Stale`: the hub isn't held, or its client isn't. `OutOfMemory`.
+    pub fn with_integration<R: Wait, A: Default, F: FnOnce(&I) -> A + Drop>(
+        &self,
+        rt: &R,
+        name: &str,
+        callback: F,
+    ) -> Result<A, Refusal>
+        requires { F.IsAlwaysCallable callback }
+    {
+        match self.integration(rt, name)? {
+            None => Ok(A::default()),
+            Some(integration) => Ok(callback(integration.get())),
+        }
+    }
+}

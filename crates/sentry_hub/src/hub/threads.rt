@@ -1,0 +1,119 @@
+//! Hubs of a thread.
+ghost use Rattle.std.specs.Prelude.{◌≡◌, IfOk};
+
+use crate::hub::Hub;
+use sentry_base::callbacks::EventCallback;
+use sentry_base::protocol::Refusal;
+use sentry_engine::call::HubCall;
+use sentry_lock::transport::Transport;
+use sentry_options::clientoptions::Callbacks;
+use sentry_thread_hub::clock::Clock;
+use sentry_thread_hub::hub_switch_guard::run_with;
+use sentry_thread_hub::thread_hub::ThreadHub;
+use std::alloc::AllocError;
+use std::sync::Wait;
+
+impl<P: EventCallback + Drop, C: Callbacks, T: Transport + Drop> Hub<P, C, T> {
+    /// The current hub of the thread.
+    ///
+    /// An allocation may fail.
+    pub fn current<K, G>(thread: &ThreadHub<Hub<P, C, T>, K, G>) -> Result<Hub<P, C, T>, AllocError>
+        ensures { IfOk result (λ hub. hub ≡ thread.now.current) }
+    {
+        thread.current.clone()
+    }
+
+    /// The main hub of the thread.
+    ///
+    /// An allocation may fail.
+    pub fn main<K, G>(thread: &ThreadHub<Hub<P, C, T>, K, G>) -> Result<Hub<P, C, T>, AllocError>
+        ensures { IfOk result (λ hub. hub ≡ thread.now.main) }
+    {
+        thread.main.clone()
+    }
+
+    /// Gives the hub back, at the moment of the thread's clock. A session that no layer of another hub names ends.
+    ///
+    /// `Stale`: the hub isn't held. `ScopesOpen`: layers stand on its first one. `OutOfMemory`.
+    pub fn release<R: Wait, K: Clock, G>(
+        &self,
+        rt: &R,
+        thread: &mut ThreadHub<Hub<P, C, T>, K, G>,
+    ) -> Result<(), Refusal>
+        ensures main { thread.new.main ≡ thread.old.main }
+        ensures current { thread.new.current ≡ thread.old.current }
+    {
+        let now = thread.clock.now();
+        self.release_at(rt, now)
+    }
+
+    // The same, with the moment.
+    pub(crate) fn release_at<R: Wait>(&self, rt: &R, now: u64) -> Result<(), Refusal> {
+        self.done(rt, HubCall::ReleaseHub { hub: self.key, now })
+    }
+
+    /// Runs the closure, which is lent the current hub and the hubs of the thread.
+    ///
+    /// An allocation may fail: then it does not run.
+    pub fn with<K, G, A, F: FnOnce(&Hub<P, C, T>, &mut ThreadHub<Hub<P, C, T>, K, G>) -> A + Drop>(
+        thread: &mut ThreadHub<Hub<P, C, T>, K, G>,
+        callback: F,
+    ) -> Result<A, AllocError>
+        requires { F.IsAlwaysCallable callback }
+    {
+        let hub = Hub::current(thread)?;
+        Ok(callback(&hub, thread))
+    }
+
+    /// The same if the current hub is active: its client is enabled. Otherwise the closure does not run, and the answer
+    /// is the default of its type.
+    ///
+    /// `Stale`: the hub isn't held. `OutOfMemory`.
+    pub fn with_active<
+        R: Wait,
+        K,
+        G,
+        A: Default,
+        F: FnOnce(&Hub<P, C, T>, &mut ThreadHub<Hub<P, C, T>, K, G>) -> A + Drop,
+    >(rt: &R, thread: &mut ThreadHub<Hub<P, C, T>, K, G>, callback: F) -> Result<A, Refusal>
+        requires { F.IsAlwaysCallable callback }
+    {
+        match Hub::active(rt, thread)? {
+            None => Ok(A::default()),
+            Some(hub) => Ok(callback(&hub, thread)),
+        }
+    }
+
+    // The current hub of the thread, if it is active.
+    pub(crate) fn active<R: Wait, K, G>(
+        rt: &R,
+        thread: &ThreadHub<Hub<P, C, T>, K, G>,
+    ) -> Result<Option<Hub<P, C, T>>, Refusal> {
+        let hub = Hub::current(thread)?;
+        if !hub.is_active(rt)? {
+            return Ok(None);
+        }
+        Ok(Some(hub))
+    }
+
+    /// Runs the closure while a hub is the current one of the thread: it is lent the hub, and the hubs of the thread.
+    /// Afterwards the earlier one is current again.
+    ///
+    /// An allocation may fail: then it does not run.
+    pub fn run<
+        K: Drop,
+        G: Drop,
+        A,
+        F: FnOnce(&Hub<P, C, T>, &mut ThreadHub<Hub<P, C, T>, K, G>) -> A + Drop,
+    >(
+        hub: Hub<P, C, T>,
+        thread: &mut ThreadHub<Hub<P, C, T>, K, G>,
+        callback: F,
+    ) -> Result<A, AllocError>
+        requires { F.IsAlwaysCallable callback }
+        ensures { thread.new.current ≡ thread.old.current }
+    {
+        let same = hub.clone()?;
+        Ok(run_with(thread, hub, &same, callback))
+    }
+}

@@ -1,0 +1,111 @@
+//! The hubs of a thread, and what its calls are handed anew.
+ghost use Rattle.std.specs.Prelude.{◌≡◌, ⊤, IfOk};
+ghost use Rattle.sentry_thread_hub.specs.Draws.{draw_fresh, draw_sample};
+
+use crate::clock::Clock;
+use rand::RngExt;
+use rand_core::{Rng, SeedableRng};
+use sentry_base::protocol::{Draw, Fresh, Refusal, SampleRate, SpanId, TraceId, Uuid};
+use std::alloc::AllocError;
+use std::sync::Wait;
+
+/// A hub from which another one can be made.
+pub trait MakeFromTop: Sized + Drop {
+    // Holds of a hub and each hub that may be made from its top layer.
+    ghost is_from_top: { Self → Self → Type 0 } = { λ _ _. ⊤ };
+
+    /// A hub with the client and a copy of the scope of the other one's top layer.
+    ///
+    /// What the engine refuses; `OutOfMemory`.
+    fn make_from_top<R: Wait>(rt: &R, other: &Self) -> Result<Self, Refusal>
+        ensures { IfOk result (is_from_top other.now) };
+}
+
+/// What a thread holds, and hands to each call that the Rust crate makes on the hub of the thread: its main hub, its
+/// current hub, a clock, and a generator.
+#[derive(Drop)]
+pub struct ThreadHub<H, K, G> {
+    pub main: H,
+    /// The hub on which the free functions act.
+    pub current: H,
+    pub clock: K,
+    /// Draws ids and the draws of samples.
+    pub generator: G,
+}
+
+impl<H: Clone, K: Drop, G: SeedableRng + Drop> ThreadHub<H, K, G> {
+    /// The hubs of a thread whose current hub is the main one. The generator is the one of the seed `start`.
+    ///
+    /// An allocation may fail.
+    pub fn new(main: H, clock: K, start: G::Seed) -> Result<ThreadHub<H, K, G>, AllocError>
+        ensures main { IfOk result (λ thread. thread.main ≡ main) }
+        ensures current { IfOk result (λ thread. H.is_clone main thread.current) }
+        ensures clock { IfOk result (λ thread. thread.clock ≡ clock) }
+        ensures generator { IfOk result (λ thread. thread.generator ≡ G.of_seed (G.Seed.bytes start)) }
+    {
+        let current = main.clone()?;
+        Ok(ThreadHub {
+            main,
+            current,
+            clock,
+            generator: G::from_seed(start),
+        })
+    }
+}
+
+impl<H: MakeFromTop, K: Drop, G: SeedableRng + Drop> ThreadHub<H, K, G> {
+    /// The hubs of a thread whose current hub is made from the top layer of the main one, which is the hub of another
+    /// thread. The generator is the one of the seed `start`.
+    ///
+    /// What `make_from_top` refuses; `OutOfMemory`.
+    pub fn from_main<R: Wait>(
+        rt: &R,
+        main: H,
+        clock: K,
+        start: G::Seed,
+    ) -> Result<ThreadHub<H, K, G>, Refusal>
+        ensures main { IfOk result (λ thread. thread.main ≡ main) }
+        ensures current { IfOk result (λ thread. H.is_from_top main thread.current) }
+        ensures clock { IfOk result (λ thread. thread.clock ≡ clock) }
+        ensures generator { IfOk result (λ thread. thread.generator ≡ G.of_seed (G.Seed.bytes start)) }
+    {
+        let current = H::make_from_top(rt, &main)?;
+        Ok(ThreadHub {
+            main,
+            current,
+            clock,
+            generator: G::from_seed(start),
+        })
+    }
+}
+
+// A number below a million.
+fn draw_below_million<G: Rng>(generator: &mut G) -> Draw
+    ensures { (result, G.stream generator.new) ≡ draw_sample (G.stream generator.old) }
+{
+    let millionths = generator.random_range(0..SampleRate::ALL);
+    Draw::new(millionths).unwrap()
+}
+
+impl<H, K: Clock, G: Rng> ThreadHub<H, K, G> {
+    /// The moment, and then what the generator draws: a version 4 UUID, the id of a trace, the id of a span, each big
+    /// end first, and a draw below a million.
+    pub fn fresh(&mut self) -> Fresh
+        ensures drawn { (result, G.stream self.new.generator) ≡ draw_fresh result.now (G.stream self.old.generator) }
+        ensures main { self.new.main ≡ self.old.main }
+        ensures current { self.new.current ≡ self.old.current }
+    {
+        let now = self.clock.now();
+        let uuid = Uuid::new_v4(&mut self.generator);
+        let trace_id: u128 = self.generator.random();
+        let span_id: u64 = self.generator.random();
+        let draw = draw_below_million(&mut self.generator);
+        Fresh {
+            now,
+            uuid,
+            trace_id: TraceId(trace_id.to_be_bytes()),
+            span_id: SpanId(span_id.to_be_bytes()),
+            draw,
+        }
+    }
+}
