@@ -1,7 +1,8 @@
 //! The loops that `bench/headers`, `bench/losses` and `bench/queueing` time from outside. Arguments: `read CALLS` or
 //! `scan CALLS`, of trace headers; `losses THREADS LOSSES DRAINS`, with losses of one category, or `spread ..` with a
 //! category for each thread, which tell whether all losses are accounted for; `quiet DRAINS`, or `raised DRAINS` with a
-//! loss before each; `queue TURNS`, of an envelope that is taken and offered.
+//! loss before each; `queue TURNS`, of an envelope that is taken and offered; `transport TURNS`, of envelopes that go
+//! through a queueing transport.
 #![tactic(auto)]
 
 mod headers;
@@ -11,6 +12,7 @@ mod queueing;
 use losses::{Spread, count_losses, drain_quiet, drain_raised};
 use sentry_base::protocol::Refusal;
 use std::alloc::Global;
+use std::sync::Wait;
 use std::thread::Threads;
 use std::{env, io};
 
@@ -26,7 +28,7 @@ fn word_at(words: &[String], place: usize) -> &str {
 }
 
 /// What the loop that the words name counts; none for another name, or where words of losses could not be closed.
-fn count<R: Threads + Sync>(
+fn count<R: Threads + Wait + Sync + Copy + Drop>(
     rt: &R,
     alloc: Global,
     words: &[String],
@@ -42,6 +44,7 @@ fn count<R: Threads + Sync>(
         "quiet" => drain_quiet(alloc, number).map(Some),
         "raised" => drain_raised(alloc, number).map(Some),
         "queue" => queueing::take_and_offer(alloc, number).map(Some),
+        "transport" => queueing::send_and_pump(*rt, alloc, number),
         _ => Ok(None),
     }
 }
