@@ -1,8 +1,7 @@
 //! The loops that `bench/headers`, `bench/losses` and `bench/queueing` time from outside. Arguments: `read CALLS` or
 //! `scan CALLS`, of trace headers; `losses THREADS LOSSES DRAINS`, with losses of one category, or `spread ..` with a
 //! category for each thread, which tell whether all losses are accounted for; `quiet DRAINS`, or `raised DRAINS` with a
-//! loss before each; `queue TURNS`, of an envelope that is taken and offered; `transport TURNS`, of envelopes that go
-//! through a queueing transport.
+//! loss before each; `queue TURNS`, of an envelope that is taken and offered.
 #![tactic(auto)]
 
 mod headers;
@@ -12,7 +11,6 @@ mod queueing;
 use losses::{Spread, count_losses, drain_quiet, drain_raised};
 use sentry_base::protocol::Refusal;
 use std::alloc::Global;
-use std::sync::Wait;
 use std::thread::Threads;
 use std::{env, io};
 
@@ -28,7 +26,7 @@ fn word_at(words: &[String], place: usize) -> &str {
 }
 
 /// What the loop that the words name counts; none for another name, or where words of losses could not be closed.
-fn count<R: Threads + Wait + Sync + Copy + Drop>(
+fn count<R: Threads + Sync>(
     rt: &R,
     alloc: Global,
     words: &[String],
@@ -44,7 +42,6 @@ fn count<R: Threads + Wait + Sync + Copy + Drop>(
         "quiet" => drain_quiet(alloc, number).map(Some),
         "raised" => drain_raised(alloc, number).map(Some),
         "queue" => queueing::take_and_offer(alloc, number).map(Some),
-        "transport" => queueing::send_and_pump(*rt, alloc, number),
         _ => Ok(None),
     }
 }

@@ -5,11 +5,11 @@ use sentry_base::callbacks::{
 };
 use sentry_base::protocol::{Envelope, EnvelopeItem, Event, Refusal, Uuid};
 use sentry_client_reports::client_reports::Recorder;
+use sentry_clock::Clock;
 use sentry_lock::transport::{Transport, TransportOptions};
 use sentry_options::clientoptions::ClientOptions as GenericOptions;
 use sentry_options::integration::BoxedIntegration;
 use sentry_options::sampler::BoxedTracesSampler;
-use sentry_queue_transport::clock::Clock;
 use sentry_queue_transport::queue_transport::QueueTransport;
 use std::alloc::{AllocError, Global};
 use std::sync::{Mutex, Wait};

@@ -1,5 +1,5 @@
 //! The moment, as the program sets it.
-use sentry_queue_transport::clock::Clock;
+use sentry_clock::Clock;
 use std::sync::Arc;
 use std::sync::atomic::{AtomicU64, Ordering};
 

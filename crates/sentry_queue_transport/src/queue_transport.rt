@@ -3,10 +3,10 @@ ghost use Rattle.std.specs.Prelude.{◌≡◌, IfErr, option_map, unwrap_or};
 ghost use Rattle.std.specs.Int.NonZero.{non_zero_usize_get};
 ghost use Rattle.sentry_base.specs.declared.protocol.refusal.Refusal.TheVariants.{OutOfMemory};
 
-use crate::clock::Clock;
-use crate::timed_queue::TimedQueue;
 use sentry_base::protocol::{Category, Envelope, Refusal};
+use sentry_clock::Clock;
 use sentry_lock::transport::{Transport, TransportOptions};
+use sentry_timed_queue::timed_queue::TimedQueue;
 use std::alloc::Global;
 use std::num::NonZeroUsize;
 use std::sync::{Mutex, MutexGuard, Wait};

@@ -3,11 +3,11 @@ ghost use Rattle.std.specs.Prelude.{◌≡◌, ◌≤◌, ℕ, Option, List, [],
 ghost use Rattle.sentry_base.specs.declared.protocol.refusal.Refusal.TheVariants.{OutOfMemory};
 ghost use Rattle.sentry_client_reports.specs.LossWords.{LossPart};
 ghost use Rattle.sentry_queueing.specs.QueueHistories.{QueueCall, take_call, limit_call, StandsFor, first_envelope, waiting_count};
-ghost use Rattle.sentry_queue_transport.specs.QueueCalls.{IsMadeByCalls, MakesCall, IsOffered};
+ghost use Rattle.sentry_timed_queue.specs.QueueCalls.{IsMadeByCalls, MakesCall, IsOffered};
 
-use crate::clock::Clock;
 use sentry_base::protocol::{Category, Envelope, Refusal};
 use sentry_client_reports::client_reports::Recorder;
+use sentry_clock::Clock;
 use sentry_queueing::queueing::QueueCore;
 use std::alloc::Global;
 
@@ -28,7 +28,7 @@ impl<K: Drop> TimedQueue<K> {
     ///
     /// `OutOfMemory`.
     #[tactic(auto, using(crate::proofs::MadeLemmas::made_new))]
-    pub(crate) fn new(
+    pub fn new(
         alloc: Global,
         capacity: usize,
         recorder: Option<Recorder>,

@@ -1,7 +1,7 @@
 use Rattle.std.proofs.Common.{length, ap, arith, length-append}
 use Rattle.sentry_queueing.specs.QueueHistories.{queued_envelopes, taken_envelopes}
-use Rattle.sentry_queue_transport.proofs.CountLemmas.{offers_add_up}
-use Rattle.sentry_queue_transport.proofs.laws.envelopes_add_up.Goals as goal
+use Rattle.sentry_timed_queue.proofs.CountLemmas.{offers_add_up}
+use Rattle.sentry_timed_queue.proofs.laws.envelopes_add_up.Goals as goal
 
 pub returns : goal.returns
 returns c = λ capacity history.

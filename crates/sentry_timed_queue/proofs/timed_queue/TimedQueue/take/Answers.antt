@@ -1,6 +1,6 @@
 use Rattle.sentry_queueing.specs.QueueHistories.{take_call}
-use Rattle.sentry_queue_transport.proofs.MadeLemmas.{made_after_call}
-use Rattle.sentry_queue_transport.proofs.timed_queue.TimedQueue.take.Goals as goal
+use Rattle.sentry_timed_queue.proofs.MadeLemmas.{made_after_call}
+use Rattle.sentry_timed_queue.proofs.timed_queue.TimedQueue.take.Goals as goal
 
 pub invariant_of-self : goal.invariant_of-self
 invariant_of-self g c =

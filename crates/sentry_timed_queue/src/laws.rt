@@ -1,7 +1,7 @@
 //! What holds after every list of calls on a queue.
 ghost use Rattle.std.specs.Prelude.{◌≡◌, ◌+◌, ℕ, List, length};
 ghost use Rattle.sentry_queueing.specs.QueueHistories.{QueueCall, queued_envelopes, taken_envelopes};
-ghost use Rattle.sentry_queue_transport.specs.QueueCounts.{offered_count, emptied_count, turned_away_count};
+ghost use Rattle.sentry_timed_queue.specs.QueueCounts.{offered_count, emptied_count, turned_away_count};
 
 use sentry_queueing::queueing::queue_keeps_order;
 

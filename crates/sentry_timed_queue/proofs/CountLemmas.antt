@@ -5,7 +5,7 @@ use Rattle.std.specs.Prelude.{if◌then◌else◌}
 use Rattle.sentry_base.specs.declared.protocol.envelope.Envelope.{Envelope}
 use Rattle.sentry_queueing.specs.Limits.{without_limited, leaves_something, kept_of}
 use Rattle.sentry_queueing.specs.QueueHistories.{QueueCall, offer_call, take_call, limit_call, is_limited, waiting_count, kept_envelopes}
-use Rattle.sentry_queue_transport.specs.QueueCounts.{offered_count, emptied_count, turned_away_count}
+use Rattle.sentry_timed_queue.specs.QueueCounts.{offered_count, emptied_count, turned_away_count}
 
 -- an offer is kept, turned away, or leaves nothing
 one_fate : (left has_room : Bool) (envelope : Envelope)

@@ -4,8 +4,8 @@ use native.Mathlib.Bridge.{le_prop}
 use Rattle.std.proofs.Common.{◌≡◌, ◌≤◌, ℕ, List, [], ◌∷◌, Option, sym, subst}
 use Rattle.sentry_client_reports.specs.LossWords.{LossPart}
 use Rattle.sentry_queueing.specs.QueueHistories.{Queue, QueueCall, StandsFor, waiting_count}
-use Rattle.sentry_queue_transport.specs.QueueCalls.{IsMadeByCalls, MakesCall}
-use Rattle.sentry_queue_transport.proofs.CountLemmas.{waits_within_capacity}
+use Rattle.sentry_timed_queue.specs.QueueCalls.{IsMadeByCalls, MakesCall}
+use Rattle.sentry_timed_queue.proofs.CountLemmas.{waits_within_capacity}
 
 -- a new queue
 pub made_new : (room : ℕ) (first : Option LossPart) (queue : Queue) → StandsFor room first [] queue
