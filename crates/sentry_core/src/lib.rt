@@ -19,6 +19,7 @@ pub use sentry_base::protocol;
 pub use sentry_base::protocol::{Breadcrumb, Envelope, Level, User};
 pub use sentry_batches::batcher::Batch;
 pub use sentry_batches::metrics;
+pub use sentry_clock::{BoxedClock, Clock};
 pub use sentry_engine::engine::ScopeGuard;
 pub use sentry_options::clientoptions::{
     EventSamplingStrategy, MaxRequestBodySize, PlainOptions, SessionMode, TracesSamplingStrategy,
