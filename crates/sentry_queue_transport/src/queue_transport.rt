@@ -6,6 +6,7 @@ ghost use Rattle.sentry_base.specs.declared.protocol.refusal.Refusal.TheVariants
 use sentry_base::protocol::{Category, Envelope, Refusal};
 use sentry_clock::Clock;
 use sentry_lock::transport::{Transport, TransportOptions};
+use sentry_timed_queue::send_queue::SendQueue;
 use sentry_timed_queue::timed_queue::TimedQueue;
 use std::alloc::Global;
 use std::num::NonZeroUsize;
@@ -20,7 +21,7 @@ pub const DEFAULT_CAPACITY: usize = 30;
 #[derive(Drop)]
 pub struct QueueTransport<R: Wait + Drop, T, K> {
     rt: R,
-    queue: Mutex<TimedQueue<K>>,
+    queue: Mutex<SendQueue<K>>,
     inner: T,
 }
 
@@ -43,13 +44,13 @@ impl<R: Wait + Drop, T: Transport + Drop, K: Clock + Drop> QueueTransport<R, T, 
         let queue = TimedQueue::new(alloc, capacity, options.client_report_recorder, clock)?;
         Ok(QueueTransport {
             rt,
-            queue: Mutex::new(queue),
+            queue: Mutex::new(SendQueue::new(queue)),
             inner,
         })
     }
 
-    /// Takes the lock. While the guard is held every other call on this queue waits.
-    pub fn lock(&self) -> MutexGuard<'_, TimedQueue<K>> {
+    // While the guard is held every other call on this queue waits. A `&` to what it guards shows no field.
+    fn lock(&self) -> MutexGuard<'_, SendQueue<K>> {
         self.queue.lock(&self.rt)
     }
 
@@ -60,7 +61,7 @@ impl<R: Wait + Drop, T: Transport + Drop, K: Clock + Drop> QueueTransport<R, T, 
 
     // The lock is free again when it returns, as when each of the next does.
     fn take(&self) -> Option<Envelope> {
-        self.lock().take()
+        self.lock().queue.take()
     }
 
     /// Passes the first envelope that waits to the inner transport, and answers whether one waited. The lock is free
@@ -87,17 +88,21 @@ impl<R: Wait + Drop, T: Transport + Drop, K: Clock + Drop> QueueTransport<R, T, 
     /// Limits a category, or without one each category, until this moment (nanoseconds since the epoch), as a server
     /// asked. A category that is limited for longer stays so. Envelopes that wait already are not looked at.
     pub fn limit(&self, category: Option<Category>, until: u64) {
-        self.lock().limit(category, until);
+        self.lock().queue.limit(category, until);
     }
 
     /// How many envelopes wait.
     pub fn len(&self) -> usize {
-        self.lock().len()
+        let mut guard = self.lock();
+        let queue = &mut guard.queue;
+        queue.len()
     }
 
     /// How many envelopes can wait.
     pub fn capacity(&self) -> usize {
-        self.lock().capacity()
+        let mut guard = self.lock();
+        let queue = &mut guard.queue;
+        queue.capacity()
     }
 }
 
@@ -115,7 +120,7 @@ fn capacity_of(option: Option<NonZeroUsize>) -> usize
 impl<R: Wait + Drop, T: Transport + Drop, K: Clock + Drop> Transport for QueueTransport<R, T, K> {
     /// Offers the envelope to the queue, at the clock's moment.
     fn send_envelope(&self, envelope: Envelope) {
-        self.lock().offer(envelope);
+        self.lock().queue.offer(envelope);
     }
 
     /// Passes on at most as many envelopes as wait when it begins, and then answers the `flush` of the inner transport,
