@@ -1,12 +1,13 @@
 //! Threads that send beside one that pumps: nothing is lost uncounted, and nothing is passed on twice.
 ghost use Rattle.std.specs.Prelude.{◌≡◌};
 
-use crate::workshop::{Queue, event_alone, numbers, queue};
-use sentry_base::protocol::{Label, Losses, Refusal};
-use sentry_client_reports::client_reports::{Drainer, LossWords};
+use crate::workshop::{StandingClock, event_alone, transport_options};
+use sentry_base::protocol::{Envelope, Label, Losses, Refusal};
+use sentry_client_reports::client_reports::{Drainer, LossWords, Recorder};
 use sentry_lock::transport::Transport;
-use std::alloc::Global;
-use std::sync::Wait;
+use sentry_queue_transport::queue_transport::QueueTransport;
+use std::alloc::{AllocError, Global};
+use std::sync::{Mutex, Wait};
 use std::test::Fail;
 use std::thread::join;
 
@@ -14,6 +15,55 @@ const LABEL: Label = Label { tag: 7, number: 5 };
 
 // The place of events for which a queue had no room among losses.
 const TURNED_AWAY: usize = 8;
+
+/// Keeps the numbers of the events that it is to send.
+#[derive(Drop)]
+struct Numbers<R: Wait + Drop> {
+    rt: R,
+    numbers: Mutex<Vec<u128>>,
+}
+
+impl<R: Wait + Drop> Numbers<R> {
+    fn new(rt: R, alloc: Global) -> Numbers<R> {
+        Numbers {
+            rt,
+            numbers: Mutex::new(Vec::new(alloc)),
+        }
+    }
+
+    /// The numbers so far, sorted, which are then forgotten.
+    fn take(&self, alloc: Global) -> Result<Vec<u128>, AllocError> {
+        let mut numbers = self.numbers.lock(&self.rt);
+        let mut taken = std::mem::replace(&mut *numbers, Vec::new(alloc));
+        taken.sort()?;
+        Ok(taken)
+    }
+}
+
+impl<R: Wait + Drop> Transport for Numbers<R> {
+    fn send_envelope(&self, envelope: Envelope) {
+        if let Some(id) = envelope.header.event_id {
+            drop(self.numbers.lock(&self.rt).push(id.as_u128()));
+        }
+    }
+}
+
+type Queue<R> = QueueTransport<R, Numbers<R>, StandingClock>;
+
+fn queue<R: Wait + Drop + Copy>(
+    rt: R,
+    alloc: Global,
+    recorder: Recorder,
+) -> Result<Queue<R>, Refusal> {
+    let options = transport_options(alloc, None, Some(recorder))?;
+    QueueTransport::new(
+        rt,
+        alloc,
+        options,
+        Numbers::new(rt, alloc),
+        StandingClock { moment: 5 },
+    )
+}
 
 // A thousand events with the numbers from this one on.
 fn send_thousand<R: Wait + Drop>(
@@ -71,7 +121,7 @@ fn twice(numbers: &[u128]) -> usize {
 fn two_thousand_events_are_passed_on_queued_or_recorded(rt: HostRuntime) -> Result<(), Fail> {
     let alloc: Global = rt.alloc();
     let (recorder, mut drainer) = LossWords::new(alloc, LABEL)?;
-    let queue = queue(rt, alloc, None, Some(recorder))?;
+    let queue = queue(rt, alloc, recorder)?;
     let (pumped, (first, second)) = join(
         &rt,
         || pump_often(&queue, 3000),
@@ -95,11 +145,9 @@ fn two_thousand_events_are_passed_on_queued_or_recorded(rt: HostRuntime) -> Resu
     // what waits is passed on by a flush
     assert!(rt; queue.flush(1));
     assert_eq!(rt; queue.len(), 0);
-    let envelopes = queue.inner().take(alloc);
-    let passed = envelopes.len() as u64;
+    let numbers = queue.inner().take(alloc)?;
+    let passed = numbers.len() as u64;
     assert_eq!(rt; passed, pumped.wrapping_add(queued));
-    let numbers = numbers(alloc, &envelopes)?;
-    assert_eq!(rt; numbers.len(), envelopes.len());
     assert_eq!(rt; twice(&numbers), 0);
     assert!(rt; drained(&mut drainer) == Losses::none());
     Ok(())

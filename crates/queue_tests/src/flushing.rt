@@ -14,11 +14,7 @@ use std::thread::join;
 
 const LABEL: Label = Label { tag: 7, number: 6 };
 
-fn send<R: Wait + Drop>(
-    queue: &Queue<R>,
-    alloc: Global,
-    numbers: &[u64],
-) -> Result<(), AllocError> {
+fn send<T: Transport>(queue: &T, alloc: Global, numbers: &[u64]) -> Result<(), AllocError> {
     for number in numbers {
         queue.send_envelope(event_alone(alloc, *number)?);
     }
@@ -149,10 +145,14 @@ fn meeting_queue<R: Wait + Drop + Copy>(
 }
 
 // Queues an envelope while the inner transport sends the first.
-fn queue_meanwhile<R: Wait + Drop>(queue: &MeetingQueue<R>, envelope: Envelope) {
+fn queue_meanwhile<R: Wait + Drop>(
+    queue: &MeetingQueue<R>,
+    alloc: Global,
+) -> Result<(), AllocError> {
     queue.inner().meet();
-    queue.send_envelope(envelope);
+    let queued = send(queue, alloc, &[2]);
     queue.inner().meet();
+    queued
 }
 
 #[test]
@@ -161,9 +161,9 @@ fn a_flush_passes_on_what_waited_when_it_began(rt: HostRuntime) -> Result<(), Fa
     let clock: BoxedClock = Box::new(alloc, StandingClock { moment: 5 })?;
     let queue = meeting_queue(rt, alloc, clock)?;
     queue.send_envelope(event_alone(alloc, 1)?);
-    let second = event_alone(alloc, 2)?;
     // the lock is free while the inner transport sends: the second thread is not kept waiting by the first
-    let (flushed, _) = join(&rt, || queue.flush(1), || queue_meanwhile(&queue, second));
+    let (flushed, queued) = join(&rt, || queue.flush(1), || queue_meanwhile(&queue, alloc));
+    queued?;
     assert!(rt; flushed);
     assert_eq!(rt; queue.inner().passed(), 1);
     assert_eq!(rt; queue.len(), 1);

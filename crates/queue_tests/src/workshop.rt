@@ -143,15 +143,3 @@ pub(crate) fn event_alone(alloc: Global, number: u64) -> Result<Envelope, AllocE
     envelope.add_item(EnvelopeItem::Event(event(alloc, number)?))?;
     Ok(envelope)
 }
-
-/// The numbers of the events, sorted.
-pub(crate) fn numbers(alloc: Global, envelopes: &[Envelope]) -> Result<Vec<u128>, AllocError> {
-    let mut numbers = Vec::new(alloc);
-    for envelope in envelopes {
-        if let Some(id) = envelope.header.event_id {
-            numbers.push(id.as_u128())?;
-        }
-    }
-    numbers.sort()?;
-    Ok(numbers)
-}
