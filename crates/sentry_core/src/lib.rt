@@ -25,6 +25,7 @@ pub use sentry_base::callbacks::{
 pub use sentry_base::protocol;
 pub use sentry_base::protocol::{Breadcrumb, Envelope, Level, User};
 pub use sentry_batches::batcher::Batch;
+pub use sentry_clock::{BoxedClock, Clock};
 pub use sentry_engine::engine::ScopeGuard;
 pub use sentry_hub::api::{
     add_breadcrumb, capture_error, capture_event, capture_message, configure_scope, end_session,
