@@ -14,14 +14,14 @@ use std::process::ExitCode;
 use std::sync::Wait;
 
 // Where memory is refused, it is asked for once more.
-fn locked<R: Wait + Copy + Drop>(rt: R, alloc: Global) -> Result<Locked<R>, ScenarioFault> {
+fn make_locked<R: Wait + Copy + Drop>(rt: R, alloc: Global) -> Result<Locked<R>, ScenarioFault> {
     match Locked::new(rt, alloc) {
         Ok(locked) => Ok(locked),
         Err(_) => Ok(Locked::new(rt, alloc)?),
     }
 }
 
-fn play(rt: &HostRuntime) -> Result<(), ScenarioFault> {
+fn play<R: Wait + Copy + Drop>(rt: &HostRuntime, locked: Locked<R>) -> Result<(), ScenarioFault> {
     let alloc: Global = rt.alloc();
     // The same of the buffer.
     let reader = match BufReader::new(alloc, rt.stdin()) {
@@ -31,12 +31,15 @@ fn play(rt: &HostRuntime) -> Result<(), ScenarioFault> {
     let Ok(mut reader) = reader else {
         return Err(ScenarioFault::OutOfMemory);
     };
-    let locked = locked(*rt, alloc)?;
     run_scenario_by(alloc, locked, &mut reader, &mut rt.stdout())
 }
 
 fn main(rt: HostRuntime) -> ExitCode {
-    match play(&rt) {
+    let played = match make_locked(rt, rt.alloc()) {
+        Ok(locked) => play(&rt, locked),
+        Err(fault) => Err(fault),
+    };
+    match played {
         Ok(()) => ExitCode::SUCCESS,
         Err(fault) => {
             let _ = eprintln!(rt; "scenario_lock: {fault}");
