@@ -1,5 +1,5 @@
 //! Losses: none gets lost between recorders in threads, the drains under the lock, and the reports.
-ghost use Rattle.std.specs.Prelude.{◌≡◌, Some};
+ghost use Rattle.std.specs.Prelude.{◌≡◌};
 
 use crate::workshop::{
     Client, Collector, SharedCore, errors_in, errors_told, event, fresh, lost_error, options,
@@ -179,6 +179,8 @@ where
 struct Starves;
 
 impl EventCallback for Starves {
+    ghost use Rattle.std.specs.Prelude.{Some};
+
     ghost gives = { λ _ event. Some event };
 
     fn call(&self, _event: Event) -> Result<Option<Event>, AllocError> {
