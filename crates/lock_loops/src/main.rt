@@ -1,6 +1,6 @@
 //! The loops of messages that `bench/lock` times from outside. Arguments: `engine MESSAGES`, of an engine alone, or
-//! `client MESSAGES`, of a client of one under its lock. Each message is an event under a scope with a tag; the transport
-//! drops the envelopes.
+//! `client MESSAGES`, of a client of one under its lock. Each message is an event under a scope with a tag, and the
+//! transport drops the envelopes.
 #![tactic(auto)]
 
 mod messages;
