@@ -1,8 +1,11 @@
 //! Losses: none gets lost between recorders in threads, the drains under the lock, and the reports.
 ghost use Rattle.std.specs.Prelude.{◌≡◌};
 
-use crate::workshop::{Client, Collector, SharedCore, errors_in, errors_told, lost_error, options};
-use sentry_base::protocol::{ClientReport, Envelope, Label, Refusal};
+use crate::workshop::{
+    Client, Collector, SharedCore, errors_in, errors_told, event, fresh, lost_error, options,
+};
+use sentry_base::callbacks::{BoxedEventCallback, EventCallback};
+use sentry_base::protocol::{ClientKey, ClientReport, Envelope, Event, Label, Refusal};
 use sentry_client_reports::client_reports::{Recorder, TransportLossReason};
 use sentry_lock::client::ClientSetup;
 use sentry_lock::transport::Transport;
@@ -157,5 +160,56 @@ fn the_losses_of_a_dropped_client_reach_no_report(rt: HostRuntime) -> Result<(),
     assert!(rt; is_foreign(core.lock(&rt).core.drain_and_absorb(label)));
     assert!(rt; is_foreign(core.lock(&rt).core.take_report(label)));
     assert!(rt; is_foreign(core.lock(&rt).core.close_losses(label)));
+    Ok(())
+}
+
+// Why a call was refused.
+fn refusal_of<A>(answer: Result<A, Refusal>) -> Option<Refusal>
+where
+    A: Drop,
+{
+    match answer {
+        Ok(_) => None,
+        Err(refusal) => Some(refusal),
+    }
+}
+
+// An event callback that is out of memory for every event.
+#[derive(Drop)]
+struct Starves;
+
+impl EventCallback for Starves {
+    ghost use Rattle.std.specs.Prelude.{Some};
+
+    ghost gives = { λ _ event. Some event };
+
+    fn call(&self, _event: Event) -> Result<Option<Event>, AllocError> {
+        Err(AllocError)
+    }
+}
+
+#[test]
+fn what_was_drained_stays_absorbed_if_the_call_is_refused(rt: HostRuntime) -> Result<(), Fail> {
+    let alloc: Global = rt.alloc();
+    let starves: BoxedEventCallback = Box::new(alloc, Starves)?;
+    let core: SharedCore<Sink> = SharedCore::new(alloc, 1)?;
+    let transport = Arc::new(alloc, Collector::new(rt, alloc, true))?;
+    let mut setup = core.client_setup(&rt, options(alloc)?.before_send(starves)?)?;
+    let label = setup.label();
+    let Some(mut recorder) = recorder_of(&mut setup)? else {
+        panic!(rt; "no recorder")
+    };
+    let client = Client::with_options(&rt, &core, setup, Some(transport.clone()?), 0)?;
+    let lost = lost_error(alloc)?;
+    recorder.record_lost_data(&lost, TransportLossReason::NetworkError);
+    assert_eq!(rt; pending(&rt, &client, label)?, 0);
+    let starved = client.capture_event(&rt, event(alloc, 1)?, None, fresh(1)?);
+    assert_eq!(rt; refusal_of(starved), Some(Refusal::OutOfMemory));
+    assert_eq!(rt; pending(&rt, &client, label)?, 1);
+    recorder.record_lost_data(&lost, TransportLossReason::NetworkError);
+    let gone = core.client(ClientKey { tag: 1, number: 9 })?;
+    assert_eq!(rt; refusal_of(gone.flush(&rt, None)), Some(Refusal::Stale));
+    assert_eq!(rt; pending(&rt, &client, label)?, 1);
+    assert_eq!(rt; transport.take(alloc).len(), 0);
     Ok(())
 }
