@@ -113,26 +113,31 @@ def errors_of(room, texts):
     return found, None if ran.returncode == 0 else said
 
 
-def bad_of(room, tried):
-    """The edits of a round that don't compile, each with the error, as far as errors tell."""
-    bad = {}
-    while True:
-        errors, said = errors_of(room, tried.texts)
-        if said is None:
-            return bad
-        blamed = {}
-        for crate, file, line, what in errors:
-            edit = tried.edit_at(f"{TOP}/crates/{crate}/{file}", line)
-            if edit:
-                blamed.setdefault(edit, what)
-        if not blamed:
-            sys.exit(f"{said}\nno edit of the round stands where these errors do: {' '.join(map(os.path.basename, tried.edits))}")
-        bad.update(blamed)
-        left = Round()
-        for edit in tried.edits:
-            if edit not in blamed:
-                left.takes(edit)
-        tried = left
+def round_of(edits):
+    """A round of these edits, none of which is in the way of another."""
+    made = Round()
+    for edit in edits:
+        made.takes(edit)
+    return made
+
+
+def bad_of(room, edits):
+    """Those of these edits that don't compile, each with an error. Where no edit stands at an error, as one that changes
+    the bounds of an impl breaks code elsewhere, it is sought in the halves of the edits."""
+    if not edits:
+        return {}
+    tried = round_of(edits)
+    errors, said = errors_of(room, tried.texts)
+    if said is None:
+        return {}
+    found = [(tried.edit_at(f"{TOP}/crates/{crate}/{file}", line), what) for crate, file, line, what in errors]
+    blamed = {edit: what for edit, what in reversed(found) if edit}
+    if blamed:
+        return blamed | bad_of(room, [it for it in edits if it not in blamed])
+    if len(edits) == 1:
+        return {edits[0]: errors[0][3] if errors else said.strip()}
+    half = len(edits) // 2
+    return bad_of(room, edits[:half]) | bad_of(room, edits[half:])
 
 
 def compile_all(edits, libraries):
@@ -142,7 +147,7 @@ def compile_all(edits, libraries):
         make_room(room, libraries)
         for number, tried in enumerate(rounds, 1):
             print(f"round {number} of {len(rounds)}: {len(tried.edits)} edits", flush=True)
-            for edit, what in bad_of(room, tried).items():
+            for edit, what in bad_of(room, tried.edits).items():
                 failed += 1
                 print(f"{os.path.relpath(edit, TOP)}: {what}", flush=True)
     print(f"{len(edits) - failed} compile, {failed} don't")

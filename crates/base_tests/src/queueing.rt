@@ -164,8 +164,8 @@ fn overfill(queue: &mut Watched, alloc: Global) -> Result<[Outcome; 3], AllocErr
     Ok([event, transaction, report])
 }
 
-/// What offers of an event with an attachment, and of an event alone twice come to while errors are limited until 10, at
-/// 9, 9 and 10.
+/// What offers of an event with an attachment, and of an event alone twice come to while errors are limited until 10,
+/// at 9, 9 and 10.
 fn offer_under_a_limit(queue: &mut Watched, alloc: Global) -> Result<[Outcome; 3], AllocError> {
     let mixed = queue.offer_event_with_attachment(alloc, 9)?;
     let is_left = queue.gives_attachment(alloc)?;

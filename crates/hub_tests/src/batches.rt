@@ -43,7 +43,7 @@ fn a_hundred_counters_are_sent_at_once_and_one_by_a_flush(rt: HostRuntime) -> Re
 fn tick_thrice<R: Wait>(rt: &R, twins: &mut Twins) -> Result<(), Refusal> {
     let (client, hub) = twins.new_client_and_hub(rt, options(twins.alloc)?)?;
     twins.logs(rt, &hub, 3)?;
-    twins.tick(rt, &client, at(6) - 1)?;
+    twins.tick(rt, &client, 5_999_999_999)?;
     twins.tick(rt, &client, at(6))?;
     twins.logs(rt, &hub, 1)?;
     twins.tick(rt, &client, at(5))

@@ -135,19 +135,46 @@ impl Twins {
         let (found, expected) = guards;
         let found = hub.pop_scope(rt, found, at(60));
         let expected = self.engine.pop_scope(expected, at(60));
-        match (found, expected) {
-            (Ok(()), Ok(out)) => {
+        match found {
+            Ok(()) => Ok(self.note_popped(expected)?),
+            Err((refusal, guard)) => Ok(self.note_kept(refusal, guard, expected)?),
+        }
+    }
+
+    // Where the core removed its layer: what the engine came to.
+    fn note_popped(
+        &mut self,
+        expected: Result<Out<()>, (Refusal, ScopeGuard)>,
+    ) -> Result<Option<(ScopeGuard, ScopeGuard)>, AllocError> {
+        match expected {
+            Ok(out) => {
                 self.keep(out)?;
                 Ok(None)
             }
-            (Err((found, guard)), Err((expected, other))) => {
-                self.compare(expected, found);
-                Ok(Some((guard, other)))
-            }
-            (Ok(()), Err((_, guard))) | (Err((_, guard)), Ok(_)) => {
+            Err((_, guard)) => {
                 guard.into_parts();
                 self.compare(true, false);
                 Ok(None)
+            }
+        }
+    }
+
+    // Where the core refused to: both guards, if the engine refused it for the same reason.
+    fn note_kept(
+        &mut self,
+        refusal: Refusal,
+        guard: ScopeGuard,
+        expected: Result<Out<()>, (Refusal, ScopeGuard)>,
+    ) -> Result<Option<(ScopeGuard, ScopeGuard)>, AllocError> {
+        match expected {
+            Ok(_) => {
+                guard.into_parts();
+                self.compare(true, false);
+                Ok(None)
+            }
+            Err((expected, other)) => {
+                self.compare(expected, refusal);
+                Ok(Some((guard, other)))
             }
         }
     }

@@ -6,20 +6,24 @@ use std::alloc::{AllocError, Global};
 /// The envelopes in order, between them a semicolon, and between their items a plus sign.
 pub(crate) fn sketch(alloc: Global, envelopes: &[Envelope]) -> Result<String, AllocError> {
     let mut text = String::new(alloc);
-    for (place, envelope) in envelopes.iter().enumerate() {
-        if place > 0 {
+    let mut is_first = true;
+    for envelope in envelopes {
+        if !is_first {
             text.push_str("; ")?;
         }
+        is_first = false;
         push_items(&mut text, envelope.items.as_slice())?;
     }
     Ok(text)
 }
 
 fn push_items(text: &mut String, items: &[EnvelopeItem]) -> Result<(), AllocError> {
-    for (place, item) in items.iter().enumerate() {
-        if place > 0 {
+    let mut is_first = true;
+    for item in items {
+        if !is_first {
             text.push_str(" + ")?;
         }
+        is_first = false;
         push_item(text, item)?;
     }
     Ok(())

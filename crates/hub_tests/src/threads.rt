@@ -9,7 +9,7 @@ use std::alloc::{AllocError, Global};
 use std::sync::atomic::{AtomicU64, Ordering};
 use std::sync::{Arc, Mutex, Wait};
 use std::test::Fail;
-use std::thread::join;
+use std::thread::{join, yield_now};
 
 /// How often a test looks at a word before it fails.
 const TURNS: u64 = 10_000_000;
@@ -128,13 +128,14 @@ impl TickClock for HeldTick {
     }
 }
 
-// Looks at a word until it is set, and answers it; 0 at the limit.
+// Looks at a word until it is set, and lets other threads run in between. Answers the word; 0 at the limit.
 fn wait_for(word: &AtomicU64) -> u64 {
     for _ in 0..TURNS {
         let found = word.load(Ordering::SeqCst);
         if found != 0 {
             return found;
         }
+        yield_now();
     }
     0
 }

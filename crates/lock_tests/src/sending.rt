@@ -16,6 +16,7 @@ use sentry_plain::Boxed;
 use std::alloc::{AllocError, Global};
 use std::sync::{Arc, Wait};
 use std::test::Fail;
+use std::thread;
 
 // A hundred messages from this number on.
 fn send_hundred<R: Wait, T: Transport + Drop>(
@@ -45,14 +46,19 @@ fn ids(alloc: Global, envelopes: &[Envelope]) -> Result<Vec<u128>, AllocError> {
 }
 
 #[test]
-fn two_clones_hand_over_each_message_once(rt: HostRuntime) -> Result<(), Fail> {
+fn two_threads_hand_over_each_message_once(rt: HostRuntime) -> Result<(), Fail> {
     let alloc: Global = rt.alloc();
     let transport = Arc::new(alloc, Collector::new(rt, alloc, true))?;
     let core: SharedCore<Arc<Collector<HostRuntime>>> = SharedCore::new(alloc, 1)?;
     let client = client_with(&rt, &core, transport.clone()?)?;
     let other = client.clone()?;
-    send_hundred(&rt, alloc, &client, 1)?;
-    send_hundred(&rt, alloc, &other, 101)?;
+    let (first, second) = thread::join(
+        &rt,
+        || send_hundred(&rt, alloc, &client, 1),
+        || send_hundred(&rt, alloc, &other, 101),
+    );
+    first?;
+    second?;
     let envelopes = transport.take(alloc);
     assert_eq!(rt; envelopes.len(), 200);
     let mut expected = Vec::new(alloc);

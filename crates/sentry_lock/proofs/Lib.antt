@@ -5,3 +5,7 @@ mod Tied
 mod Labels
 mod Keeps
 mod Sound
+mod Walks
+pub mod SentRecords
+mod SentHubs
+mod Sent

@@ -1,5 +1,6 @@
 -- What the lock keeps, after each thing that is done under it.
-use mathlib.Core.Logic.{∥∥₁_map}
+use mathlib.Core.HLevel.{⊥_prop}
+use mathlib.Core.Logic.{∥∥₁_elim, ∥∥₁_map}
 use Rattle.std.proofs.Common.{◌≡◌, refl, ap, ◌∙◌, sym, subst, ℕ, List, [], Bool, true, false, arith}
 use Rattle.std.specs.Prelude.{Option, Some, None, Result, Ok, Err, ◌==◌, ◌&&◌, if◌then◌else◌}
 use Rattle.std.specs.Option.{is_some}
@@ -23,7 +24,7 @@ use Rattle.sentry_calls.specs.Losses.{absorb}
 use Rattle.sentry_laws.proofs.Absorbed.{KeepsBooks}
 use Rattle.sentry_laws.proofs.Increasing.{IsIncreasing, increasing_put, increasing_replaced}
 use Rattle.sentry_lock.specs.Words.{Drainers, DrainsOne, EndsWords}
-use Rattle.sentry_lock.specs.Locked.{IsSound}
+use Rattle.sentry_lock.specs.Locked.{Absorbs, IsHeld, IsSound}
 use Rattle.sentry_lock.proofs.Bounds.{queues_short, spans_kept, books_balanced}
 use Rattle.sentry_lock.proofs.Tied.{HistoriesAreTied, histories_tied, books_tied, tied_after_call, tied_after_absorb, tied_after_place, tied_after_new}
 
@@ -92,6 +93,21 @@ module _ {P C : Type 0} where
       ap (λ b. (require {T = Unit {0}} ForeignLosses world b
       (reply_with tt [] (with_entry world label (drained_losses quantities)))).answer) has
 
+  -- a label that is held is never refused
+  pub held_absorbs : (old new : State P C) (label : Label) (quantities : List ℕ)
+      (result : Result (Out (Unit {0})) Refusal) → ∥ ((world : World P C) × Stands old world) ∥₁ → IsHeld true label old
+      → DoesWith true old new result (absorb label quantities) → Absorbs label quantities old new
+  held_absorbs old new label quantities (Ok out) stands held does = (out, does)
+  held_absorbs old new label quantities (Err refusal) stands held does =
+      absurd (∥∥₁_elim stands ⊥_prop (λ s.
+      never_refused (absorb label quantities s.0).answer (record { reply = tt; sent = [] }) refusal
+      (absorb_accepted s.0 label quantities (held s.0 s.1)) (does.1 s.0 s.1)))
+
+  -- some world is stood for
+  pub some_world : (engine : State P C) (drainers : Drainers) → ∥ IsSound engine drainers ∥₁
+      → ∥ ((world : World P C) × Stands engine world) ∥₁
+  some_world engine drainers sound = ∥∥₁_map sound (λ s. (s.world, s.stands))
+
   held_book : (world : World P C) (label : Label) → has_book world label ≡ true
       → (held : List LossEntry) × (value_at world.books label.number ≡ Some held)
   held_book world label has = held-by (label.tag == world.tag) (value_at world.books label.number) refl has
@@ -104,46 +120,39 @@ module _ {P C : Type 0} where
 
   -- the book of a label absorbed what its drainer took; or what stood in its words, which were ended
   after_absorb : (old new : State P C) (drainers : Drainers) (label : Label) (before : CountedPart)
-      (slot : Option CountedPart) (quantities : List ℕ) (result : Result (Out (Unit {0})) Refusal)
+      (slot : Option CountedPart) (quantities : List ℕ) (out : Out (Unit {0}))
       → value_at drainers label.number ≡ Some (Some before)
       → ((d : CountedPart) → slot ≡ Some d → d.taken ≡ plus before.taken quantities)
-      → ((world : World P C) → Stands old world → true ≡ has_book world label)
-      → DoesWith true old new result (absorb label quantities) → ∥ IsSound old drainers ∥₁
+      → IsHeld true label old → DoesWith true old new (Ok out) (absorb label quantities) → ∥ IsSound old drainers ∥₁
       → ∥ IsSound new (replace_at drainers label.number slot) ∥₁
-  after_absorb old new drainers label before slot quantities (Ok out) at taken has does sound =
+  after_absorb old new drainers label before slot quantities out at taken held does sound =
       ∥∥₁_map sound (λ s.
-      let there = sym (has s.world s.stands) in
-      let held = held_book s.world label there in
+      let there = held s.world s.stands in
+      let book = held_book s.world label there in
       made_sound new (replace_at drainers label.number slot)
       (with_entry s.world label (drained_losses quantities))
       (subst (λ (w : World P C). Stands new w) (absorbed_world s.world label quantities there)
       (does s.world s.stands).1)
       (increasing_replaced 0 label.number _ s.world.books s.sorted)
-      (tied_after_absorb s.world.books drainers label.number before held.0 quantities slot at held.1 taken
+      (tied_after_absorb s.world.books drainers label.number before book.0 quantities slot at book.1 taken
       (tied_in_world s)))
-  after_absorb old new drainers label before slot quantities (Err refusal) at taken has does sound =
-      ∥∥₁_map sound (λ s.
-      absurd (never_refused (absorb label quantities s.world).answer (record { reply = tt; sent = [] }) refusal
-      (absorb_accepted s.world label quantities (sym (has s.world s.stands))) (does.1 s.world s.stands)))
 
   pub after_drain : (old new : State P C) (drainers drained : Drainers) (label : Label) (quantities : List ℕ)
-      (result : Result (Out (Unit {0})) Refusal) → DrainsOne drainers drained label.number quantities
-      → ((world : World P C) → Stands old world → true ≡ has_book world label)
-      → DoesWith true old new result (absorb label quantities) → ∥ IsSound old drainers ∥₁ → ∥ IsSound new drained ∥₁
-  after_drain old new drainers drained label quantities result one has does sound =
+      → DrainsOne drainers drained label.number quantities → IsHeld true label old → Absorbs label quantities old new
+      → ∥ IsSound old drainers ∥₁ → ∥ IsSound new drained ∥₁
+  after_drain old new drainers drained label quantities one held absorbs sound =
       subst (λ d. ∥ IsSound new d ∥₁) (sym one.others)
-      (after_absorb old new drainers label one.before (Some one.after) quantities result one.found
+      (after_absorb old new drainers label one.before (Some one.after) quantities absorbs.0 one.found
       (λ d is. let same : one.after ≡ d = cc in ap (λ (part : CountedPart). part.taken) (sym same) ∙ one.taken)
-      has does sound)
+      held absorbs.1 sound)
 
   pub after_end : (old new : State P C) (drainers ended : Drainers) (label : Label) (quantities : List ℕ)
-      (result : Result (Out (Unit {0})) Refusal) → EndsWords drainers ended label.number quantities
-      → ((world : World P C) → Stands old world → true ≡ has_book world label)
-      → DoesWith true old new result (absorb label quantities) → ∥ IsSound old drainers ∥₁ → ∥ IsSound new ended ∥₁
-  after_end old new drainers ended label quantities result ends has does sound =
+      → EndsWords drainers ended label.number quantities → IsHeld true label old → Absorbs label quantities old new
+      → ∥ IsSound old drainers ∥₁ → ∥ IsSound new ended ∥₁
+  after_end old new drainers ended label quantities ends held absorbs sound =
       subst (λ d. ∥ IsSound new d ∥₁) (sym ends.others)
-      (after_absorb old new drainers label ends.before None quantities result ends.found (λ d is. absurd cc)
-      has does sound)
+      (after_absorb old new drainers label ends.before None quantities absorbs.0 ends.found (λ d is. absurd cc)
+      held absorbs.1 sound)
 
   -- ---- clients
 

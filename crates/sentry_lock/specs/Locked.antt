@@ -1,6 +1,6 @@
 -- What holds whenever the lock is free.
-use Rattle.std.specs.Prelude.{◌≡◌, ◌<◌, ◌≤◌, ℕ, List, Option, Some, Ok, Result, length, max}
-use Rattle.sentry_plain.specs.Tables.{value_at}
+use Rattle.std.specs.Prelude.{◌≡◌, ◌<◌, ◌≤◌, ◌⊎◌, ℕ, Bool, true, false, List, [], ◌∷◌, Option, Some, Ok, Result, length, max}
+use Rattle.sentry_plain.specs.Tables.{value_at, entries_after}
 use Rattle.sentry_base.specs.declared.protocol.client_report.ClientReport.{ClientReport}
 use Rattle.sentry_base.specs.declared.protocol.envelope.Envelope.{Envelope}
 use Rattle.sentry_base.specs.declared.protocol.keys.ClientKey.{ClientKey}
@@ -14,6 +14,7 @@ use Rattle.sentry_state.specs.declared.state.Client.{Client}
 use Rattle.sentry_state.specs.declared.state.Out.{Out}
 use Rattle.sentry_state.specs.declared.state.Queues.{Queues}
 use Rattle.sentry_state.specs.declared.state.State.{State}
+use Rattle.sentry_state.specs.Books.{has_book}
 use Rattle.sentry_state.specs.Outcomes.{Does, DoesWithoutMemory}
 use Rattle.sentry_state.specs.Worlds.{World, Stands}
 use Rattle.sentry_calls.specs.Losses.{absorb}
@@ -46,6 +47,10 @@ pub record IsSound {P C : Type 0} (engine : State P C) (drainers : Drainers) : T
   pub tied : AreTied engine.books drainers
 
 module _ {P C : Type 0} where
+  -- whether a client that is held names the label
+  abbrev pub IsHeld : Bool → Label → State P C → Type 0
+  IsHeld held label engine = (world : World P C) → Stands engine world → has_book world label ≡ held
+
   -- the book of the label absorbed these quantities
   abbrev pub Absorbs : Label → List ℕ → State P C → State P C → Type 0
   Absorbs label quantities old new =
@@ -65,3 +70,30 @@ module _ {P C : Type 0} where
   abbrev pub FindsNoWords : Label → State P C → State P C → Drainers → Drainers → Type 0
   FindsNoWords label old new drainers after =
       HasNoOpenWords drainers label.number × (new ≡ old) × (after ≡ drainers)
+
+  -- the label was drained once and its book absorbed that; or no client names it, or it has no open words, and nothing
+  -- changed
+  abbrev pub DrainsIfOpen : Label → State P C → State P C → Drainers → Drainers → Type 0
+  DrainsIfOpen label old new drainers drained =
+      (IsHeld true label old × ((quantities : List ℕ) × DrainsAndAbsorbs label quantities old new drainers drained))
+      ⊎ ((IsHeld false label old ⊎ HasNoOpenWords drainers label.number) × (new ≡ old) × (drained ≡ drainers))
+
+  -- the same of the label of each of these numbers, one after the other
+  abbrev pub DrainsEach : ℕ → List (ℕ × Option CountedPart) → State P C → State P C → Drainers → Drainers → Type 0
+  DrainsEach tag [] old new drainers drained = (new ≡ old) × (drained ≡ drainers)
+  DrainsEach tag (entry ∷ entries) old new drainers drained =
+      (between : State P C) × (left : Drainers)
+      × DrainsIfOpen (record { tag = tag; number = entry.0 }) old between drainers left
+      × DrainsEach tag entries between new left drained
+
+  -- all labels were drained, or none
+  abbrev pub DrainsFor : Bool → ℕ → Drainers → State P C → State P C → Type 0
+  DrainsFor true tag drainers old new = (drained : Drainers) × DrainsEach tag drainers old new drainers drained
+  DrainsFor false tag drainers old new = new ≡ old
+
+-- the same of the label of the next number, above which there is the rest
+pub record DrainsNext {P C : Type 0} (tag : ℕ) (last : Option ℕ) (number : ℕ) (old new : State P C)
+    (drainers drained : Drainers) : Type 0 where
+  pub slot : Option CountedPart
+  pub next : entries_after last drainers ≡ (number, slot) ∷ entries_after (Some number) drained
+  pub drains : DrainsIfOpen (record { tag = tag; number = number }) old new drainers drained

@@ -20,6 +20,11 @@ AreLabelled tag drainers =
 abbrev pub HasNoOpenWords : Drainers → ℕ → Type 0
 HasNoOpenWords drainers n = (drainer : CountedPart) → value_at drainers n ≡ Some (Some drainer) → ⊥
 
+-- words are open under the number
+pub record HasOpenWords (drainers : Drainers) (n : ℕ) : Type 0 where
+  pub drainer : CountedPart
+  pub found : value_at drainers n ≡ Some (Some drainer)
+
 -- the drainer of this number took one drain, which gave these quantities and counts them
 pub record DrainsOne (old new : Drainers) (n : ℕ) (quantities : List ℕ) : Type 0 where
   pub before : CountedPart

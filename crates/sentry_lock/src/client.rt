@@ -62,7 +62,7 @@ impl<P: EventCallback + Drop, C: Callbacks, T: Transport + Drop> Client<P, C, T>
         now: u64,
     ) -> Result<Client<P, C, T>, Refusal> {
         let share = core.clone()?;
-        let key = core.lock(rt).add_setup(setup, transport, now)?;
+        let key = core.lock(rt).core.add_setup(setup, transport, now)?;
         Ok(Client { core: share, key })
     }
 
@@ -91,7 +91,9 @@ impl<P: EventCallback + Drop, C: Callbacks, T: Transport + Drop> Client<P, C, T>
     ///
     /// `Stale`: the client isn't held. `OutOfMemory`.
     pub fn options<R: Wait>(&self, rt: &R) -> Result<Shared<ClientOptions<C>>, Refusal> {
-        let out = self.core.lock(rt).engine().options(self.key)?;
+        let mut guard = self.core.lock(rt);
+        let core = &mut guard.core;
+        let out = core.engine().options(self.key)?;
         Ok(out.reply)
     }
 
@@ -99,7 +101,9 @@ impl<P: EventCallback + Drop, C: Callbacks, T: Transport + Drop> Client<P, C, T>
     ///
     /// `Stale`: the client isn't held. `OutOfMemory`.
     pub fn dsn<R: Wait>(&self, rt: &R) -> Result<Option<Dsn>, Refusal> {
-        let out = self.core.lock(rt).engine().dsn(self.key)?;
+        let mut guard = self.core.lock(rt);
+        let core = &mut guard.core;
+        let out = core.engine().dsn(self.key)?;
         Ok(out.reply)
     }
 
@@ -107,7 +111,9 @@ impl<P: EventCallback + Drop, C: Callbacks, T: Transport + Drop> Client<P, C, T>
     ///
     /// `Stale`: the client isn't held.
     pub fn is_enabled<R: Wait>(&self, rt: &R) -> Result<bool, Refusal> {
-        let out = self.core.lock(rt).engine().is_enabled(self.key)?;
+        let mut guard = self.core.lock(rt);
+        let core = &mut guard.core;
+        let out = core.engine().is_enabled(self.key)?;
         Ok(out.reply)
     }
 
@@ -118,7 +124,9 @@ impl<P: EventCallback + Drop, C: Callbacks, T: Transport + Drop> Client<P, C, T>
         rate: SampleRate,
         draw: Draw,
     ) -> Result<bool, Refusal> {
-        let out = self.core.lock(rt).engine().sample_should_send(rate, draw)?;
+        let mut guard = self.core.lock(rt);
+        let core = &mut guard.core;
+        let out = core.engine().sample_should_send(rate, draw)?;
         Ok(out.reply)
     }
 
@@ -135,6 +143,7 @@ impl<P: EventCallback + Drop, C: Callbacks, T: Transport + Drop> Client<P, C, T>
     ) -> Result<Option<Boxed<Event>>, Refusal> {
         self.core
             .lock(rt)
+            .core
             .prepare_event(self.key, event, scope, fresh)
     }
 
@@ -146,7 +155,8 @@ impl<P: EventCallback + Drop, C: Callbacks, T: Transport + Drop> Client<P, C, T>
         scope: Option<&Scope<P>>,
         fresh: Fresh,
     ) -> Result<Handed<Uuid, T>, Refusal> {
-        let mut core = self.core.lock(rt);
+        let mut guard = self.core.lock(rt);
+        let core = &mut guard.core;
         core.drain_all();
         core.capture_event(self.key, event, scope, fresh)
     }
@@ -171,7 +181,8 @@ impl<P: EventCallback + Drop, C: Callbacks, T: Transport + Drop> Client<P, C, T>
         log: Log,
         scope: &Scope<P>,
     ) -> Result<Handed<(), T>, Refusal> {
-        let mut core = self.core.lock(rt);
+        let mut guard = self.core.lock(rt);
+        let core = &mut guard.core;
         core.drain_all();
         core.capture_log(self.key, log, scope)
     }
@@ -192,7 +203,8 @@ impl<P: EventCallback + Drop, C: Callbacks, T: Transport + Drop> Client<P, C, T>
         scope: &Scope<P>,
         now: u64,
     ) -> Result<Handed<(), T>, Refusal> {
-        let mut core = self.core.lock(rt);
+        let mut guard = self.core.lock(rt);
+        let core = &mut guard.core;
         core.drain_all();
         core.capture_metric(self.key, metric.into_draft(), scope, now)
     }
@@ -234,7 +246,8 @@ impl<P: EventCallback + Drop, C: Callbacks, T: Transport + Drop> Client<P, C, T>
     }
 
     fn flushed<R: Wait>(&self, rt: &R) -> Result<(Handed<(), T>, Option<u64>), Refusal> {
-        let mut core = self.core.lock(rt);
+        let mut guard = self.core.lock(rt);
+        let core = &mut guard.core;
         core.drain_all();
         let option = core.engine().shutdown_timeout(self.key);
         Ok((core.flush(self.key)?, option))
@@ -251,7 +264,8 @@ impl<P: EventCallback + Drop, C: Callbacks, T: Transport + Drop> Client<P, C, T>
     }
 
     fn closed<R: Wait>(&self, rt: &R) -> Result<(Handed<(), T>, Option<u64>), Refusal> {
-        let mut core = self.core.lock(rt);
+        let mut guard = self.core.lock(rt);
+        let core = &mut guard.core;
         core.drain_all();
         let option = core.engine().shutdown_timeout(self.key);
         Ok((core.close(self.key)?, option))

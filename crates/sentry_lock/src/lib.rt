@@ -7,4 +7,5 @@ pub mod locked;
 pub mod scope_edits;
 pub mod shared_core;
 pub mod transport;
+pub mod under_lock;
 mod words;

@@ -8,6 +8,7 @@ use crate::client::{Client, ClientSetup};
 use crate::handed::Handed;
 use crate::locked::Core;
 use crate::transport::Transport;
+use crate::under_lock::UnderLock;
 use sentry_base::callbacks::EventCallback;
 use sentry_base::protocol::{ClientKey, HubKey, Refusal};
 use sentry_engine::call::{Call, Reply};
@@ -23,7 +24,7 @@ use std::sync::{Arc, Mutex, MutexGuard, Wait};
 /// transports. What was absorbed stays so if the call is refused.
 #[derive(Drop)]
 pub struct SharedCore<P, C, T> {
-    core: Arc<Mutex<Core<P, C, T>>>,
+    core: Arc<Mutex<UnderLock<P, C, T>>>,
     alloc: Global,
 }
 
@@ -41,7 +42,8 @@ impl<P: EventCallback + Drop, C: Callbacks, T: Transport + Drop> SharedCore<P, C
     ///
     /// An allocation may fail.
     pub fn new(alloc: Global, tag: u64) -> Result<SharedCore<P, C, T>, AllocError> {
-        let core = Arc::new(alloc, Mutex::new(Core::new(alloc, tag)?))?;
+        let core = UnderLock::new(Core::new(alloc, tag)?);
+        let core = Arc::new(alloc, Mutex::new(core))?;
         Ok(SharedCore { core, alloc })
     }
 
@@ -50,8 +52,8 @@ impl<P: EventCallback + Drop, C: Callbacks, T: Transport + Drop> SharedCore<P, C
         self.alloc
     }
 
-    /// Takes the lock. While the guard is held every other call on this core waits.
-    pub fn lock<R: Wait>(&self, rt: &R) -> MutexGuard<'_, Core<P, C, T>> {
+    /// Takes the lock: the core is the guard's field `core`. While the guard is held every other call on this core waits.
+    pub fn lock<R: Wait>(&self, rt: &R) -> MutexGuard<'_, UnderLock<P, C, T>> {
         self.core.lock(rt)
     }
 
@@ -63,7 +65,7 @@ impl<P: EventCallback + Drop, C: Callbacks, T: Transport + Drop> SharedCore<P, C
         rt: &R,
         options: ClientOptions<C>,
     ) -> Result<ClientSetup<C>, Refusal> {
-        let label = self.lock(rt).take_label()?;
+        let label = self.lock(rt).core.take_label()?;
         ClientSetup::new(self.alloc, options, label)
     }
 
@@ -78,8 +80,8 @@ impl<P: EventCallback + Drop, C: Callbacks, T: Transport + Drop> SharedCore<P, C
     fn called<R: Wait>(&self, rt: &R, call: Call<P, C>) -> Result<Handed<Reply<P, C>, T>, Refusal>
         requires { is_plain_call call ≡ true }
     {
-        let mut core = self.lock(rt);
-        core.drain_and_apply(call)
+        let mut guard = self.lock(rt);
+        guard.core.drain_and_apply(call)
     }
 
     /// Makes one call and answers its reply. The call adds no client, absorbs nothing, and flushes or closes none:
@@ -104,7 +106,8 @@ impl<P: EventCallback + Drop, C: Callbacks, T: Transport + Drop> SharedCore<P, C
         requires plain { list_all is_plain_call calls.items ≡ true }
         requires room { vec_len all.old + length calls.items ≤ vec_capacity all.old }
     {
-        let mut core = self.lock(rt);
+        let mut guard = self.lock(rt);
+        let core = &mut guard.core;
         for call in calls {
             all.push_reserved(core.drain_and_apply(call)?);
         }
@@ -130,7 +133,7 @@ impl<P: EventCallback + Drop, C: Callbacks, T: Transport + Drop> SharedCore<P, C
     ///
     /// `Stale`: the hub isn't held. `OutOfMemory`.
     pub fn push_scope<R: Wait>(&self, rt: &R, hub: HubKey) -> Result<ScopeGuard, Refusal> {
-        self.lock(rt).push_scope(hub)
+        self.lock(rt).core.push_scope(hub)
     }
 
     fn scope_popped<R: Wait>(
@@ -139,7 +142,8 @@ impl<P: EventCallback + Drop, C: Callbacks, T: Transport + Drop> SharedCore<P, C
         guard: ScopeGuard,
         now: u64,
     ) -> Result<Handed<(), T>, (Refusal, ScopeGuard)> {
-        let mut core = self.lock(rt);
+        let mut under = self.lock(rt);
+        let core = &mut under.core;
         core.drain_all();
         core.pop_scope(guard, now)
     }

@@ -1,6 +1,6 @@
 //! The words of labels, as the lock keeps them.
 ghost use Rattle.std.specs.Prelude.{◌≡◌, MatchOption, IfOk, OnErr};
-ghost use Rattle.sentry_lock.specs.Words.{HasNoOpenWords, DrainsOne, EndsWords};
+ghost use Rattle.sentry_lock.specs.Words.{HasNoOpenWords, HasOpenWords, DrainsOne, EndsWords};
 
 use sentry_base::protocol::Losses;
 use sentry_client_reports::client_reports::CountedDrainer;
@@ -36,7 +36,7 @@ pub(crate) fn end_words(drainers: &mut Drainers, number: u64) -> Result<Option<L
     ensures ended { IfOk result (λ ended.
         MatchOption ended ((drainers.new ≡ drainers.old) × HasNoOpenWords drainers.old number)
         (λ losses. EndsWords drainers.old drainers.new number losses.quantities)) }
-    ensures held { OnErr result (drainers.new ≡ drainers.old) }
+    ensures held { OnErr result (HasOpenWords drainers.old number × (drainers.new ≡ drainers.old)) }
 {
     let Some(place) = drainers.get_mut(number) else {
         return Ok(None);

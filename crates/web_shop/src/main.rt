@@ -66,6 +66,14 @@ fn place_order(engine: &mut Engine, alloc: Global, hub: HubKey) -> Result<Out<Uu
     Ok(engine.capture_message(hub, "the card was refused", Level::Error, fresh(MORNING, 2))?)
 }
 
+/// What a message replies on a hub without a client, where nothing is captured.
+fn ask_nobody(engine: &mut Engine, alloc: Global) -> Result<Uuid> {
+    let scope = Scope::new(alloc, TraceId([1; 16]), SpanId([2; 8]));
+    let hub = engine.new_hub(None, scope)?.reply;
+    let out = engine.capture_message(hub, "is anybody there?", Level::Info, fresh(MORNING, 4))?;
+    Ok(out.reply)
+}
+
 /// Prints the envelopes that a call handed out, a line for each item. A real program gives them to a transport.
 fn print_sent<T>(rt: &impl Print, out: &Out<T>) -> Result<()> {
     for (client, envelope) in out.sent.as_slice() {
@@ -110,5 +118,8 @@ fn main(rt: HostRuntime) -> Result<()> {
     print_sent(&rt, &place_order(&mut engine, alloc, hub)?)?;
     let ended = engine.end_session_with_status(hub, SessionStatus::Exited, MORNING + 1)?;
     print_sent(&rt, &ended)?;
-    print_sent(&rt, &engine.flush(client)?)
+    print_sent(&rt, &engine.flush(client)?)?;
+    let nil = ask_nobody(&mut engine, alloc)?.simple();
+    println!(rt; "without a client: {nil}")?;
+    Ok(())
 }

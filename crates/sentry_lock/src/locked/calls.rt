@@ -3,7 +3,9 @@
 ghost use Rattle.std.specs.Prelude.{◌≡◌, Ok, true, IfOk, IfErr};
 ghost use Rattle.sentry_calls.specs.Steps.{step, takes_no_memory};
 ghost use Rattle.sentry_state.specs.Outcomes.{DoesWith};
-ghost use Rattle.sentry_lock.specs.Plain.{is_plain_call};
+ghost use Rattle.sentry_state.specs.declared.state.State.{State};
+ghost use Rattle.sentry_lock.specs.Locked.{DrainsFor};
+ghost use Rattle.sentry_lock.specs.Plain.{is_plain_call, can_hand_out, client_call_can_hand_out, hub_call_can_hand_out};
 
 use crate::handed::{Handed, Transports};
 use crate::locked::Core;
@@ -13,7 +15,9 @@ use sentry_engine::call::{Answer, Call, ClientCall, HubCall, Reply, SpanCall};
 use sentry_options::clientoptions::Callbacks;
 use std::alloc::AllocError;
 
-fn client_call_can_hand_out<P, C>(call: &ClientCall<P, C>) -> bool {
+fn client_call_can_hand_out<P, C>(call: &ClientCall<P, C>) -> bool
+    ensures { result ≡ client_call_can_hand_out call.now }
+{
     match call {
         ClientCall::Options(_)
         | ClientCall::Dsn(_)
@@ -26,7 +30,9 @@ fn client_call_can_hand_out<P, C>(call: &ClientCall<P, C>) -> bool {
     }
 }
 
-fn hub_call_can_hand_out<P>(call: &HubCall<P>) -> bool {
+fn hub_call_can_hand_out<P>(call: &HubCall<P>) -> bool
+    ensures { result ≡ hub_call_can_hand_out call.now }
+{
     match call {
         HubCall::NewHub { .. }
         | HubCall::AddBreadcrumbs { .. }
@@ -42,7 +48,9 @@ fn hub_call_can_hand_out<P>(call: &HubCall<P>) -> bool {
 }
 
 // Whether a call can hand out envelopes: all others leave the losses in their words, and take no share of the transports.
-fn can_hand_out<P, C>(call: &Call<P, C>) -> bool {
+fn can_hand_out<P, C>(call: &Call<P, C>) -> bool
+    ensures { result ≡ can_hand_out call.now }
+{
     match call {
         Call::Client(call) => client_call_can_hand_out(call),
         Call::Hub(call) => hub_call_can_hand_out(call),
@@ -88,16 +96,30 @@ impl<P: EventCallback + Drop, C: Callbacks, T: Drop> Core<P, C, T> {
         Ok(Handed { out, transports })
     }
 
-    /// Drains the words of all labels, if the call can hand out envelopes, and makes the call.
+    // Drains the words of all labels, if the call can hand out envelopes.
+    fn drain_for(&mut self, call: &Call<P, C>)
+        ensures { DrainsFor (can_hand_out call.now) self.old.tag self.old.drainers self.old.engine self.new.engine }
+    {
+        if can_hand_out(call) {
+            self.drain_all();
+        }
+    }
+
+    /// Drains the words of all labels, if the call can hand out envelopes, and makes the call. What was absorbed stays so
+    /// if the call is refused.
     pub(crate) fn drain_and_apply(
         &mut self,
         call: Call<P, C>,
     ) -> Result<Handed<Reply<P, C>, T>, Refusal>
         requires { is_plain_call call ≡ true }
+        ensures done { IfOk result (λ handed. (between : State P C)
+            × DrainsFor (can_hand_out call) self.old.tag self.old.drainers self.old.engine between
+            × DoesWith (takes_no_memory call) between self.new.engine (Ok handed.out) (step P.gives C.meanings call)) }
+        ensures refused { IfErr result (λ _.
+            DrainsFor (can_hand_out call) self.old.tag self.old.drainers self.old.engine self.new.engine) }
     {
-        if can_hand_out(&call) {
-            self.drain_all();
-        }
-        self.apply(call)
+        self.drain_for(&call);
+        let handed = self.apply(call)?;
+        Ok(handed)
     }
 }

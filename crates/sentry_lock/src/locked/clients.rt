@@ -1,8 +1,10 @@
 //! Clients that come and go, with their transports and the drainers of their losses.
 
-ghost use Rattle.std.specs.Prelude.{◌≡◌, None, Ok, Some, IfOk, IfErr, false};
+ghost use Rattle.std.specs.Prelude.{◌≡◌, ◌+◌, ◌-◌, ◌^◌, List, None, Ok, Some, IfOk, IfErr, false};
 ghost use Rattle.std.specs.Option.{is_some};
 ghost use Rattle.sentry_base.specs.Losses.{no_losses};
+ghost use Rattle.sentry_base.specs.declared.protocol.envelope.Envelope.{Envelope};
+ghost use Rattle.sentry_base.specs.declared.protocol.keys.ClientKey.{ClientKey};
 ghost use Rattle.sentry_calls.specs.Clients as clients;
 ghost use Rattle.sentry_plain.specs.Tables.{value_at};
 ghost use Rattle.sentry_state.specs.Books.{has_book};
@@ -62,7 +64,13 @@ impl<P: EventCallback + Drop, C: Callbacks, T: Drop> Core<P, C, T> {
     /// The label of the next client. Each is given once.
     ///
     /// `Full`: the labels are used up.
-    pub(crate) fn take_label(&mut self) -> Result<Label, Refusal> {
+    pub(crate) fn take_label(&mut self) -> Result<Label, Refusal>
+        ensures engine { self.new.engine ≡ self.old.engine }
+        ensures drainers { self.new.drainers ≡ self.old.drainers }
+        ensures taken { IfOk result (λ label. (label.tag ≡ self.old.tag) × (label.number ≡ self.old.next_label)
+            × (self.new.next_label ≡ self.old.next_label + 1)) }
+        ensures full { IfErr result (λ refusal. (refusal ≡ Refusal.Full) × (self.old.next_label ≡ 2 ^ 64 - 1)) }
+    {
         if self.next_label == u64::MAX {
             return Err(Refusal::Full);
         }
@@ -186,7 +194,12 @@ impl<P: EventCallback + Drop, C: Callbacks, T: Drop> Core<P, C, T> {
         setup: ClientSetup<C>,
         transport: Option<T>,
         now: u64,
-    ) -> Result<ClientKey, Refusal> {
+    ) -> Result<ClientKey, Refusal>
+        ensures done { IfOk result (λ reply. (sent : List (ClientKey × Envelope))
+            × Does self.old.engine self.new.engine (Ok (record { reply = reply; sent = sent }))
+            (clients.add_client C.meanings setup.options (is_some transport) setup.label now)) }
+        ensures refused { IfErr result (λ _. self.new.engine ≡ self.old.engine) }
+    {
         let ClientSetup {
             options,
             label,

@@ -1,16 +1,29 @@
 //! The losses of labels: drained, reported, and ended.
-ghost use Rattle.std.specs.Prelude.{◌≡◌, MatchOption, IfOk, IfErr, Ok, Err, List, true, false, ◌⊎◌};
+ghost use Rattle.std.specs.Prelude.{◌≡◌, MatchOption, IfOk, IfErr, Ok, Err, List, true, false, [], ◌⊎◌};
+ghost use Rattle.sentry_plain.specs.Tables.{entries_after};
 ghost use Rattle.sentry_base.specs.declared.protocol.envelope.Envelope.{Envelope};
 ghost use Rattle.sentry_base.specs.declared.protocol.keys.ClientKey.{ClientKey};
 ghost use Rattle.sentry_calls.specs.Losses.{take_report};
 ghost use Rattle.sentry_state.specs.Outcomes.{Does};
-ghost use Rattle.sentry_lock.specs.Locked.{DrainsAndAbsorbs, EndsAndAbsorbs, FindsNoWords};
+ghost use Rattle.sentry_state.specs.Worlds.{World, Stands};
+ghost use Rattle.sentry_lock.specs.Locked.{Absorbs, DrainsAndAbsorbs, DrainsEach, DrainsNext, EndsAndAbsorbs, FindsNoWords, IsHeld};
+ghost use Rattle.sentry_lock.specs.Words.{HasOpenWords};
 
 use crate::locked::Core;
 use crate::words::{StillHeld, drain_words, end_words};
 use sentry_base::callbacks::EventCallback;
 use sentry_base::protocol::{ClientReport, Label, Losses, Refusal};
+use sentry_engine::engine::Engine;
 use sentry_options::clientoptions::Callbacks;
+
+// Absorbs losses under a label that a client names, which is never refused.
+fn absorb_held<P: Drop, C: Callbacks>(engine: &mut Engine<P, C>, label: Label, losses: &Losses)
+    requires stands { ∥ ((world : World P C) × Stands engine.old world) ∥₁ }
+    requires held { IsHeld true label engine.old }
+    ensures { Absorbs label losses.now.quantities engine.old engine.new }
+{
+    drop(engine.absorb_losses(label, losses));
+}
 
 impl<P: EventCallback + Drop, C: Callbacks, T: Drop> Core<P, C, T> {
     /// Drains the words of a label once, absorbs what that gave, and returns it; `None` if the words were ended. It takes
@@ -18,11 +31,14 @@ impl<P: EventCallback + Drop, C: Callbacks, T: Drop> Core<P, C, T> {
     ///
     /// `ForeignLosses`: no client that is held names the label.
     pub fn drain_and_absorb(&mut self, label: Label) -> Result<Option<Losses>, Refusal>
-        ensures done { IfOk result (λ drained. MatchOption drained
+        ensures done { IfOk result (λ drained. IsHeld true label self.old.engine × MatchOption drained
             (FindsNoWords label self.old.engine self.new.engine self.old.drainers self.new.drainers)
             (λ losses. DrainsAndAbsorbs label losses.quantities self.old.engine self.new.engine
             self.old.drainers self.new.drainers)) }
-        ensures refused { IfErr result (λ _. self.new.engine ≡ self.old.engine) }
+        ensures refused { IfErr result (λ refusal. (refusal ≡ Refusal.ForeignLosses)
+            × IsHeld false label self.old.engine
+            × (self.new.engine ≡ self.old.engine) × (self.new.drainers ≡ self.old.drainers)) }
+        ensures tag { self.new.tag ≡ self.old.tag }
     {
         if !self.engine.has_book(label) {
             return Err(Refusal::ForeignLosses);
@@ -30,23 +46,40 @@ impl<P: EventCallback + Drop, C: Callbacks, T: Drop> Core<P, C, T> {
         let Some(drained) = drain_words(&mut self.drainers, label.number) else {
             return Ok(None);
         };
-        match self.engine.absorb_losses(label, &drained) {
-            Ok(_) => Ok(Some(drained)),
-            Err(refusal) => Err(refusal),
-        }
+        absorb_held(&mut self.engine, label, &drained);
+        Ok(Some(drained))
+    }
+
+    // Drains and absorbs for the label of the least number above another, or of the least of all, and answers that number;
+    // `None` if there is no more.
+    fn drain_next(&mut self, last: Option<u64>) -> Option<u64>
+        ensures tag { self.new.tag ≡ self.old.tag }
+        ensures drained { MatchOption result
+            ((entries_after last self.old.drainers ≡ [])
+            × (self.new.engine ≡ self.old.engine) × (self.new.drainers ≡ self.old.drainers))
+            (λ number. DrainsNext self.old.tag last number self.old.engine self.new.engine
+            self.old.drainers self.new.drainers) }
+    {
+        let Some(number) = self.drainers.next_number(last) else {
+            return None;
+        };
+        drop(self.drain_and_absorb(Label {
+            tag: self.tag,
+            number,
+        }));
+        Some(number)
     }
 
     /// Drains and absorbs for each label that a held client names, in the order of their numbers.
-    pub(crate) fn drain_all(&mut self) {
+    pub(crate) fn drain_all(&mut self)
+        ensures { DrainsEach self.old.tag self.old.drainers self.old.engine self.new.engine
+            self.old.drainers self.new.drainers }
+    {
         let mut last = None;
         for _ in 0..self.drainers.len() {
-            let Some(number) = self.drainers.next_number(last) else {
+            let Some(number) = self.drain_next(last) else {
                 return;
             };
-            drop(self.drain_and_absorb(Label {
-                tag: self.tag,
-                number,
-            }));
             last = Some(number);
         }
     }
@@ -70,12 +103,15 @@ impl<P: EventCallback + Drop, C: Callbacks, T: Drop> Core<P, C, T> {
     ///
     /// `ForeignLosses`: no client that is held names the label.
     pub fn close_losses(&mut self, label: Label) -> Result<bool, Refusal>
+        ensures named { IfOk result (λ _. IsHeld true label self.old.engine) }
         ensures ended { IfOk result (λ ended. ended ≡ true →
             FindsNoWords label self.old.engine self.new.engine self.old.drainers self.new.drainers
             ⊎ EndsAndAbsorbs label self.old.engine self.new.engine self.old.drainers self.new.drainers) }
-        ensures held { IfOk result (λ ended. ended ≡ false →
-            (self.new.engine ≡ self.old.engine) × (self.new.drainers ≡ self.old.drainers)) }
-        ensures refused { IfErr result (λ _. self.new.engine ≡ self.old.engine) }
+        ensures held { IfOk result (λ ended. ended ≡ false → HasOpenWords self.old.drainers label.number
+            × (self.new.engine ≡ self.old.engine) × (self.new.drainers ≡ self.old.drainers)) }
+        ensures refused { IfErr result (λ refusal. (refusal ≡ Refusal.ForeignLosses)
+            × IsHeld false label self.old.engine
+            × (self.new.engine ≡ self.old.engine) × (self.new.drainers ≡ self.old.drainers)) }
     {
         if !self.engine.has_book(label) {
             return Err(Refusal::ForeignLosses);
@@ -85,10 +121,8 @@ impl<P: EventCallback + Drop, C: Callbacks, T: Drop> Core<P, C, T> {
             Ok(None) => return Ok(true),
             Err(StillHeld) => return Ok(false),
         };
-        match self.engine.absorb_losses(label, &standing) {
-            Ok(_) => Ok(true),
-            Err(refusal) => Err(refusal),
-        }
+        absorb_held(&mut self.engine, label, &standing);
+        Ok(true)
     }
 
     // Forgets the drainer of a label that no client names any more.

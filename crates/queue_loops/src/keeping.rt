@@ -1,0 +1,47 @@
+//! The inner transport and the clock of the loops.
+use sentry_base::protocol::Envelope;
+use sentry_clock::Clock;
+use sentry_lock::transport::Transport;
+use std::sync::{Mutex, Wait};
+
+/// Keeps the last envelope that it was to send.
+#[derive(Drop)]
+pub struct Keeper<R: Wait + Drop> {
+    rt: R,
+    kept: Mutex<Option<Envelope>>,
+}
+
+impl<R: Wait + Drop> Keeper<R> {
+    pub fn new(rt: R) -> Keeper<R> {
+        Keeper {
+            rt,
+            kept: Mutex::new(None),
+        }
+    }
+
+    /// The envelope, if there is one.
+    pub fn take(&self) -> Option<Envelope> {
+        let mut kept = self.kept.lock(&self.rt);
+        kept.take()
+    }
+}
+
+impl<R: Wait + Drop> Transport for Keeper<R> {
+    fn send_envelope(&self, envelope: Envelope) {
+        let mut kept = self.kept.lock(&self.rt);
+        *kept = Some(envelope);
+    }
+}
+
+/// Tells one moment more each time.
+#[derive(Drop)]
+pub struct Turns {
+    pub moment: u64,
+}
+
+impl Clock for Turns {
+    fn now(&mut self) -> u64 {
+        self.moment = self.moment.wrapping_add(1);
+        self.moment
+    }
+}

@@ -1,0 +1,62 @@
+-- What lies under the lock may go to another thread, where the processors, the callbacks and the transports may, and may
+-- be read by several threads.
+use denote.RattleType.{RattleType}
+use denote.Param.Send.{IsSend, IsSync, sendable, struct_send}
+use denote.Struct.Declared.{shape}
+use Rattle.std.proofs.option.Option.TheSendSync as Option
+use Rattle.std.proofs.alloc.Global.TheSendSync as Global
+use Rattle.sentry_plain.proofs.shared.Shared.TheSendSync as Shared
+use Rattle.sentry_plain.proofs.table.Table.TheSendSync as Table
+use Rattle.sentry_base.proofs.protocol.keys.Label.TheSendSync as Label
+use Rattle.sentry_options.proofs.clientoptions.ClientOptions.TheSendSync as ClientOptions
+use Rattle.sentry_sessions.proofs.session.record.Session.TheSendSync as Session
+use Rattle.sentry_client_reports.proofs.client_reports.book.LossBook.TheSendSync as LossBook
+use Rattle.sentry_client_reports.proofs.client_reports.counted.CountedDrainer.TheSendSync as CountedDrainer
+use Rattle.sentry_pipeline.proofs.os_attributes.OsAttributes.TheSendSync as OsAttributes
+use Rattle.sentry_state.proofs.state.NextNumbers.TheSendSync as NextNumbers
+use Rattle.sentry_state.specs.contracts.state.Client as Client
+use Rattle.sentry_state.specs.contracts.state.State as State
+use Rattle.sentry_engine.specs.contracts.engine.Engine as Engine
+use Rattle.sentry_lock.specs.contracts.locked.Core as Core
+use Rattle.sentry_lock.proofs.SentRecords.{Queues_field_send, SpanTable_field_send}
+use Rattle.sentry_lock.proofs.SentHubs.{HubTable_send}
+
+module _ (C : RattleType) (cs : IsSend C) (cy : IsSync C) where
+  pub Client_field_send : IsSend (Client.the_field C).row
+  Client_field_send = search (Shared.the_send, ClientOptions.the_send, ClientOptions.the_sync, Label.the_field_send, OsAttributes.the_field_send, Queues_field_send, sendable) depth 60 fits 20000
+
+  pub Client_send : IsSend (Client.the_row C)
+  Client_send = search (Client_field_send, sendable)
+
+module _ (P C : RattleType) (ps : IsSend P) (py : IsSync P) (cs : IsSend C) (cy : IsSync C) where
+  pub State_field_send : IsSend (State.the_field P C).row
+  State_field_send = struct_send (shape (State.the_type P C))
+      (search sendable,
+      (search (NextNumbers.the_field_send, sendable) depth 60 fits 20000,
+      (search (Table.the_send, (Client_send C cs cy), sendable) depth 60 fits 20000,
+      ((HubTable_send P ps py),
+      (search (Table.the_send, Session.the_send, sendable) depth 60 fits 20000,
+      (search (Table.the_send, LossBook.the_send, sendable) depth 60 fits 20000,
+      (search (SpanTable_field_send, sendable) depth 60 fits 20000,
+      (search (Global.the_field_send, sendable) depth 60 fits 20000,
+      tt))))))))
+
+  pub State_send : IsSend (State.the_row P C)
+  State_send = search (State_field_send, sendable)
+
+  pub Engine_send : IsSend (Engine.the_row P C)
+  Engine_send = search (State_field_send, State_send, sendable) depth 60 fits 20000
+
+module _ (P C T : RattleType) (ps : IsSend P) (py : IsSync P) (cs : IsSend C) (cy : IsSync C) (ts : IsSend T) (ty : IsSync T) where
+  pub Core_field_send : IsSend (Core.the_field P C T).row
+  Core_field_send = struct_send (shape (Core.the_type P C T))
+      ((Engine_send P C ps py cs cy),
+      (search sendable,
+      (search (Table.the_send, Option.the_field_send, Option.the_send, CountedDrainer.the_send, sendable) depth 60 fits 20000,
+      (search (Shared.the_send, Table.the_send, Shared.the_sync, Table.the_sync, sendable) depth 60 fits 20000,
+      (search sendable,
+      (search (Global.the_field_send, Global.the_send, sendable) depth 60 fits 20000,
+      tt))))))
+
+  pub Core_send : IsSend (Core.the_row P C T)
+  Core_send = search (Core_field_send, sendable)

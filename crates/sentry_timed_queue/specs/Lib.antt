@@ -1,0 +1,2 @@
+pub mod QueueCalls
+pub mod QueueCounts
