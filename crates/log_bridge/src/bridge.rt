@@ -12,12 +12,12 @@ use std::sync::Wait;
 /// Tells the current hub of a thread what is logged. A logger can't fail: what a hub refuses is dropped, and so is what
 /// is logged while another record is told.
 #[derive(Drop)]
-pub struct HubSink<R> {
+pub struct HubSink<R: Wait> {
     rt: R,
     thread: RefCell<ThreadHub>,
 }
 
-impl<R> HubSink<R> {
+impl<R: Wait> HubSink<R> {
     /// A sink for this thread.
     pub fn new(rt: R, thread: ThreadHub) -> HubSink<R> {
         HubSink {

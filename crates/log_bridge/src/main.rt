@@ -43,8 +43,8 @@ fn connect<R: Wait>(
 
 fn main(rt: HostRuntime) -> Result<()> {
     let alloc = rt.alloc();
-    let options = ClientOptions::from_dsn(alloc, "https://public@sentry.invalid/1")?;
     let transport: BoxedTransport = Box::new(alloc, Printer(rt))?;
+    let options = ClientOptions::from_dsn(alloc, "https://public@sentry.invalid/1")?;
     let mut clock = WallClock(rt);
     let (client, hub) = connect(&rt, alloc, options, transport, clock.now())?;
     let clock: BoxedClock = Box::new(alloc, clock)?;

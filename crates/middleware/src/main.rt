@@ -59,11 +59,11 @@ fn serve<R: Wait + Print>(rt: &R, alloc: Global, thread: &mut ThreadHub) -> Resu
 
 fn main(rt: HostRuntime) -> Result<()> {
     let alloc = rt.alloc();
+    let transport: BoxedTransport = Box::new(alloc, Printer(rt))?;
     let options = ClientOptions::from_dsn(
         alloc,
         "https://public@sentry.invalid/1",
     )?.traces_sample_rate(1_000_000)?;
-    let transport: BoxedTransport = Box::new(alloc, Printer(rt))?;
     let (client, hub) = connect(&rt, alloc, options, transport)?;
     let clock: BoxedClock = Box::new(alloc, Seconds(0))?;
     let mut thread = ThreadHub::new(hub, clock, [7; 32])?;

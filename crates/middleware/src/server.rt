@@ -54,7 +54,7 @@ pub fn answer_request<R: Wait>(
     let hub = Hub::new_from_top(rt, &thread.main)?;
     let transaction = start_for(rt, alloc, thread, request)?;
     let lent = transaction.clone()?;
-    let status = Hub::run(hub.clone()?, thread, |_, thread| {
+    let status = Hub::run(hub.clone()?, thread, |_hub, thread| {
         run_request(rt, alloc, thread, request, &lent)
     })??;
     // the layer of the hub names the transaction, so the hub goes first

@@ -57,10 +57,10 @@ fn sell_lamp<R: Wait>(rt: &R, alloc: Global, thread: &mut ThreadHub) -> Result<(
 
 fn main(rt: HostRuntime) -> Result<()> {
     let alloc = rt.alloc();
+    let transport: BoxedTransport = Box::new(alloc, Printer(rt))?;
     let options = ClientOptions::from_dsn(alloc, "https://public@sentry.invalid/1")?
         .release("shop@1.0.0")?
         .traces_sample_rate(1_000_000)?;
-    let transport: BoxedTransport = Box::new(alloc, Printer(rt))?;
     let (client, hub) = open_shop(&rt, alloc, options, transport)?;
     let clock: BoxedClock = Box::new(alloc, Seconds(MORNING))?;
     let mut thread = ThreadHub::new(hub, clock, [7; 32])?;

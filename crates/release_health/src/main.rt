@@ -69,10 +69,10 @@ fn serve_user<R: Wait>(rt: &R, alloc: Global, thread: &mut ThreadHub, user: &str
 
 fn main(rt: HostRuntime) -> Result<()> {
     let alloc = rt.alloc();
+    let transport: BoxedTransport = Box::new(alloc, Printer(rt))?;
     let options = ClientOptions::from_dsn(alloc, "https://public@sentry.invalid/1")?
         .release("shop@1.0.0")?
         .session_mode(SessionMode::Request);
-    let transport: BoxedTransport = Box::new(alloc, Printer(rt))?;
     let (client, hub) = connect(&rt, alloc, options, transport)?;
     let clock: BoxedClock = Box::new(alloc, Seconds(0))?;
     let mut thread = ThreadHub::new(hub, clock, [7; 32])?;

@@ -12,9 +12,10 @@ use sentry_core::{
     BoxedClock, BoxedTransport, Client, ClientOptions, Clock, Hub, Scope, SharedCore, ThreadHub,
     Worker, logger_info,
 };
-use std::alloc::Global;
+use std::alloc::{AllocError, Global};
+use std::collections::BTreeMap;
 use std::sync::{Arc, Wait};
-use std::thread::map_vec;
+use std::thread::{Threads, map_vec};
 use ticks::{Seconds, Ticks};
 
 /// The work of one thread: so many logs, on a hub that is made from the top of the main one.
@@ -55,31 +56,52 @@ fn log_all<R: Wait>(rt: &R, job: Job) -> Result<(), Refusal> {
     hub.release(rt, &mut thread)
 }
 
-fn main(rt: HostRuntime) -> Result<()> {
-    let alloc = rt.alloc();
-    let options = ClientOptions::from_dsn(alloc, "https://public@sentry.invalid/1")?;
-    let seen = Arc::new(alloc, Seen::new(rt, alloc))?;
-    let transport: BoxedTransport = Box::new(alloc, seen.clone()?)?;
-    let (client, hub) = connect(&rt, alloc, options, transport)?;
-    let worker = Worker::start(rt, client.clone()?, Ticks::new(rt))?;
-
+// A job for each clock.
+fn make_jobs(alloc: Global, main: &Hub, clocks: Vec<BoxedClock>) -> Result<Vec<Job>, AllocError> {
     let mut jobs = Vec::new(alloc);
-    for number in 0..4u8 {
-        let clock: BoxedClock = Box::new(alloc, Seconds(0))?;
-        let main = hub.clone()?;
+    let mut number = 0u8;
+    for clock in clocks {
+        let main = main.clone()?;
         jobs.push(Job {
             number,
             main,
             clock,
         })?;
+        number = number.wrapping_add(1);
     }
-    for done in map_vec(&rt, jobs, &|job: Job| log_all(&rt, job))? {
+    Ok(jobs)
+}
+
+// Each job in a thread, until all are done.
+fn run_jobs<R: Threads + Wait + Sync>(rt: &R, jobs: Vec<Job>) -> Result<()> {
+    for done in map_vec(rt, jobs, &|job: Job| log_all(rt, job))? {
         done?;
     }
-    worker.stop(&rt);
-    drop(client.flush(&rt, None)?);
-    for (job, logs) in seen.count(alloc)?.iter() {
+    Ok(())
+}
+
+fn print_counts(rt: &impl Print, counts: &BTreeMap<i128, u64>) -> Result<()> {
+    for (job, logs) in counts.iter() {
         println!(rt; "job {job}: {logs} logs")?;
     }
     Ok(())
+}
+
+fn main(rt: HostRuntime) -> Result<()> {
+    let alloc = rt.alloc();
+    let mut clocks = Vec::new(alloc);
+    for _ in 0..4 {
+        let clock: BoxedClock = Box::new(alloc, Seconds(0))?;
+        clocks.push(clock)?;
+    }
+    let seen = Arc::new(alloc, Seen::new(rt, alloc))?;
+    let transport: BoxedTransport = Box::new(alloc, seen.clone()?)?;
+    let options = ClientOptions::from_dsn(alloc, "https://public@sentry.invalid/1")?;
+    let (client, hub) = connect(&rt, alloc, options, transport)?;
+    let jobs = make_jobs(alloc, &hub, clocks)?;
+    let worker = Worker::start(rt, client.clone()?, Ticks::new(rt))?;
+    run_jobs(&rt, jobs)?;
+    worker.stop(&rt);
+    drop(client.flush(&rt, None)?);
+    print_counts(&rt, &seen.count(alloc)?)
 }
