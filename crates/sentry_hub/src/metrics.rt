@@ -5,9 +5,9 @@ use crate::hub::Hub;
 use sentry_base::callbacks::EventCallback;
 use sentry_base::protocol::Refusal;
 use sentry_batches::metrics::{IntoProtocolMetric, TypedMetric};
+use sentry_clock::Clock;
 use sentry_lock::transport::Transport;
 use sentry_options::clientoptions::Callbacks;
-use sentry_thread_hub::clock::Clock;
 use sentry_thread_hub::thread_hub::ThreadHub;
 use std::sync::Wait;
 

@@ -1,6 +1,7 @@
 //! A thread that ticks a client.
 use sentry_base::callbacks::EventCallback;
 use sentry_base::protocol::Refusal;
+pub use sentry_clock::{BoxedTickClock, TickClock};
 use sentry_lock::client::Client;
 use sentry_lock::transport::Transport;
 use sentry_options::clientoptions::Callbacks;
@@ -9,22 +10,6 @@ use std::sync::atomic::{AtomicU64, Ordering};
 use std::sync::{Arc, Wait};
 use std::thread;
 use std::thread::{JoinHandle, Threads};
-
-/// Tells a worker when its client is to be ticked.
-pub trait TickClock {
-    /// Waits for the moment of the next tick, in nanoseconds since the epoch. `None` ends the worker.
-    fn next(&mut self) -> Option<u64>;
-}
-
-/// Such a clock in a box.
-pub type BoxedTickClock = Box<dyn TickClock + Send + Sync + Drop>;
-
-/// Forwards the call.
-impl TickClock for BoxedTickClock {
-    fn next(&mut self) -> Option<u64> {
-        TickClock::next(&mut **self)
-    }
-}
 
 /// A thread that ticks a client at the moments of a clock. It ends when the clock has no more of them, and when a tick is
 /// refused for anything but want of memory. A worker that is dropped and not stopped runs on.

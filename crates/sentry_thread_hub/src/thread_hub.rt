@@ -2,10 +2,10 @@
 ghost use Rattle.std.specs.Prelude.{◌≡◌, ⊤, IfOk};
 ghost use Rattle.sentry_thread_hub.specs.Draws.{draw_fresh, draw_sample};
 
-use crate::clock::Clock;
 use rand::RngExt;
 use rand_core::{Rng, SeedableRng};
 use sentry_base::protocol::{Draw, Fresh, Refusal, SampleRate, SpanId, TraceId, Uuid};
+use sentry_clock::Clock;
 use std::alloc::AllocError;
 use std::sync::Wait;
 

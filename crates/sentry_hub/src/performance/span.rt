@@ -7,11 +7,11 @@ use sentry_base::callbacks::EventCallback;
 use sentry_base::protocol::{
     Fresh, Refusal, Request, SpanId, SpanKey, SpanStatus, TraceContext, TransactionOrSpanKey, Value,
 };
+use sentry_clock::Clock;
 use sentry_engine::call::{SpanCall, SpanReply};
 use sentry_lock::shared_core::SharedCore;
 use sentry_lock::transport::Transport;
 use sentry_options::clientoptions::Callbacks;
-use sentry_thread_hub::clock::Clock;
 use sentry_thread_hub::thread_hub::ThreadHub;
 use sentry_trace::headers::TraceHeadersIter;
 use std::alloc::AllocError;

@@ -8,12 +8,12 @@ use sentry_base::protocol::{
     Fresh, Refusal, Request, SpanId, SpanStatus, TraceContext, TransactionKey,
     TransactionOrSpanKey, Value,
 };
+use sentry_clock::Clock;
 use sentry_engine::call::SpanCall;
 use sentry_lock::shared_core::SharedCore;
 use sentry_lock::transport::Transport;
 use sentry_options::clientoptions::Callbacks;
 use sentry_plain::Text;
-use sentry_thread_hub::clock::Clock;
 use sentry_thread_hub::thread_hub::ThreadHub;
 use sentry_trace::headers::TraceHeadersIter;
 use std::alloc::AllocError;
