@@ -2,10 +2,10 @@
 use sentry_base::callbacks::{
     BoxedBreadcrumbCallback, BoxedEventCallback, BoxedLogCallback, BoxedMetricCallback,
 };
+use sentry_clock::BoxedClock;
 use sentry_lock::transport::BoxedTransport;
 use sentry_options::integration::BoxedIntegration;
 use sentry_options::sampler::BoxedTracesSampler;
-use sentry_thread_hub::clock::BoxedClock;
 
 /// The callbacks of a client.
 pub type ClientCallbacks = sentry_options::clientoptions::ClientCallbacks<

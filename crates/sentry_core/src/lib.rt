@@ -25,7 +25,7 @@ pub use sentry_base::callbacks::{
 pub use sentry_base::protocol;
 pub use sentry_base::protocol::{Breadcrumb, Envelope, Level, User};
 pub use sentry_batches::batcher::Batch;
-pub use sentry_clock::{BoxedClock, Clock};
+pub use sentry_clock::{BoxedClock, BoxedTickClock, Clock, TickClock};
 pub use sentry_engine::engine::ScopeGuard;
 pub use sentry_hub::api::{
     add_breadcrumb, capture_error, capture_event, capture_message, configure_scope, end_session,
@@ -35,7 +35,7 @@ pub use sentry_hub::api::{
 pub use sentry_hub::breadcrumbs::IntoBreadcrumbs;
 pub use sentry_hub::hub::WithScopeError;
 pub use sentry_hub::performance::{Data, TransactionData};
-pub use sentry_hub::worker::{TickClock, Worker};
+pub use sentry_hub::worker::Worker;
 pub use sentry_lock::transport::{
     BoxedTransport, NoOpTransport, Transport, TransportFactory, TransportOptions,
 };

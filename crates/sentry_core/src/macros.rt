@@ -1,10 +1,10 @@
 //! The macros that capture logs.
 
 /// Captures a log at a level on the current hub of a thread: `logger_log!(&rt, &thread, now, level, user.id = 5u64,
-/// "{} lamps", 7)`. `now` is its moment in nanoseconds since the epoch. Attributes stand first, each as identifiers that
-/// are joined by dots, `=` and a value that has `ToValue`. Then comes a text, or a text with places and its parameters,
-/// which have `ToValue` and can be displayed. A text with parameters is also the attribute `sentry.message.template`,
-/// and they are `sentry.message.parameter.0` and so on. A parameter is evaluated twice.
+/// "{} lamps", 7)`. `now` is its moment in nanoseconds since the epoch. Attributes stand first, each as identifiers
+/// that are joined by dots, `=` and a value that has `ToValue`. Then comes a text, as it is written, or a text with
+/// places and its parameters, which have `ToValue` and can be displayed. A text with parameters is also the attribute
+/// `sentry.message.template`, and they are `sentry.message.parameter.0` and so on. A parameter is evaluated twice.
 ///
 /// The answer is that of `Hub::capture_log`.
 #[macro_export]

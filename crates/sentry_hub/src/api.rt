@@ -7,7 +7,9 @@ use crate::hub::{Hub, WithScopeError};
 use crate::performance::Transaction;
 use rand_core::Rng;
 use sentry_base::callbacks::{BreadcrumbCallback, EventCallback, LogCallback, MetricCallback};
-use sentry_base::protocol::{ErrorLink, Event, Fresh, Level, Refusal, SessionStatus, Uuid};
+use sentry_base::protocol::{
+    ErrorLink, Event, Fresh, Level, Refusal, SessionStatus, SpanId, TraceId, Uuid,
+};
 use sentry_clock::Clock;
 use sentry_lock::scope_edits::ScopeEdits;
 use sentry_lock::transport::Transport;
@@ -59,9 +61,10 @@ fn refuse<A>(refusal: Refusal) -> WithScopeError<A> {
 fn hub_without_client<R: Wait, P: EventCallback + Drop, C: Callbacks, T: Transport + Drop>(
     rt: &R,
     other: &Hub<P, C, T>,
-    fresh: Fresh,
+    trace_id: TraceId,
+    span_id: SpanId,
 ) -> Result<Hub<P, C, T>, Refusal> {
-    let scope = Scope::new(other.core().allocator(), fresh.trace_id, fresh.span_id);
+    let scope = Scope::new(other.core().allocator(), trace_id, span_id);
     Hub::without_client(rt, other.core(), scope)
 }
 
@@ -74,17 +77,10 @@ fn start_without_client<R: Wait, P: EventCallback + Drop, C: Callbacks, T: Trans
     fresh: Fresh,
 ) -> Result<Transaction<P, C, T>, Refusal> {
     let now = fresh.now;
-    let hub = hub_without_client(rt, other, fresh)?;
-    match hub.start_transaction(rt, context, fresh) {
-        Ok(transaction) => {
-            drop(hub.release_at(rt, now));
-            Ok(transaction)
-        }
-        Err(refusal) => {
-            drop(hub.release_at(rt, now));
-            Err(refusal)
-        }
-    }
+    let hub = hub_without_client(rt, other, fresh.trace_id, fresh.span_id)?;
+    let started = hub.start_transaction(rt, context, fresh);
+    drop(hub.release_at(rt, now));
+    started
 }
 
 // The same with a start in nanoseconds since the epoch.
@@ -96,17 +92,10 @@ fn start_without_client_at<R: Wait, P: EventCallback + Drop, C: Callbacks, T: Tr
     fresh: Fresh,
 ) -> Result<Transaction<P, C, T>, Refusal> {
     let now = fresh.now;
-    let hub = hub_without_client(rt, other, fresh)?;
-    match hub.start_transaction_with_timestamp(rt, context, start, fresh) {
-        Ok(transaction) => {
-            drop(hub.release_at(rt, now));
-            Ok(transaction)
-        }
-        Err(refusal) => {
-            drop(hub.release_at(rt, now));
-            Err(refusal)
-        }
-    }
+    let hub = hub_without_client(rt, other, fresh.trace_id, fresh.span_id)?;
+    let started = hub.start_transaction_with_timestamp(rt, context, start, fresh);
+    drop(hub.release_at(rt, now));
+    started
 }
 
 /// Captures an event. Its id is the answer; the nil id if it was not sent.

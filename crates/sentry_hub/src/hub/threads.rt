@@ -1,5 +1,6 @@
 //! Hubs of a thread.
-ghost use Rattle.std.specs.Prelude.{◌≡◌, IfOk};
+ghost use Rattle.std.specs.Prelude.{◌≡◌, ◌⊎◌, IfOk, IfSome, OnErr};
+ghost use Rattle.sentry_thread_hub.specs.Lends.{AnswersLent};
 
 use crate::hub::Hub;
 use sentry_base::callbacks::EventCallback;
@@ -20,7 +21,8 @@ impl<P: EventCallback + Drop, C: Callbacks, T: Transport + Drop> Hub<P, C, T> {
     pub fn current<K, G>(thread: &ThreadHub<Hub<P, C, T>, K, G>) -> Result<Hub<P, C, T>, AllocError>
         ensures { IfOk result (λ hub. hub ≡ thread.now.current) }
     {
-        thread.current.clone()
+        let hub = thread.current.clone()?;
+        Ok(hub)
     }
 
     /// The main hub of the thread.
@@ -29,7 +31,8 @@ impl<P: EventCallback + Drop, C: Callbacks, T: Transport + Drop> Hub<P, C, T> {
     pub fn main<K, G>(thread: &ThreadHub<Hub<P, C, T>, K, G>) -> Result<Hub<P, C, T>, AllocError>
         ensures { IfOk result (λ hub. hub ≡ thread.now.main) }
     {
-        thread.main.clone()
+        let hub = thread.main.clone()?;
+        Ok(hub)
     }
 
     /// Gives the hub back, at the moment of the thread's clock. A session that no layer of another hub names ends.
@@ -60,9 +63,12 @@ impl<P: EventCallback + Drop, C: Callbacks, T: Transport + Drop> Hub<P, C, T> {
         callback: F,
     ) -> Result<A, AllocError>
         requires { F.IsAlwaysCallable callback }
+        ensures answer { IfOk result (λ answer. AnswersLent F.FnOnce callback thread.old.current thread.old answer thread.new) }
+        ensures refused { OnErr result (thread.new ≡ thread.old) }
     {
-        let hub = Hub::current(thread)?;
-        Ok(callback(&hub, thread))
+        let current = Hub::current(thread)?;
+        let answer = callback(&current, thread);
+        Ok(answer)
     }
 
     /// The same if the current hub is active: its client is enabled. Otherwise the closure does not run, and the answer
@@ -77,10 +83,16 @@ impl<P: EventCallback + Drop, C: Callbacks, T: Transport + Drop> Hub<P, C, T> {
         F: FnOnce(&Hub<P, C, T>, &mut ThreadHub<Hub<P, C, T>, K, G>) -> A + Drop,
     >(rt: &R, thread: &mut ThreadHub<Hub<P, C, T>, K, G>, callback: F) -> Result<A, Refusal>
         requires { F.IsAlwaysCallable callback }
+        ensures answer { IfOk result (λ answer. AnswersLent F.FnOnce callback thread.old.current thread.old answer thread.new
+            ⊎ (A.is_default answer × (thread.new ≡ thread.old))) }
+        ensures refused { OnErr result (thread.new ≡ thread.old) }
     {
         match Hub::active(rt, thread)? {
             None => Ok(A::default()),
-            Some(hub) => Ok(callback(&hub, thread)),
+            Some(hub) => {
+                let answer = callback(&hub, thread);
+                Ok(answer)
+            }
         }
     }
 
@@ -88,7 +100,9 @@ impl<P: EventCallback + Drop, C: Callbacks, T: Transport + Drop> Hub<P, C, T> {
     pub(crate) fn active<R: Wait, K, G>(
         rt: &R,
         thread: &ThreadHub<Hub<P, C, T>, K, G>,
-    ) -> Result<Option<Hub<P, C, T>>, Refusal> {
+    ) -> Result<Option<Hub<P, C, T>>, Refusal>
+        ensures { IfOk result (λ found. IfSome found (λ hub. hub ≡ thread.now.current)) }
+    {
         let hub = Hub::current(thread)?;
         if !hub.is_active(rt)? {
             return Ok(None);
@@ -111,9 +125,14 @@ impl<P: EventCallback + Drop, C: Callbacks, T: Transport + Drop> Hub<P, C, T> {
         callback: F,
     ) -> Result<A, AllocError>
         requires { F.IsAlwaysCallable callback }
-        ensures { thread.new.current ≡ thread.old.current }
+        ensures answer { IfOk result (λ answer. (left : _)
+            × AnswersLent F.FnOnce callback hub (record thread.old { current = hub }) answer left
+            × (thread.new ≡ record left { current = thread.old.current })) }
+        ensures refused { OnErr result (thread.new ≡ thread.old) }
+        ensures current { thread.new.current ≡ thread.old.current }
     {
         let same = hub.clone()?;
-        Ok(run_with(thread, hub, &same, callback))
+        let answer = run_with(thread, hub, &same, callback);
+        Ok(answer)
     }
 }
