@@ -1,6 +1,6 @@
 //! The loops of messages that `bench/lock` times from outside. Arguments: `engine MESSAGES`, of an engine alone;
 //! `client MESSAGES`, of a client of one under its lock; or `threads MESSAGES THREADS`, of such a client in each of so
-//! many threads. Each message is an event under a scope with a tag; the transport drops the envelopes.
+//! many threads. Each message is an event under a scope with a tag, and the transport drops the envelopes.
 #![tactic(auto)]
 
 mod messages;
