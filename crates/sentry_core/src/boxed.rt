@@ -42,6 +42,13 @@ pub type SharedCore = sentry_lock::shared_core::SharedCore<
 /// What lies under the lock.
 pub type Core = sentry_lock::locked::Core<BoxedEventCallback, ClientCallbacks, BoxedTransport>;
 
+/// The core as it lies under its lock.
+pub type UnderLock = sentry_lock::under_lock::UnderLock<
+    BoxedEventCallback,
+    ClientCallbacks,
+    BoxedTransport,
+>;
+
 /// What a client is made of.
 pub type ClientSetup = sentry_lock::client::ClientSetup<ClientCallbacks>;
 

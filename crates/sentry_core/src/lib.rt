@@ -16,7 +16,7 @@ pub mod utils;
 pub use boxed::{
     Client, ClientCallbacks, ClientOptions, ClientSetup, Core, Generator, Hub, HubSwitchGuard,
     Scope, ScopeEdit, ScopeEdits, Seed, SentryFuture, SharedCore, Span, Stack, StackLayer,
-    ThreadHub, Transaction, TransactionOrSpan,
+    ThreadHub, Transaction, TransactionOrSpan, UnderLock,
 };
 pub use sentry_base::callbacks::{
     BoxedBreadcrumbCallback, BoxedEventCallback, BoxedLogCallback, BoxedMetricCallback,
@@ -50,7 +50,6 @@ pub use sentry_sessions::session::{Session, SessionQueue};
 pub use sentry_span_table::table::SpanTable;
 pub use sentry_texts::dsn::IntoDsn;
 pub use sentry_texts::utils::{event_from_error, parse_type_from_debug};
-pub use sentry_thread_hub::clock::{BoxedClock, Clock};
 pub use sentry_thread_hub::hub_future::{HubFuture, SentryFutureExt};
 pub use sentry_trace::headers::{
     HeaderParseError, SentryTrace, TraceHeader, TraceHeadersIter, TracePropagationContext,
