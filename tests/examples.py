@@ -87,7 +87,7 @@ def find(names):
 
 
 def over_the_lock(found):
-    """The scenarios among the examples, for the program that plays them over the lock."""
+    """The scenarios among the examples, without single bad lines, for the program that plays them over the lock."""
     locked = [
         it._replace(
             name=f"{it.name} over the lock",
@@ -95,7 +95,7 @@ def over_the_lock(found):
             wanted=it.wanted._replace(err=it.wanted.err.replace(b"scenario: ", b"%s: " % LOCKED.encode())),
         )
         for it in found
-        if it.program == "scenario"
+        if it.program == "scenario" and ".bad " not in it.name
     ]
     stop_without_programs(locked)
     return locked

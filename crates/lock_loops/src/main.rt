@@ -1,14 +1,16 @@
-//! The loops of messages that `bench/lock` times from outside. Arguments: `engine MESSAGES`, of an engine alone, or
-//! `client MESSAGES`, of a client of one under its lock. Each message is an event under a scope with a tag, and the
-//! transport drops the envelopes.
+//! The loops of messages that `bench/lock` times from outside. Arguments: `engine MESSAGES`, of an engine alone;
+//! `client MESSAGES`, of a client of one under its lock; or `threads MESSAGES THREADS`, of such a client in each of so
+//! many threads. Each message is an event under a scope with a tag, and the transport drops the envelopes.
 #![tactic(auto)]
 
 mod messages;
+mod threads;
 
 use messages::{send_by_client, send_by_engine};
 use sentry_base::protocol::Refusal;
 use std::alloc::Global;
 use std::sync::Wait;
+use std::thread::Threads;
 use std::{env, io};
 
 fn number_at(words: &[String], place: usize) -> u64 {
@@ -23,11 +25,19 @@ fn word_at(words: &[String], place: usize) -> &str {
 }
 
 /// How many messages the loop that the words name sent; none for another name.
-fn count<R: Wait>(rt: &R, alloc: Global, words: &[String]) -> Result<Option<u64>, Refusal> {
+fn count<R: Threads + Wait + Sync>(
+    rt: &R,
+    alloc: Global,
+    words: &[String],
+) -> Result<Option<u64>, Refusal> {
     let messages = number_at(words, 2);
     match word_at(words, 1) {
         "engine" => send_by_engine(alloc, messages).map(Some),
         "client" => send_by_client(rt, alloc, messages).map(Some),
+        "threads" => {
+            let threads = number_at(words, 3);
+            threads::send_in_threads(rt, alloc, threads, messages).map(Some)
+        }
         _ => Ok(None),
     }
 }

@@ -26,7 +26,8 @@ type Callbacks = ClientCallbacks<
 
 type EventScope = Scope<BoxedEventCallback>;
 
-type LockedClient = Client<BoxedEventCallback, Callbacks, NoOpTransport>;
+/// The client of the loops.
+pub type LockedClient = Client<BoxedEventCallback, Callbacks, NoOpTransport>;
 
 fn options(alloc: Global) -> Result<ClientOptions<Callbacks>, Refusal> {
     ClientOptions::new(alloc).dsn("https://public@sentry.invalid/1")

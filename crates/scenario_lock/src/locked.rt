@@ -101,7 +101,7 @@ impl<R: Wait + Copy + Drop> Locked<R> {
             return Err(Refusal::ForeignLosses);
         };
         let label = words.record(losses)?;
-        self.core.lock(&self.rt).drain_and_absorb(label)?;
+        self.core.lock(&self.rt).core.drain_and_absorb(label)?;
         Ok(Reply::Done)
     }
 
@@ -109,7 +109,7 @@ impl<R: Wait + Copy + Drop> Locked<R> {
         let Some(words) = self.words.get(number) else {
             return Err(Refusal::ForeignLosses);
         };
-        let report = self.core.lock(&self.rt).take_report(words.label)?;
+        let report = self.core.lock(&self.rt).core.take_report(words.label)?;
         Ok(Reply::Report(report))
     }
 
