@@ -1,6 +1,6 @@
-//! The loops of a queueing transport that `bench/queueing` times and `tests/memory_use` watches from outside. Arguments:
-//! `pass TURNS`, in each of which an envelope of an event is sent and passed on; `turn_away TURNS`, in each of which an
-//! envelope is sent to a full queue.
+//! The loops of a queueing transport that `bench/queueing` times and `tests/memory_use` watches from outside. Its
+//! arguments are `pass TURNS`, in each of which an envelope of an event is sent and passed on, or `turn_away TURNS`, in
+//! each of which an envelope is sent to a full queue.
 #![tactic(auto)]
 
 mod keeping;
@@ -84,8 +84,8 @@ fn turn_away<R: Wait + Drop>(queue: &Queue<R>, alloc: Global, turns: u64) {
     }
 }
 
-/// What the loop that the word names counts, with a queue for one envelope, in which one waits at first; none for another
-/// word.
+/// What the loop that the word names counts, with a queue for one envelope, in which one waits at first; none for
+/// another word.
 fn count<R: Wait + Drop + Copy>(
     rt: R,
     alloc: Global,
