@@ -30,16 +30,31 @@ module _ (C : RattleType) (cs : IsSend C) (cy : IsSync C) where
 
 module _ (P C : RattleType) (ps : IsSend P) (py : IsSync P) (cs : IsSend C) (cy : IsSync C) where
   pub State_field_send : IsSend (State.the_field P C).row
-  State_field_send = struct_send (shape (State.the_type P C))
-      (search sendable,
-      (search (NextNumbers.the_field_send, sendable) depth 60 fits 20000,
-      (search (Table.the_send, (Client_send C cs cy), sendable) depth 60 fits 20000,
-      ((HubTable_send P ps py),
-      (search (Table.the_send, Session.the_send, sendable) depth 60 fits 20000,
-      (search (Table.the_send, LossBook.the_send, sendable) depth 60 fits 20000,
-      (search (SpanTable_field_send, sendable) depth 60 fits 20000,
-      (search (Global.the_field_send, sendable) depth 60 fits 20000,
-      tt))))))))
+  State_field_send = struct_send (shape (State.the_type P C)) (
+    search sendable,
+    (
+      search (NextNumbers.the_field_send, sendable) depth 60 fits 20000,
+      (
+        search (Table.the_send, (Client_send C cs cy), sendable) depth 60 fits 20000,
+        (
+          (HubTable_send P ps py),
+          (
+            search (Table.the_send, Session.the_send, sendable) depth 60 fits 20000,
+            (
+              search (Table.the_send, LossBook.the_send, sendable) depth 60 fits 20000,
+              (
+                search (SpanTable_field_send, sendable) depth 60 fits 20000,
+                (
+                  search (Global.the_field_send, sendable) depth 60 fits 20000,
+                  tt,
+                ),
+              ),
+            ),
+          ),
+        ),
+      ),
+    ),
+  )
 
   pub State_send : IsSend (State.the_row P C)
   State_send = search (State_field_send, sendable)
@@ -49,14 +64,25 @@ module _ (P C : RattleType) (ps : IsSend P) (py : IsSync P) (cs : IsSend C) (cy 
 
 module _ (P C T : RattleType) (ps : IsSend P) (py : IsSync P) (cs : IsSend C) (cy : IsSync C) (ts : IsSend T) (ty : IsSync T) where
   pub Core_field_send : IsSend (Core.the_field P C T).row
-  Core_field_send = struct_send (shape (Core.the_type P C T))
-      ((Engine_send P C ps py cs cy),
-      (search sendable,
-      (search (Table.the_send, Option.the_field_send, Option.the_send, CountedDrainer.the_send, sendable) depth 60 fits 20000,
-      (search (Shared.the_send, Table.the_send, Shared.the_sync, Table.the_sync, sendable) depth 60 fits 20000,
-      (search sendable,
-      (search (Global.the_field_send, Global.the_send, sendable) depth 60 fits 20000,
-      tt))))))
+  Core_field_send = struct_send (shape (Core.the_type P C T)) (
+    (Engine_send P C ps py cs cy),
+    (
+      search sendable,
+      (
+        search (Table.the_send, Option.the_field_send, Option.the_send, CountedDrainer.the_send, sendable) depth 60 fits 20000,
+        (
+          search (Shared.the_send, Table.the_send, Shared.the_sync, Table.the_sync, sendable) depth 60 fits 20000,
+          (
+            search sendable,
+            (
+              search (Global.the_field_send, Global.the_send, sendable) depth 60 fits 20000,
+              tt,
+            ),
+          ),
+        ),
+      ),
+    ),
+  )
 
   pub Core_send : IsSend (Core.the_row P C T)
   Core_send = search (Core_field_send, sendable)

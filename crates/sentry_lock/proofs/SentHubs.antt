@@ -27,21 +27,46 @@ use Rattle.sentry_lock.proofs.SentRecords.{Breadcrumb_send, Breadcrumb_sync, Con
 
 module _ (P : RattleType) (ps : IsSend P) (py : IsSync P) where
   pub Scope_field_send : IsSend (Scope.the_field P).row
-  Scope_field_send = struct_send (shape (Scope.the_type P))
-      (search (Option.the_field_send, Level.the_send, sendable) depth 60 fits 20000,
-      (search (Option.the_field_send, Shared.the_send, Items.the_send, Text.the_send, Items.the_sync, Text.the_sync, sendable) depth 60 fits 20000,
-      (search (Option.the_field_send, Text.the_send, sendable) depth 60 fits 20000,
-      (search (Option.the_field_send, Shared.the_send, User_send, User_sync, sendable) depth 60 fits 20000,
-      (search (Global.the_field_send, Option.the_field_send, Shared.the_send, TextMap.the_send, Text.the_send, TextMap.the_sync, Text.the_sync, sendable) depth 60 fits 20000,
-      (search (Global.the_field_send, Option.the_field_send, Shared.the_send, ValueMap_send, ValueMap_sync, sendable) depth 60 fits 20000,
-      (search (Global.the_field_send, Option.the_field_send, Shared.the_send, TextMap.the_send, Context_send, TextMap.the_sync, Context_sync, sendable) depth 60 fits 20000,
-      (search (Global.the_field_send, Option.the_field_send, Shared.the_send, Trail.the_send, Breadcrumb_send, Trail.the_sync, Breadcrumb_sync, sendable) depth 60 fits 20000,
-      (search (Global.the_field_send, Option.the_field_send, Shared.the_send, Items.the_send, Attachment.the_send, Items.the_sync, Attachment.the_sync, sendable) depth 60 fits 20000,
-      (search (TraceId.the_field_send, sendable) depth 60 fits 20000,
-      (search (SpanId.the_field_send, sendable) depth 60 fits 20000,
-      (search (Option.the_field_send, TransactionOrSpanKey.the_send, sendable) depth 60 fits 20000,
-      (search (Global.the_field_send, Option.the_field_send, Shared.the_send, Shared.the_sync, Items.the_send, Items.the_sync, sendable) depth 60 fits 20000,
-      tt)))))))))))))
+  Scope_field_send = struct_send (shape (Scope.the_type P)) (
+    search (Option.the_field_send, Level.the_send, sendable) depth 60 fits 20000,
+    (
+      search (Option.the_field_send, Shared.the_send, Items.the_send, Text.the_send, Items.the_sync, Text.the_sync, sendable) depth 60 fits 20000,
+      (
+        search (Option.the_field_send, Text.the_send, sendable) depth 60 fits 20000,
+        (
+          search (Option.the_field_send, Shared.the_send, User_send, User_sync, sendable) depth 60 fits 20000,
+          (
+            search (Global.the_field_send, Option.the_field_send, Shared.the_send, TextMap.the_send, Text.the_send, TextMap.the_sync, Text.the_sync, sendable) depth 60 fits 20000,
+            (
+              search (Global.the_field_send, Option.the_field_send, Shared.the_send, ValueMap_send, ValueMap_sync, sendable) depth 60 fits 20000,
+              (
+                search (Global.the_field_send, Option.the_field_send, Shared.the_send, TextMap.the_send, Context_send, TextMap.the_sync, Context_sync, sendable) depth 60 fits 20000,
+                (
+                  search (Global.the_field_send, Option.the_field_send, Shared.the_send, Trail.the_send, Breadcrumb_send, Trail.the_sync, Breadcrumb_sync, sendable) depth 60 fits 20000,
+                  (
+                    search (Global.the_field_send, Option.the_field_send, Shared.the_send, Items.the_send, Attachment.the_send, Items.the_sync, Attachment.the_sync, sendable) depth 60 fits 20000,
+                    (
+                      search (TraceId.the_field_send, sendable) depth 60 fits 20000,
+                      (
+                        search (SpanId.the_field_send, sendable) depth 60 fits 20000,
+                        (
+                          search (Option.the_field_send, TransactionOrSpanKey.the_send, sendable) depth 60 fits 20000,
+                          (
+                            search (Global.the_field_send, Option.the_field_send, Shared.the_send, Shared.the_sync, Items.the_send, Items.the_sync, sendable) depth 60 fits 20000,
+                            tt,
+                          ),
+                        ),
+                      ),
+                    ),
+                  ),
+                ),
+              ),
+            ),
+          ),
+        ),
+      ),
+    ),
+  )
 
   pub Scope_send : IsSend (Scope.the_row P)
   Scope_send = search (Scope_field_send, sendable)
