@@ -1,5 +1,5 @@
-//! Hubs, transactions and spans over a core under its lock, and the functions on the current hub of a thread. All are
-//! generic in the processors, the callbacks and the transport.
+//! Hubs, transactions and spans over a core under its lock, the functions on the current hub of a thread, and a thread
+//! that ticks a client. All are generic in the processors, the callbacks and the transport.
 #![tactic(auto)]
 
 pub mod api;
@@ -7,3 +7,4 @@ pub mod breadcrumbs;
 pub mod hub;
 pub mod metrics;
 pub mod performance;
+pub mod worker;

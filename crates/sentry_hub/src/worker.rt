@@ -1,0 +1,86 @@
+//! A thread that ticks a client.
+use sentry_base::callbacks::EventCallback;
+use sentry_base::protocol::Refusal;
+pub use sentry_clock::{BoxedTickClock, TickClock};
+use sentry_lock::client::Client;
+use sentry_lock::transport::Transport;
+use sentry_options::clientoptions::Callbacks;
+use std::alloc::AllocError;
+use std::sync::atomic::{AtomicU64, Ordering};
+use std::sync::{Arc, Wait};
+use std::thread;
+use std::thread::{JoinHandle, Threads};
+
+/// A thread that ticks a client at the moments of a clock. It ends when the clock has no more of them, and when a tick is
+/// refused for anything but want of memory. A worker that is dropped and not stopped runs on.
+#[derive(Drop)]
+pub struct Worker {
+    stop: Arc<AtomicU64>,
+    thread: JoinHandle<()>,
+}
+
+impl Worker {
+    /// Starts the thread. `rt` is a handle that is copied into it.
+    ///
+    /// `OutOfMemory`, also where the system has no thread.
+    pub fn start<
+        R: Threads + Wait + Copy + Send + 'static,
+        P: EventCallback + Drop + Send + Sync + 'static,
+        C: Callbacks + Send + Sync + 'static,
+        T: Transport + Drop + Send + Sync + 'static,
+        K: TickClock + Drop + Send + 'static,
+    >(rt: R, client: Client<P, C, T>, clock: K) -> Result<Worker, Refusal> {
+        Ok(start_thread(rt, client, clock)?)
+    }
+
+    /// Asks the thread to end before its next tick, and waits until it has ended.
+    pub fn stop<R: Threads>(self, rt: &R) {
+        let Worker { stop, thread } = self;
+        stop.store(1, Ordering::SeqCst);
+        thread.join(rt);
+    }
+}
+
+// Starts the thread.
+fn start_thread<
+    R: Threads + Wait + Copy + Send + 'static,
+    P: EventCallback + Drop + Send + Sync + 'static,
+    C: Callbacks + Send + Sync + 'static,
+    T: Transport + Drop + Send + Sync + 'static,
+    K: TickClock + Drop + Send + 'static,
+>(rt: R, client: Client<P, C, T>, clock: K) -> Result<Worker, AllocError> {
+    let stop = Arc::new(client.core().allocator(), AtomicU64::new(0))?;
+    let theirs = stop.clone()?;
+    let thread = thread::spawn(&rt, move || tick_all(&rt, &theirs, &client, clock))?;
+    Ok(Worker { stop, thread })
+}
+
+fn is_set(word: &AtomicU64) -> bool {
+    word.load(Ordering::SeqCst) != 0
+}
+
+// Ticks the client until the word is set, the clock ends, or a tick is refused for anything but want of memory.
+fn tick_all<
+    R: Wait,
+    P: EventCallback + Drop,
+    C: Callbacks,
+    T: Transport + Drop,
+    K: TickClock + Drop,
+>(rt: &R, stop: &AtomicU64, client: &Client<P, C, T>, clock: K) {
+    let mut clock = clock;
+    for _ in rt.forever() {
+        if is_set(stop) {
+            return;
+        }
+        let Some(moment) = clock.next() else {
+            return;
+        };
+        if is_set(stop) {
+            return;
+        }
+        match client.tick(rt, moment) {
+            Ok(()) | Err(Refusal::OutOfMemory) => {}
+            Err(_) => return,
+        }
+    }
+}
