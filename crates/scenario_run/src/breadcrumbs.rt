@@ -1,12 +1,10 @@
 //! How breadcrumbs are added.
 use crate::answer::Answer;
-use crate::caller::Caller;
 use crate::fault::Failure;
 use crate::scenario::{Scenario, hub_key};
 use scenario_commands::breadcrumbs::{BreadcrumbCommand, Messages};
 use sentry_base::protocol::Breadcrumb;
-use sentry_engine::call::HubCall;
-use sentry_plain::{Items, Text};
+use sentry_plain::Text;
 use std::alloc::{AllocError, Global};
 
 fn breadcrumb(alloc: Global, now: u64, message: &str) -> Result<Breadcrumb, AllocError> {
@@ -33,16 +31,14 @@ fn breadcrumbs(
     Ok(list)
 }
 
-impl<E: Caller> Scenario<E> {
+impl Scenario {
     /// Adds breadcrumbs to the top scope of a hub.
     pub fn add_breadcrumbs<'a>(
         &mut self,
         command: BreadcrumbCommand<'_>,
     ) -> Result<Answer<'a>, Failure> {
         let added = breadcrumbs(self.alloc, self.moment(), command.messages)?;
-        self.call_hub(HubCall::AddBreadcrumbs {
-            hub: hub_key(command.hub),
-            breadcrumbs: Items::from_vec(added),
-        })
+        let out = self.engine.add_breadcrumbs(hub_key(command.hub), added)?;
+        Ok(Answer::of_sent(out))
     }
 }

@@ -1,6 +1,5 @@
 //! What is done with headers.
 use crate::answer::{Answer, Reply};
-use crate::caller::Caller;
 use crate::fault::Failure;
 use crate::scenario::{Scenario, hub_key};
 use scenario_commands::headers::HeaderCommand;
@@ -16,7 +15,7 @@ pub struct Header {
     pub value: Text,
 }
 
-impl<E: Caller> Scenario<E> {
+impl Scenario {
     /// Keeps a header, reads those that are kept, or makes those of a hub.
     pub fn perform_on_headers<'a>(
         &mut self,
@@ -50,8 +49,9 @@ impl<E: Caller> Scenario<E> {
     }
 
     // The headers that pass on the trace of a hub's top scope.
-    fn headers_of_hub<'a>(&mut self, hub: u64) -> Result<Reply<'a>, Refusal> {
-        let headers = self.caller.headers_of_hub(hub_key(hub))?;
+    fn headers_of_hub<'a>(&self, hub: u64) -> Result<Reply<'a>, Refusal> {
+        let scope = self.engine.scope(hub_key(hub))?.reply;
+        let headers = scope.iter_trace_propagation_headers(self.engine.spans())?;
         let headers = collect_headers(self.alloc, headers)?;
         Ok(Reply::HubHeaders { hub, headers })
     }

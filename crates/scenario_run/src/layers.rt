@@ -1,12 +1,12 @@
 //! What is done with the layers of hubs.
-use crate::answer::{Answer, Reply};
-use crate::caller::{CallReply, Caller};
+use crate::answer::Answer;
 use crate::fault::Failure;
 use crate::scenario::{Scenario, client_key, hub_key};
 use scenario_commands::layers::LayerCommand;
 use sentry_engine::call::{Call, HubCall};
+use sentry_engine::engine::Out;
 
-impl<E: Caller> Scenario<E> {
+impl Scenario {
     /// Does a command on the layers of a hub.
     pub fn perform_on_layers<'a>(&mut self, command: LayerCommand) -> Result<Answer<'a>, Failure> {
         match command {
@@ -31,13 +31,10 @@ impl<E: Caller> Scenario<E> {
         if self.depths.get(hub).is_none() {
             self.depths.insert(hub, 0)?;
         }
-        match self.ask(Call::Hub(HubCall::PushScope(hub_key(hub))))? {
-            CallReply::Depth(depth) => {
-                self.set_depth(hub, depth);
-                Ok(Answer::new(self.alloc, Reply::Nothing))
-            }
-            _other => Err(Failure::OtherReply),
-        }
+        let Out { reply, sent } = self.engine.push_scope(hub_key(hub))?;
+        let (_hub, depth) = reply.into_parts();
+        self.set_depth(hub, depth);
+        Ok(Answer::of_sent(Out { reply: (), sent }))
     }
 
     // The depth of the layer that is to be popped: the one that is given, or that of the top one.
@@ -50,29 +47,27 @@ impl<E: Caller> Scenario<E> {
 
     fn pop_scope<'a>(&mut self, hub: u64, depth: Option<u64>) -> Result<Answer<'a>, Failure> {
         let depth = self.depth_to_pop(hub, depth);
-        let now = self.moment();
-        let answer = self.call_hub(HubCall::PopScope {
+        let call = Call::Hub(HubCall::PopScope {
             hub: hub_key(hub),
             depth,
-            now,
-        })?;
+            now: self.moment(),
+        });
+        let out = self.engine.apply(call)?;
         self.set_depth(hub, depth.saturating_sub(1));
-        Ok(answer)
+        Ok(Answer::of_sent(out))
     }
 
     fn add_hub_from_top<'a>(&mut self, hub: u64) -> Result<Answer<'a>, Failure> {
-        self.call_hub(HubCall::NewHubFromTop(hub_key(hub)))
+        Ok(Answer::of_sent(self.engine.new_hub_from_top(hub_key(hub))?))
     }
 
     fn release_hub<'a>(&mut self, hub: u64) -> Result<Answer<'a>, Failure> {
         let now = self.moment();
-        let hub = hub_key(hub);
-        self.call_hub(HubCall::ReleaseHub { hub, now })
+        Ok(Answer::of_sent(self.engine.release_hub(hub_key(hub), now)?))
     }
 
     fn bind_client<'a>(&mut self, hub: u64, client: Option<u64>) -> Result<Answer<'a>, Failure> {
         let client = client.map(client_key);
-        let hub = hub_key(hub);
-        self.call_hub(HubCall::BindClient { hub, client })
+        Ok(Answer::of_sent(self.engine.bind_client(hub_key(hub), client)?))
     }
 }

@@ -5,8 +5,7 @@
 mod answer;
 mod attributes;
 mod breadcrumbs;
-pub mod callbacks;
-pub mod caller;
+mod callbacks;
 mod captures;
 mod client_events;
 mod clients;
@@ -33,4 +32,4 @@ mod texts;
 mod transactions;
 
 pub use fault::ScenarioFault;
-pub use run::{run_scenario, run_scenario_by};
+pub use run::run_scenario;

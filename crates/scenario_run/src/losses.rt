@@ -1,6 +1,5 @@
 //! What is done with losses and reports.
 use crate::answer::{Answer, Reply};
-use crate::caller::{CallReply, Caller};
 use crate::fault::Failure;
 use crate::scenario::{Scenario, client_key};
 use scenario_commands::losses::{Kind, LossCommand};
@@ -10,7 +9,7 @@ use sentry_client_reports::client_reports::{LossWords, TransportLossReason};
 use sentry_engine::call::{Call, ClientCall};
 use sentry_plain::Boxed;
 
-impl<E: Caller> Scenario<E> {
+impl Scenario {
     /// Does a command on losses, reports or envelopes.
     pub fn perform_on_losses<'a>(
         &mut self,
@@ -36,12 +35,16 @@ impl<E: Caller> Scenario<E> {
         kind: Kind,
         reason: TransportLossReason,
     ) -> Result<Answer<'a>, Failure> {
-        self.decide(Call::Client(ClientCall::IsEnabled(client_key(client))))?;
+        self.engine.is_enabled(client_key(client))?;
         let (mut recorder, mut drainer) = LossWords::new(self.alloc, self.label(client))?;
         recorder.record_lost_data(&kind, reason);
-        let (label, losses) = drainer.drain().into_parts();
-        let losses = Boxed::new(self.alloc, losses)?;
-        self.call(Call::Client(ClientCall::Absorb { label, losses }))
+        match self.engine.absorb(drainer.drain()) {
+            Ok(out) => Ok(Answer::of_sent(out)),
+            Err((refusal, drained)) => {
+                drained.into_parts();
+                Err(Failure::Refused(refusal))
+            }
+        }
     }
 
     // Quantities of the line's own go into the book of the client's label.
@@ -50,24 +53,22 @@ impl<E: Caller> Scenario<E> {
             Some(words) => losses_of_words(words).ok_or(Failure::BadCommand)?,
             None => Losses::none(),
         };
-        let losses = Boxed::new(self.alloc, losses)?;
-        let label = self.label(client);
-        self.call(Call::Client(ClientCall::Absorb { label, losses }))
+        let call = Call::Client(ClientCall::Absorb {
+            label: self.label(client),
+            losses: Boxed::new(self.alloc, losses)?,
+        });
+        Ok(Answer::of_sent(self.engine.apply(call)?))
     }
 
     fn report<'a>(&mut self, client: u64) -> Result<Answer<'a>, Failure> {
         let label = self.label(client);
-        match self.ask(Call::Client(ClientCall::TakeReport(label)))? {
-            CallReply::Report(report) => {
-                Ok(Answer::new(self.alloc, Reply::Report { client, report }))
-            }
-            _other => Err(Failure::OtherReply),
-        }
+        let report = self.engine.take_report(label)?.reply;
+        Ok(Answer::new(self.alloc, Reply::Report { client, report }))
     }
 
     fn send_empty<'a>(&mut self, client: u64) -> Result<Answer<'a>, Failure> {
         let envelope = Envelope::new(self.alloc);
-        let client = client_key(client);
-        self.call(Call::Client(ClientCall::SendEnvelope { client, envelope }))
+        let out = self.engine.send_envelope(client_key(client), envelope)?;
+        Ok(Answer::of_sent(out))
     }
 }

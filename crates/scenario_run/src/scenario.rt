@@ -1,11 +1,12 @@
-//! What commands act on, and what lines set for those that follow.
+//! The engine that commands act on, and what lines set for those that follow.
 use crate::answer::Answer;
-use crate::caller::Caller;
+use crate::callbacks::{Callbacks, Handler};
 use crate::fault::Failure;
 use crate::headers::Header;
 use crate::originals::Originals;
 use scenario_commands::Command;
 use sentry_base::protocol::{ClientKey, Draw, Fresh, HubKey, Label, SpanId, TraceId, Uuid};
+use sentry_engine::engine::Engine;
 use sentry_plain::{Items, Table};
 use std::alloc::Global;
 
@@ -14,10 +15,10 @@ pub const TAG: u64 = 0;
 
 const NANOSECONDS: u64 = 1_000_000_000;
 
-/// What makes the calls, and what lines set for those that follow.
-pub struct Scenario<E> {
+/// An engine, and what lines set for those that follow.
+pub struct Scenario {
     pub alloc: Global,
-    pub caller: E,
+    pub engine: Engine<Handler, Callbacks>,
     /// How many clients there are.
     pub clients: u64,
     /// Which client each clone was made of.
@@ -34,11 +35,11 @@ pub struct Scenario<E> {
     pub headers: Items<Header>,
 }
 
-impl<E: Drop> Drop for Scenario<E> {
+impl Drop for Scenario {
     fn drop(self) {
         let Scenario {
             alloc: _,
-            caller: _,
+            engine: _,
             clients: _,
             originals: _,
             depths: _,
@@ -65,12 +66,12 @@ pub fn hub_key(number: u64) -> HubKey {
     HubKey { tag: TAG, number }
 }
 
-impl<E: Caller> Scenario<E> {
-    /// The state before the first line, over what holds nothing yet. It takes no memory.
-    pub fn new(alloc: Global, caller: E) -> Scenario<E> {
+impl Scenario {
+    /// An engine that holds nothing, before the first line. It takes no memory.
+    pub fn new(alloc: Global) -> Scenario {
         Scenario {
             alloc,
-            caller,
+            engine: Engine::new(alloc, TAG),
             clients: 0,
             originals: Originals::new(alloc),
             depths: Table::new(alloc),

@@ -1,13 +1,11 @@
 //! How the top scope of a hub is edited. `configure` serves all of its commands.
 use crate::answer::Answer;
 use crate::callbacks::Handler;
-use crate::caller::Caller;
 use crate::fault::Failure;
 use crate::scenario::{Scenario, hub_key};
 use crate::spans::span_key;
 use scenario_commands::scopes::{Entry, Identity, Role, ScopeChange, ScopeCommand};
 use sentry_base::protocol::{Attachment, Context, Fresh, User, Value, ValueMap};
-use sentry_engine::call::HubCall;
 use sentry_plain::{Items, Text};
 use sentry_scope::scope::ScopeEdit;
 use std::alloc::{AllocError, Global};
@@ -112,13 +110,14 @@ fn edit(
     }
 }
 
-impl<E: Caller> Scenario<E> {
+impl Scenario {
     /// Edits the top scope of a hub.
     pub fn configure<'a>(&mut self, command: &ScopeCommand<'_>) -> Result<Answer<'a>, Failure> {
         let mut edits = Items::new(self.alloc);
         edits.push(edit(self.alloc, self.fresh(), &command.change)?)?;
         let hub = hub_key(command.hub);
         let now = self.moment();
-        self.call_hub(HubCall::Configure { hub, edits, now })
+        let out = self.engine.configure(hub, edits.into_vec(), now)?;
+        Ok(Answer::of_sent(out))
     }
 }

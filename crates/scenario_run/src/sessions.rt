@@ -1,13 +1,11 @@
 //! What is done with the sessions of hubs.
 use crate::answer::Answer;
-use crate::caller::Caller;
 use crate::fault::Failure;
 use crate::scenario::{Scenario, hub_key};
 use scenario_commands::sessions::SessionCommand;
 use sentry_base::protocol::SessionStatus;
-use sentry_engine::call::HubCall;
 
-impl<E: Caller> Scenario<E> {
+impl Scenario {
     /// Does a command on the session of a hub.
     pub fn perform_on_session<'a>(
         &mut self,
@@ -21,13 +19,14 @@ impl<E: Caller> Scenario<E> {
 
     fn start_session<'a>(&mut self, hub: u64) -> Result<Answer<'a>, Failure> {
         let fresh = self.fresh();
-        let hub = hub_key(hub);
-        self.call_hub(HubCall::StartSession { hub, fresh })
+        Ok(Answer::of_sent(self.engine.start_session(hub_key(hub), fresh)?))
     }
 
     fn end_session<'a>(&mut self, hub: u64, status: SessionStatus) -> Result<Answer<'a>, Failure> {
         let now = self.moment();
-        let hub = hub_key(hub);
-        self.call_hub(HubCall::EndSessionWithStatus { hub, status, now })
+        let out = self
+            .engine
+            .end_session_with_status(hub_key(hub), status, now)?;
+        Ok(Answer::of_sent(out))
     }
 }
