@@ -3,7 +3,8 @@ use crate::pairs::log;
 use crate::workshop::{at, fresh, id, options, scope};
 use sentry_core::protocol::{EnvelopeItem, Refusal};
 use sentry_core::{
-    BoxedTransport, Client, Envelope, Hub, Level, SharedCore, TickClock, Transport, Worker,
+    BoxedTransport, Client, Envelope, Hub, Items, Level, SendEnvelopes, SharedCore, TickClock,
+    Transport, Worker,
 };
 use std::alloc::{AllocError, Global};
 use std::sync::atomic::{AtomicU64, Ordering};
@@ -18,27 +19,30 @@ const TURNS: u64 = 10_000_000;
 #[derive(Drop)]
 struct Collector<R: Wait + Drop> {
     rt: R,
-    envelopes: Mutex<Vec<Envelope>>,
+    kept: Mutex<SendEnvelopes>,
 }
 
 impl<R: Wait + Drop> Collector<R> {
     fn new(rt: R, alloc: Global) -> Collector<R> {
         Collector {
             rt,
-            envelopes: Mutex::new(Vec::new(alloc)),
+            kept: Mutex::new(SendEnvelopes::new(Items::new(alloc))),
         }
     }
 
     // The envelopes so far, which are then forgotten.
     fn take(&self, alloc: Global) -> Vec<Envelope> {
-        let mut envelopes = self.envelopes.lock(&self.rt);
-        std::mem::replace(&mut *envelopes, Vec::new(alloc))
+        let mut kept = self.kept.lock(&self.rt);
+        let envelopes = &mut kept.envelopes;
+        std::mem::replace(envelopes, Items::new(alloc)).into_vec()
     }
 }
 
 impl<R: Wait + Drop> Transport for Collector<R> {
     fn send_envelope(&self, envelope: Envelope) {
-        drop(self.envelopes.lock(&self.rt).push(envelope));
+        let mut kept = self.kept.lock(&self.rt);
+        let envelopes = &mut kept.envelopes;
+        drop(envelopes.push(envelope));
     }
 }
 

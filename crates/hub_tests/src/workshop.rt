@@ -2,7 +2,7 @@
 use sentry_core::protocol::{Draw, Event, Fresh, Log, Refusal, SpanId, TraceId, Uuid};
 use sentry_core::{
     BoxedClock, BoxedEventCallback, BoxedLogCallback, ClientOptions, Clock, Envelope,
-    EventCallback, Hub, LogCallback, Scope, ThreadHub, Transport,
+    EventCallback, Hub, Items, LogCallback, Scope, SendEnvelopes, ThreadHub, Transport,
 };
 use std::alloc::{AllocError, Global};
 use std::sync::Mutex;
@@ -10,7 +10,7 @@ use std::sync::Mutex;
 /// Keeps what it is to send. Its lock is free whenever it is asked, since one thread makes the calls.
 #[derive(Drop)]
 pub(crate) struct Collector {
-    envelopes: Mutex<Vec<Envelope>>,
+    kept: Mutex<SendEnvelopes>,
     answer: bool,
 }
 
@@ -18,15 +18,18 @@ impl Collector {
     /// Holds nothing. `answer` is what it answers to a flush.
     pub(crate) fn new(alloc: Global, answer: bool) -> Collector {
         Collector {
-            envelopes: Mutex::new(Vec::new(alloc)),
+            kept: Mutex::new(SendEnvelopes::new(Items::new(alloc))),
             answer,
         }
     }
 
     /// The envelopes so far, which are then forgotten.
     pub(crate) fn take(&self, alloc: Global) -> Vec<Envelope> {
-        match self.envelopes.try_lock() {
-            Some(mut envelopes) => std::mem::replace(&mut *envelopes, Vec::new(alloc)),
+        match self.kept.try_lock() {
+            Some(mut kept) => {
+                let envelopes = &mut kept.envelopes;
+                std::mem::replace(envelopes, Items::new(alloc)).into_vec()
+            }
             None => Vec::new(alloc),
         }
     }
@@ -34,7 +37,8 @@ impl Collector {
 
 impl Transport for Collector {
     fn send_envelope(&self, envelope: Envelope) {
-        if let Some(mut envelopes) = self.envelopes.try_lock() {
+        if let Some(mut kept) = self.kept.try_lock() {
+            let envelopes = &mut kept.envelopes;
             drop(envelopes.push(envelope));
         }
     }

@@ -46,6 +46,7 @@ pub use sentry_options::clientoptions::{
 pub use sentry_options::integration::{BoxedIntegration, Integration};
 pub use sentry_options::sampler::{BoxedTracesSampler, TracesSampler};
 pub use sentry_plain::{Boxed, Items, Shared, Text, TextMap};
+pub use sentry_send_envelopes::send_envelopes::SendEnvelopes;
 pub use sentry_sessions::session::{Session, SessionQueue};
 pub use sentry_span_table::table::SpanTable;
 pub use sentry_texts::dsn::IntoDsn;
