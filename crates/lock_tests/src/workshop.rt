@@ -93,6 +93,37 @@ impl<R: Wait + Drop> Transport for Collector<R> {
     }
 }
 
+/// Keeps the ids of the events that it is to send. The prover finds by itself that threads may share it, which it does
+/// not find of a lock around envelopes.
+#[derive(Drop)]
+pub(crate) struct IdCollector<R: Wait + Drop> {
+    rt: R,
+    ids: Mutex<Vec<u128>>,
+}
+
+impl<R: Wait + Drop> IdCollector<R> {
+    pub(crate) fn new(rt: R, alloc: Global) -> IdCollector<R> {
+        IdCollector {
+            rt,
+            ids: Mutex::new(Vec::new(alloc)),
+        }
+    }
+
+    /// The ids so far, which are then forgotten.
+    pub(crate) fn take(&self, alloc: Global) -> Vec<u128> {
+        let mut ids = self.ids.lock(&self.rt);
+        std::mem::replace(&mut *ids, Vec::new(alloc))
+    }
+}
+
+impl<R: Wait + Drop> Transport for IdCollector<R> {
+    fn send_envelope(&self, envelope: Envelope) {
+        if let Some(id) = envelope.header.event_id {
+            drop(self.ids.lock(&self.rt).push(id.as_u128()));
+        }
+    }
+}
+
 /// Options with a DSN.
 pub(crate) fn options(alloc: Global) -> Result<Options, Refusal> {
     Options::new(alloc).dsn("https://key@sentry.example.com/42")
