@@ -1,4 +1,6 @@
 //! What a caller of `Engine::run` can promise by a law of whole runs.
+#![tactic(auto)]
+
 ghost use Rattle.std.specs.Prelude.{IfOk};
 ghost use Rattle.sentry_laws.specs.OwnCalls.{IsIsolated};
 ghost use Rattle.sentry_state.specs.Worlds.{World, Stands};
