@@ -17,7 +17,7 @@ use sentry_plain::Boxed;
 use std::alloc::{AllocError, Global};
 use std::sync::{Arc, Wait};
 use std::test::Fail;
-use std::thread;
+use std::thread::{Threads, join};
 
 // A hundred messages from this number on.
 fn send_hundred<R: Wait, T: Transport + Drop>(
@@ -35,6 +35,22 @@ fn send_hundred<R: Wait, T: Transport + Drop>(
     Ok(())
 }
 
+// A hundred messages of each client, in threads of their own.
+fn send_in_two_threads<R: Threads + Wait + Sync, T: Transport + Drop + Send + Sync>(
+    rt: &R,
+    alloc: Global,
+    client: &Client<T>,
+    other: &Client<T>,
+) -> Result<(), Refusal> {
+    let (first, second) = join(
+        rt,
+        || send_hundred(rt, alloc, client, 1),
+        || send_hundred(rt, alloc, other, 101),
+    );
+    first?;
+    second
+}
+
 #[test]
 fn two_threads_hand_over_each_message_once(rt: HostRuntime) -> Result<(), Fail> {
     let alloc: Global = rt.alloc();
@@ -42,13 +58,7 @@ fn two_threads_hand_over_each_message_once(rt: HostRuntime) -> Result<(), Fail> 
     let core: SharedCore<Arc<IdCollector<HostRuntime>>> = SharedCore::new(alloc, 1)?;
     let client = client_with(&rt, &core, transport.clone()?)?;
     let other = client.clone()?;
-    let (first, second) = thread::join(
-        &rt,
-        || send_hundred(&rt, alloc, &client, 1),
-        || send_hundred(&rt, alloc, &other, 101),
-    );
-    first?;
-    second?;
+    send_in_two_threads(&rt, alloc, &client, &other)?;
     let mut ids = transport.take(alloc);
     ids.sort()?;
     let mut expected = Vec::new(alloc);
