@@ -41,11 +41,16 @@ fn event_alone(alloc: Global) -> Result<Envelope, AllocError> {
     Ok(envelope)
 }
 
-fn options(alloc: Global, recorder: Recorder) -> Result<Option<TransportOptions>, Refusal> {
-    let options: ClientOptions<Callbacks> = ClientOptions::new(alloc);
-    let options = options
-        .dsn("https://public@sentry.invalid/1")?
-        .transport_channel_capacity(1);
+fn client_options(alloc: Global) -> Result<ClientOptions<Callbacks>, Refusal> {
+    ClientOptions::new(alloc)
+        .transport_channel_capacity(1)
+        .dsn("https://public@sentry.invalid/1")
+}
+
+fn transport_options<C: Drop>(
+    options: ClientOptions<C>,
+    recorder: Recorder,
+) -> Result<Option<TransportOptions>, Refusal> {
     match TransportOptions::try_from_client_options(&options)? {
         None => Ok(None),
         Some(mut options) => {
@@ -53,6 +58,10 @@ fn options(alloc: Global, recorder: Recorder) -> Result<Option<TransportOptions>
             Ok(Some(options))
         }
     }
+}
+
+fn options(alloc: Global, recorder: Recorder) -> Result<Option<TransportOptions>, Refusal> {
+    transport_options(client_options(alloc)?, recorder)
 }
 
 /// Whether an envelope that was passed on in the turn before is sent and passed on again.
