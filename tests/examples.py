@@ -12,6 +12,8 @@ from collections import namedtuple
 TOP = os.path.dirname(os.path.dirname(os.path.abspath(__file__)))
 FOLDER = os.path.join(TOP, "examples")
 PROGRAMS = ("scenario", "replay")
+# The program that plays the scenarios too, over the lock.
+LOCKED = "scenario_lock"
 
 # What a run of a program gives: its exit status, and what it wrote.
 Run = namedtuple("Run", "status out err")
@@ -20,7 +22,8 @@ Example = namedtuple("Example", "name program input wanted")
 
 
 def program_path(name):
-    """Where the program is: where the environment says (SCENARIO, REPLAY), or where the gate leaves the proved one."""
+    """Where the program is: where the environment says (SCENARIO, REPLAY, SCENARIO_LOCK), or where the gate leaves the
+    proved one."""
     return os.environ.get(name.upper()) or os.path.join(TOP, "crates", name, "out", name)
 
 
@@ -81,6 +84,21 @@ def find(names):
         sys.exit(f"examples/: there is no example {', '.join(unknown)}")
     stop_without_programs(found)
     return found
+
+
+def over_the_lock(found):
+    """The scenarios among the examples, without single bad lines, for the program that plays them over the lock."""
+    locked = [
+        it._replace(
+            name=f"{it.name} over the lock",
+            program=LOCKED,
+            wanted=it.wanted._replace(err=it.wanted.err.replace(b"scenario: ", b"%s: " % LOCKED.encode())),
+        )
+        for it in found
+        if it.program == "scenario" and ".bad " not in it.name
+    ]
+    stop_without_programs(locked)
+    return locked
 
 
 def around(line, at):

@@ -315,8 +315,8 @@ fn a_hub_without_a_client_answers_the_nil_id(rt: HostRuntime) -> Result<(), Fail
     Ok(())
 }
 
-/// What an event at moment 1 comes to on a hub of a client with these integrations, which a `before_send` follows that is
-/// refused its memory for every event, so that a call of it shows.
+/// What an event at moment 1 comes to on a hub of a client with these integrations, which a `before_send` follows that
+/// is refused its memory for every event, so that a call of it shows.
 fn capture_behind(
     alloc: Global,
     first: BoxedIntegration,

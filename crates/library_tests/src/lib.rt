@@ -1,5 +1,5 @@
 //! Tests of what no text given to a program can show: boxed callbacks, builders and calls that no command makes, what a
-//! refused call hands back, and a stream that fails.
+//! refused call hands back, and a stream that fails; and what a caller can promise by a law.
 #![tactic(auto)]
 
 #[cfg(test)]
@@ -13,6 +13,9 @@ mod keys;
 #[cfg(test)]
 mod laws;
 #[cfg(test)]
+mod metrics;
+#[cfg(test)]
 mod options;
+pub mod promises;
 #[cfg(test)]
 mod streams;

@@ -1,88 +1,74 @@
-//! A first program: a client with a `before_send` and an integration, a hub with a tag, a message, and the envelope of
-//! that message, printed.
+//! A first program: what happens in a shop, told to a client whose transport prints.
 #![tactic(auto)]
 
-mod callbacks;
+mod printing;
 
-use anyhow::Result;
-use callbacks::{Deployment, HideServer};
-use sentry_core::engine::Engine;
-use sentry_core::protocol::{
-    ClientKey, Draw, EnvelopeItem, Event, Fresh, Label, SpanId, TraceId, Uuid,
-};
+use anyhow::{Result, ensure};
+use printing::{Printer, Seconds};
+use sentry_core::protocol::{Breadcrumb, SpanId, TraceId};
 use sentry_core::{
-    BoxedEventCallback, BoxedIntegration, ClientOptions, Envelope, Level, Scope, ScopeEdit, Text,
+    BoxedClock, BoxedTransport, Client, ClientOptions, Clock, Hub, Level, Scope, SharedCore, Text,
+    ThreadHub, TransactionContext, add_breadcrumb, capture_message, configure_scope, end_session,
+    logger_info, start_session, start_transaction,
 };
+use std::alloc::Global;
+use std::sync::Wait;
 
-/// What an engine is handed in place of a clock and of random numbers. A real program asks for them at each call.
-fn fresh() -> Fresh {
-    Fresh {
-        now: 1_700_000_000_000_000_000,
-        uuid: Uuid::from_u128(7),
-        trace_id: TraceId([1; 16]),
-        span_id: SpanId([2; 8]),
-        draw: Draw::new(0).unwrap(),
-    }
+/// When the shop opens, in nanoseconds since the epoch. A real program asks the system.
+const MORNING: u64 = 1_700_000_000_000_000_000;
+
+/// A client with a transport, and a hub with that client.
+fn open_shop<R: Wait>(
+    rt: &R,
+    alloc: Global,
+    options: ClientOptions,
+    transport: BoxedTransport,
+) -> Result<(Client, Hub)> {
+    let core = SharedCore::new(alloc, 0)?;
+    let setup = core.client_setup(rt, options)?;
+    let client = Client::with_options(rt, &core, setup, Some(transport), MORNING)?;
+    let scope = Scope::new(alloc, TraceId([1; 16]), SpanId([2; 8]));
+    let hub = Hub::new(rt, &core, Some(&client), scope)?;
+    Ok((client, hub))
 }
 
-fn text_or_dash(text: &Option<Text>) -> &str {
-    match text {
-        Some(text) => text.as_str(),
-        None => "-",
-    }
-}
-
-fn print_event(rt: &impl Print, event: &Event) -> Result<()> {
-    let id = event.event_id.simple();
-    println!(rt;
-        "event {id} at {:?}: {}",
-        event.level,
-        text_or_dash(&event.message)
-    )?;
-    println!(rt; "  release {}", text_or_dash(&event.release))?;
-    println!(rt; "  environment {}", text_or_dash(&event.environment))?;
-    println!(rt; "  server {}", text_or_dash(&event.server_name))?;
-    for (key, value) in event.tags.iter() {
-        println!(rt; "  tag {key}={}", value.as_str())?;
-    }
+/// A log, and a warning with a tag and the breadcrumb that led to it.
+fn count_lamps<R: Wait>(rt: &R, alloc: Global, thread: &mut ThreadHub) -> Result<()> {
+    configure_scope(rt, thread, |scope| scope.set_tag("till", "3"))?;
+    let now = thread.clock.now();
+    let mut breadcrumb = Breadcrumb::new(alloc, now)?;
+    breadcrumb.message = Some(Text::new(alloc, "the shelf was counted")?);
+    add_breadcrumb(rt, thread, breadcrumb)?;
+    logger_info!(*rt, thread, now, shelf = 7u64, "{} lamps are left", 2u64)?;
+    capture_message(rt, thread, "the lamps run out", Level::Warning)?;
     Ok(())
 }
 
-fn print_sent(rt: &impl Print, sent: &[(ClientKey, Envelope)]) -> Result<()> {
-    for (client, envelope) in sent {
-        println!(rt; "client {} sends an envelope", client.number)?;
-        for item in envelope.items.as_slice() {
-            match item {
-                EnvelopeItem::Event(event) => print_event(rt, event)?,
-                _ => println!(rt; "another item")?,
-            }
-        }
-    }
+/// A transaction with a child.
+fn sell_lamp<R: Wait>(rt: &R, alloc: Global, thread: &mut ThreadHub) -> Result<()> {
+    let fresh = thread.fresh();
+    let context = TransactionContext::new(alloc, "sell", "till", fresh.trace_id, fresh.span_id)?;
+    let sale = start_transaction(rt, thread, context)?;
+    let query = sale.start_child(rt, "db.query", "take a lamp", thread.fresh())?;
+    query.finish(rt, thread)?;
+    sale.finish(rt, thread)?;
     Ok(())
 }
 
 fn main(rt: HostRuntime) -> Result<()> {
     let alloc = rt.alloc();
-    let fresh = fresh();
-
-    let before_send: BoxedEventCallback = Box::new(alloc, HideServer)?;
-    let deployment = Deployment(Text::new(alloc, "production")?);
-    let deployment: BoxedIntegration = Box::new(alloc, deployment)?;
+    let transport: BoxedTransport = Box::new(alloc, Printer(rt))?;
     let options = ClientOptions::from_dsn(alloc, "https://public@sentry.invalid/1")?
         .release("shop@1.0.0")?
-        .server_name("till-3")?
-        .before_send(before_send)?
-        .add_integration(deployment)?;
+        .traces_sample_rate(1_000_000)?;
+    let (client, hub) = open_shop(&rt, alloc, options, transport)?;
+    let clock: BoxedClock = Box::new(alloc, Seconds(MORNING))?;
+    let mut thread = ThreadHub::new(hub, clock, [7; 32])?;
 
-    let mut engine = Engine::new(alloc, 0);
-    let label = Label { tag: 0, number: 0 };
-    let client = engine.add_client(options, true, label, fresh.now)?.reply;
-    let scope = Scope::new(alloc, fresh.trace_id, fresh.span_id);
-    let hub = engine.new_hub(Some(client), scope)?.reply;
-
-    let tag = ScopeEdit::SetTag(Text::new(alloc, "os")?, Text::new(alloc, "linux")?);
-    engine.configure(hub, vec![in alloc; tag]?, fresh.now)?;
-    let out = engine.capture_message(hub, "the till is slow", Level::Warning, fresh)?;
-
-    print_sent(&rt, out.sent.as_slice())
+    start_session(&rt, &mut thread)?;
+    count_lamps(&rt, alloc, &mut thread)?;
+    sell_lamp(&rt, alloc, &mut thread)?;
+    end_session(&rt, &mut thread)?;
+    ensure!(client.flush(&rt, None)?, "the transport has not sent all");
+    Ok(())
 }

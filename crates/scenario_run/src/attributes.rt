@@ -1,5 +1,6 @@
 //! The attributes of a log or a metric of a line, and the scope under which a client captures it.
 use crate::callbacks::Handler;
+use crate::caller::Caller;
 use crate::scenario::Scenario;
 use scenario_commands::attributes::AttributeWords;
 use sentry_base::protocol::{LogAttribute, Value};
@@ -20,7 +21,7 @@ pub fn attributes(
     Ok(attributes)
 }
 
-impl Scenario {
+impl<E: Caller> Scenario<E> {
     /// A new scope, with the ids of the line.
     pub fn new_scope(&self) -> Scope<Handler> {
         let fresh = self.fresh();

@@ -1,10 +1,12 @@
 //! How breadcrumbs are added.
 use crate::answer::Answer;
+use crate::caller::Caller;
 use crate::fault::Failure;
 use crate::scenario::{Scenario, hub_key};
 use scenario_commands::breadcrumbs::{BreadcrumbCommand, Messages};
 use sentry_base::protocol::Breadcrumb;
-use sentry_plain::Text;
+use sentry_engine::call::HubCall;
+use sentry_plain::{Items, Text};
 use std::alloc::{AllocError, Global};
 
 fn breadcrumb(alloc: Global, now: u64, message: &str) -> Result<Breadcrumb, AllocError> {
@@ -31,14 +33,16 @@ fn breadcrumbs(
     Ok(list)
 }
 
-impl Scenario {
+impl<E: Caller> Scenario<E> {
     /// Adds breadcrumbs to the top scope of a hub.
     pub fn add_breadcrumbs<'a>(
         &mut self,
         command: BreadcrumbCommand<'_>,
     ) -> Result<Answer<'a>, Failure> {
         let added = breadcrumbs(self.alloc, self.moment(), command.messages)?;
-        let out = self.engine.add_breadcrumbs(hub_key(command.hub), added)?;
-        Ok(Answer::of_sent(out))
+        self.call_hub(HubCall::AddBreadcrumbs {
+            hub: hub_key(command.hub),
+            breadcrumbs: Items::from_vec(added),
+        })
     }
 }

@@ -1,11 +1,13 @@
 //! How events are captured on a hub.
 use crate::answer::Answer;
+use crate::caller::Caller;
 use crate::fault::Failure;
 use crate::rich::rich_event;
 use crate::scenario::{Scenario, hub_key};
 use scenario_commands::captures::{Capture, CaptureCommand, Message};
-use sentry_base::protocol::{ErrorLink, Event, Exception, Fresh, Level, Mechanism};
-use sentry_plain::Text;
+use sentry_base::protocol::{ErrorLink, Event, Exception, Fresh, HubKey, Level, Mechanism};
+use sentry_engine::call::HubCall;
+use sentry_plain::{Boxed, Items, Text};
 use std::alloc::{AllocError, Global};
 
 /// An event without a message, of one exception. It has a mechanism where it is known whether it was handled.
@@ -35,36 +37,61 @@ fn exception_event(
 }
 
 /// An error with a cause.
-fn error_links(alloc: Global, message: &str) -> Result<[ErrorLink; 2], AllocError> {
+fn error_links(alloc: Global, message: &str) -> Result<Items<ErrorLink>, AllocError> {
     let cause = format!(in alloc; "cause of {message}")?;
-    Ok([
-        ErrorLink::new(alloc, "Fault { .. }", message)?,
-        ErrorLink::new(alloc, "Cause(..)", cause.as_str())?,
-    ])
+    let mut links = Items::new(alloc);
+    links.push(ErrorLink::new(alloc, "Fault { .. }", message)?)?;
+    links.push(ErrorLink::new(alloc, "Cause(..)", cause.as_str())?)?;
+    Ok(links)
 }
 
-impl Scenario {
+impl<E: Caller> Scenario<E> {
     /// Captures what a line asks for.
     pub fn capture<'a>(&mut self, command: &CaptureCommand<'_>) -> Result<Answer<'a>, Failure> {
         let hub = hub_key(command.hub);
-        let fresh = self.fresh();
-        let event = match command.capture {
-            Capture::Message(Message { level, text }) => {
-                let out = self.engine.capture_message(hub, text, level, fresh)?;
-                return Ok(Answer::of_sent(out));
-            }
+        match command.capture {
+            Capture::Message(message) => self.capture_message(hub, message),
             Capture::Exception {
                 level,
                 handled,
                 value,
-            } => exception_event(self.alloc, level, handled, value, fresh)?,
-            Capture::Error(message) => {
-                let links = error_links(self.alloc, message)?;
-                let out = self.engine.capture_error(hub, &links, fresh)?;
-                return Ok(Answer::of_sent(out));
+            } => {
+                let event = exception_event(self.alloc, level, handled, value, self.fresh())?;
+                self.capture_event(hub, event)
             }
-            Capture::Rich(Message { level, text }) => rich_event(self.alloc, level, text, fresh)?,
-        };
-        Ok(Answer::of_sent(self.engine.capture_event(hub, event, fresh)?))
+            Capture::Error(message) => self.capture_error(hub, message),
+            Capture::Rich(Message { level, text }) => {
+                let event = rich_event(self.alloc, level, text, self.fresh())?;
+                self.capture_event(hub, event)
+            }
+        }
+    }
+
+    fn capture_message<'a>(
+        &mut self,
+        hub: HubKey,
+        message: Message<'_>,
+    ) -> Result<Answer<'a>, Failure> {
+        let fresh = self.fresh();
+        let Message { level, text } = message;
+        let message = Text::new(self.alloc, text)?;
+        self.call_hub(HubCall::CaptureMessage {
+            hub,
+            message,
+            level,
+            fresh,
+        })
+    }
+
+    fn capture_event<'a>(&mut self, hub: HubKey, event: Event) -> Result<Answer<'a>, Failure> {
+        let fresh = self.fresh();
+        let event = Boxed::new(self.alloc, event)?;
+        self.call_hub(HubCall::CaptureEvent { hub, event, fresh })
+    }
+
+    fn capture_error<'a>(&mut self, hub: HubKey, message: &str) -> Result<Answer<'a>, Failure> {
+        let fresh = self.fresh();
+        let links = error_links(self.alloc, message)?;
+        self.call_hub(HubCall::CaptureError { hub, links, fresh })
     }
 }

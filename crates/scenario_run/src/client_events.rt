@@ -3,11 +3,13 @@ ghost use Rattle.std.specs.Prelude.{◌≡◌, IfOk};
 ghost use Rattle.sentry_captures.specs.Captures.{message_event};
 
 use crate::answer::{Answer, Reply};
+use crate::caller::{CallReply, Caller};
 use crate::fault::Failure;
 use crate::scenario::{Scenario, client_key};
 use scenario_commands::client_events::{Act, ClientEventCommand};
-use sentry_base::protocol::{Event, Level, Uuid};
-use sentry_plain::Text;
+use sentry_base::protocol::{Event, Fresh, Level, Uuid};
+use sentry_engine::call::{Call, ClientCall};
+use sentry_plain::{Boxed, Text};
 use std::alloc::{AllocError, Global};
 
 // The event that a hub captures of the same message.
@@ -26,7 +28,7 @@ fn message_event(
     Ok(event)
 }
 
-impl Scenario {
+impl<E: Caller> Scenario<E> {
     /// Hands the event of a message to a client.
     pub fn hand_event<'a>(
         &mut self,
@@ -40,16 +42,35 @@ impl Scenario {
         } = *command;
         let fresh = self.fresh();
         let event = message_event(self.alloc, message, level, fresh.uuid, fresh.now)?;
-        let key = client_key(client);
+        let event = Boxed::new(self.alloc, event)?;
         match act {
-            Act::Prepare => {
-                let event = self.engine.prepare_event(key, event, None, fresh)?.reply;
+            Act::Prepare => self.prepare_event(client, event, fresh),
+            Act::Send => self.call(Call::Client(ClientCall::ClientCaptureEvent {
+                client: client_key(client),
+                event,
+                scope: None,
+                fresh,
+            })),
+        }
+    }
+
+    fn prepare_event<'a>(
+        &mut self,
+        client: u64,
+        event: Boxed<Event>,
+        fresh: Fresh,
+    ) -> Result<Answer<'a>, Failure> {
+        let reply = self.ask(Call::Client(ClientCall::PrepareEvent {
+            client: client_key(client),
+            event,
+            scope: None,
+            fresh,
+        }))?;
+        match reply {
+            CallReply::Prepared(event) => {
                 Ok(Answer::new(self.alloc, Reply::Prepared { client, event }))
             }
-            Act::Send => {
-                let out = self.engine.client_capture_event(key, event, None, fresh)?;
-                Ok(Answer::of_sent(out))
-            }
+            _other => Err(Failure::OtherReply),
         }
     }
 }

@@ -1,13 +1,17 @@
 //! What is done with clients, and with sampling.
 use crate::answer::{Answer, Reply};
+use crate::callbacks::{Callbacks, Handler};
+use crate::caller::{CallReply, Caller};
 use crate::fault::Failure;
 use crate::options::ClientPlan;
 use crate::scenario::{Scenario, client_key, client_label};
 use scenario_commands::clients::ClientCommand;
 use scenario_commands::options::OptionWords;
 use sentry_base::protocol::{Draw, SampleRate};
+use sentry_engine::call::{Call, ClientCall};
+use sentry_plain::Boxed;
 
-impl Scenario {
+impl<E: Caller> Scenario<E> {
     /// Does a command on clients or sampling.
     pub fn perform_on_client<'a>(
         &mut self,
@@ -18,12 +22,36 @@ impl Scenario {
             ClientCommand::Options(client) => self.options(*client),
             ClientCommand::Dsn(client) => self.dsn_of_client(*client),
             ClientCommand::IsEnabled(client) => self.is_enabled(*client),
-            ClientCommand::Flush(client) => self.flush(*client),
+            ClientCommand::Flush(client) => self.call_client(ClientCall::Flush(client_key(
+                *client,
+            ))),
             ClientCommand::Tick(client) => self.tick(*client),
-            ClientCommand::Close(client) => self.close(*client),
+            ClientCommand::Close(client) => self.call_client(ClientCall::Close(client_key(
+                *client,
+            ))),
             ClientCommand::Clone(client) => self.clone_client(*client),
-            ClientCommand::Drop(client) => self.drop_client(*client),
+            ClientCommand::Drop(client) => {
+                self.call_client(ClientCall::DropClient(client_key(*client)))
+            }
             ClientCommand::Sample { millionths, draw } => self.sample(*millionths, *draw),
+        }
+    }
+
+    fn call_client<'a>(
+        &mut self,
+        call: ClientCall<Handler, Callbacks>,
+    ) -> Result<Answer<'a>, Failure> {
+        self.call(Call::Client(call))
+    }
+
+    // Makes a call that adds a client.
+    fn add<'a>(&mut self, call: ClientCall<Handler, Callbacks>) -> Result<Answer<'a>, Failure> {
+        match self.ask(Call::Client(call))? {
+            CallReply::Client(key) => {
+                self.clients = key.number.saturating_add(1);
+                Ok(Answer::new(self.alloc, Reply::Nothing))
+            }
+            _other => Err(Failure::OtherReply),
         }
     }
 
@@ -35,60 +63,59 @@ impl Scenario {
     ) -> Result<Answer<'a>, Failure> {
         let plan = ClientPlan::new(self.alloc, release)?;
         let ClientPlan { options, transport } = plan.set_all(self.alloc, options)?;
+        let options = Boxed::new(self.alloc, options)?;
         let label = client_label(self.clients);
         let now = self.moment();
-        let out = self.engine.add_client(options, transport, label, now)?;
-        self.clients = out.reply.number.saturating_add(1);
-        Ok(Answer::of_sent(out))
+        self.add(ClientCall::AddClient {
+            options,
+            transport,
+            label,
+            now,
+        })
     }
 
-    fn options<'a>(&self, client: u64) -> Result<Answer<'a>, Failure> {
-        let options = self.engine.options(client_key(client))?.reply;
-        Ok(Answer::new(self.alloc, Reply::Options { client, options }))
+    fn options<'a>(&mut self, client: u64) -> Result<Answer<'a>, Failure> {
+        match self.ask(Call::Client(ClientCall::Options(client_key(client))))? {
+            CallReply::Options(options) => {
+                Ok(Answer::new(self.alloc, Reply::Options { client, options }))
+            }
+            _other => Err(Failure::OtherReply),
+        }
     }
 
-    fn dsn_of_client<'a>(&self, client: u64) -> Result<Answer<'a>, Failure> {
-        let dsn = self.engine.dsn(client_key(client))?.reply;
-        Ok(Answer::new(self.alloc, Reply::ClientDsn { client, dsn }))
+    fn dsn_of_client<'a>(&mut self, client: u64) -> Result<Answer<'a>, Failure> {
+        match self.ask(Call::Client(ClientCall::Dsn(client_key(client))))? {
+            CallReply::Dsn(dsn) => Ok(Answer::new(self.alloc, Reply::ClientDsn { client, dsn })),
+            _other => Err(Failure::OtherReply),
+        }
     }
 
-    fn is_enabled<'a>(&self, client: u64) -> Result<Answer<'a>, Failure> {
-        let is_enabled = self.engine.is_enabled(client_key(client))?.reply;
+    fn is_enabled<'a>(&mut self, client: u64) -> Result<Answer<'a>, Failure> {
+        let is_enabled = self.decide(Call::Client(ClientCall::IsEnabled(client_key(client))))?;
         let reply = Reply::Enabled { client, is_enabled };
         Ok(Answer::new(self.alloc, reply))
     }
 
-    fn flush<'a>(&mut self, client: u64) -> Result<Answer<'a>, Failure> {
-        Ok(Answer::of_sent(self.engine.flush(client_key(client))?))
-    }
-
     fn tick<'a>(&mut self, client: u64) -> Result<Answer<'a>, Failure> {
         let now = self.moment();
-        Ok(Answer::of_sent(self.engine.tick(client_key(client), now)?))
-    }
-
-    fn close<'a>(&mut self, client: u64) -> Result<Answer<'a>, Failure> {
-        Ok(Answer::of_sent(self.engine.close(client_key(client))?))
+        let client = client_key(client);
+        self.call_client(ClientCall::Tick { client, now })
     }
 
     // The original is noted before the call, so that what is out of memory has changed nothing that is seen; a client
     // that isn't held was refused before that.
     fn clone_client<'a>(&mut self, client: u64) -> Result<Answer<'a>, Failure> {
-        self.engine.is_enabled(client_key(client))?;
+        self.decide(Call::Client(ClientCall::IsEnabled(client_key(client))))?;
         self.originals.note(self.clients, client)?;
         let now = self.moment();
-        let out = self.engine.clone_client(client_key(client), now)?;
-        self.clients = out.reply.number.saturating_add(1);
-        Ok(Answer::of_sent(out))
+        let client = client_key(client);
+        self.add(ClientCall::CloneClient { client, now })
     }
 
-    fn drop_client<'a>(&mut self, client: u64) -> Result<Answer<'a>, Failure> {
-        Ok(Answer::of_sent(self.engine.drop_client(client_key(client))?))
-    }
-
-    fn sample<'a>(&self, millionths: u32, draw: Draw) -> Result<Answer<'a>, Failure> {
+    fn sample<'a>(&mut self, millionths: u32, draw: Draw) -> Result<Answer<'a>, Failure> {
         let rate = SampleRate::new(millionths)?;
-        let decision = self.engine.sample_should_send(rate, draw)?.reply;
+        let call = Call::Client(ClientCall::SampleShouldSend { rate, draw });
+        let decision = self.decide(call)?;
         Ok(Answer::new(self.alloc, Reply::Sample(decision)))
     }
 }

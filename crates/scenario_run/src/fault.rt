@@ -39,6 +39,8 @@ pub enum Failure {
     BadCommand,
     /// The engine refused the call, or memory was refused on the way to it.
     Refused(Refusal),
+    /// The reply isn't one of this call's: no engine replies so.
+    OtherReply,
 }
 
 impl From<Refusal> for Failure {

@@ -1,5 +1,6 @@
 //! What is done with headers.
 use crate::answer::{Answer, Reply};
+use crate::caller::Caller;
 use crate::fault::Failure;
 use crate::scenario::{Scenario, hub_key};
 use scenario_commands::headers::HeaderCommand;
@@ -15,7 +16,7 @@ pub struct Header {
     pub value: Text,
 }
 
-impl Scenario {
+impl<E: Caller> Scenario<E> {
     /// Keeps a header, reads those that are kept, or makes those of a hub.
     pub fn perform_on_headers<'a>(
         &mut self,
@@ -49,9 +50,8 @@ impl Scenario {
     }
 
     // The headers that pass on the trace of a hub's top scope.
-    fn headers_of_hub<'a>(&self, hub: u64) -> Result<Reply<'a>, Refusal> {
-        let scope = self.engine.scope(hub_key(hub))?.reply;
-        let headers = scope.iter_trace_propagation_headers(self.engine.spans())?;
+    fn headers_of_hub<'a>(&mut self, hub: u64) -> Result<Reply<'a>, Refusal> {
+        let headers = self.caller.headers_of_hub(hub_key(hub))?;
         let headers = collect_headers(self.alloc, headers)?;
         Ok(Reply::HubHeaders { hub, headers })
     }

@@ -1,12 +1,15 @@
 //! What is done with hubs.
 use crate::answer::{Answer, Reply};
 use crate::callbacks::Handler;
+use crate::caller::{CallReply, Caller};
 use crate::fault::Failure;
 use crate::scenario::{Scenario, client_key, hub_key};
 use scenario_commands::hubs::HubCommand;
+use sentry_engine::call::{Call, HubCall};
+use sentry_plain::Boxed;
 use sentry_scope::scope::Scope;
 
-impl Scenario {
+impl<E: Caller> Scenario<E> {
     /// Does a command on hubs.
     pub fn perform_on_hub<'a>(&mut self, command: HubCommand) -> Result<Answer<'a>, Failure> {
         match command {
@@ -20,38 +23,48 @@ impl Scenario {
 
     // A hub with a new scope.
     fn add_hub<'a>(&mut self, client: Option<u64>) -> Result<Answer<'a>, Failure> {
-        let scope = self.new_scope();
+        let scope = Boxed::new(self.alloc, self.new_scope())?;
         self.add_hub_with(client, scope)
     }
 
     // A hub with a copy of the top scope of another.
     fn copy_hub<'a>(&mut self, hub: u64, client: Option<u64>) -> Result<Answer<'a>, Failure> {
-        let scope = self.engine.scope(hub_key(hub))?.reply.into_inner();
-        self.add_hub_with(client, scope)
+        match self.ask(Call::Hub(HubCall::Scope(hub_key(hub))))? {
+            CallReply::Scope(scope) => self.add_hub_with(client, scope),
+            _other => Err(Failure::OtherReply),
+        }
     }
 
     fn add_hub_with<'a>(
         &mut self,
         client: Option<u64>,
-        scope: Scope<Handler>,
+        scope: Boxed<Scope<Handler>>,
     ) -> Result<Answer<'a>, Failure> {
         let client = client.map(client_key);
-        Ok(Answer::of_sent(self.engine.new_hub(client, scope)?))
+        self.call_hub(HubCall::NewHub { client, scope })
     }
 
     // The client of the hub's top layer.
-    fn client_of_hub<'a>(&self, hub: u64) -> Result<Answer<'a>, Failure> {
-        let client = self.engine.client(hub_key(hub))?.reply;
-        Ok(Answer::new(self.alloc, Reply::Bound { hub, client }))
+    fn client_of_hub<'a>(&mut self, hub: u64) -> Result<Answer<'a>, Failure> {
+        match self.ask(Call::Hub(HubCall::Client(hub_key(hub))))? {
+            CallReply::HubClient(client) => {
+                Ok(Answer::new(self.alloc, Reply::Bound { hub, client }))
+            }
+            _other => Err(Failure::OtherReply),
+        }
     }
 
-    fn is_active<'a>(&self, hub: u64) -> Result<Answer<'a>, Failure> {
-        let is_active = self.engine.is_active(hub_key(hub))?.reply;
+    fn is_active<'a>(&mut self, hub: u64) -> Result<Answer<'a>, Failure> {
+        let is_active = self.decide(Call::Hub(HubCall::IsActive(hub_key(hub))))?;
         Ok(Answer::new(self.alloc, Reply::Active { hub, is_active }))
     }
 
-    fn last_event<'a>(&self, hub: u64) -> Result<Answer<'a>, Failure> {
-        let id = self.engine.last_event_id(hub_key(hub))?.reply;
-        Ok(Answer::new(self.alloc, Reply::LastEvent { hub, id }))
+    fn last_event<'a>(&mut self, hub: u64) -> Result<Answer<'a>, Failure> {
+        match self.ask(Call::Hub(HubCall::LastEventId(hub_key(hub))))? {
+            CallReply::LastEvent(id) => {
+                Ok(Answer::new(self.alloc, Reply::LastEvent { hub, id }))
+            }
+            _other => Err(Failure::OtherReply),
+        }
     }
 }

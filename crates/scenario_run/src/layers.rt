@@ -1,12 +1,12 @@
 //! What is done with the layers of hubs.
-use crate::answer::Answer;
+use crate::answer::{Answer, Reply};
+use crate::caller::{CallReply, Caller};
 use crate::fault::Failure;
 use crate::scenario::{Scenario, client_key, hub_key};
 use scenario_commands::layers::LayerCommand;
 use sentry_engine::call::{Call, HubCall};
-use sentry_engine::engine::Out;
 
-impl Scenario {
+impl<E: Caller> Scenario<E> {
     /// Does a command on the layers of a hub.
     pub fn perform_on_layers<'a>(&mut self, command: LayerCommand) -> Result<Answer<'a>, Failure> {
         match command {
@@ -31,10 +31,13 @@ impl Scenario {
         if self.depths.get(hub).is_none() {
             self.depths.insert(hub, 0)?;
         }
-        let Out { reply, sent } = self.engine.push_scope(hub_key(hub))?;
-        let (_hub, depth) = reply.into_parts();
-        self.set_depth(hub, depth);
-        Ok(Answer::of_sent(Out { reply: (), sent }))
+        match self.ask(Call::Hub(HubCall::PushScope(hub_key(hub))))? {
+            CallReply::Depth(depth) => {
+                self.set_depth(hub, depth);
+                Ok(Answer::new(self.alloc, Reply::Nothing))
+            }
+            _other => Err(Failure::OtherReply),
+        }
     }
 
     // The depth of the layer that is to be popped: the one that is given, or that of the top one.
@@ -47,27 +50,29 @@ impl Scenario {
 
     fn pop_scope<'a>(&mut self, hub: u64, depth: Option<u64>) -> Result<Answer<'a>, Failure> {
         let depth = self.depth_to_pop(hub, depth);
-        let call = Call::Hub(HubCall::PopScope {
+        let now = self.moment();
+        let answer = self.call_hub(HubCall::PopScope {
             hub: hub_key(hub),
             depth,
-            now: self.moment(),
-        });
-        let out = self.engine.apply(call)?;
+            now,
+        })?;
         self.set_depth(hub, depth.saturating_sub(1));
-        Ok(Answer::of_sent(out))
+        Ok(answer)
     }
 
     fn add_hub_from_top<'a>(&mut self, hub: u64) -> Result<Answer<'a>, Failure> {
-        Ok(Answer::of_sent(self.engine.new_hub_from_top(hub_key(hub))?))
+        self.call_hub(HubCall::NewHubFromTop(hub_key(hub)))
     }
 
     fn release_hub<'a>(&mut self, hub: u64) -> Result<Answer<'a>, Failure> {
         let now = self.moment();
-        Ok(Answer::of_sent(self.engine.release_hub(hub_key(hub), now)?))
+        let hub = hub_key(hub);
+        self.call_hub(HubCall::ReleaseHub { hub, now })
     }
 
     fn bind_client<'a>(&mut self, hub: u64, client: Option<u64>) -> Result<Answer<'a>, Failure> {
         let client = client.map(client_key);
-        Ok(Answer::of_sent(self.engine.bind_client(hub_key(hub), client)?))
+        let hub = hub_key(hub);
+        self.call_hub(HubCall::BindClient { hub, client })
     }
 }

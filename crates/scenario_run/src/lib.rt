@@ -5,7 +5,8 @@
 mod answer;
 mod attributes;
 mod breadcrumbs;
-mod callbacks;
+pub mod callbacks;
+pub mod caller;
 mod captures;
 mod client_events;
 mod clients;
@@ -32,4 +33,4 @@ mod texts;
 mod transactions;
 
 pub use fault::ScenarioFault;
-pub use run::run_scenario;
+pub use run::{run_scenario, run_scenario_by};

@@ -1,26 +1,32 @@
 //! How logs are captured.
 use crate::answer::Answer;
 use crate::attributes::attributes;
+use crate::caller::Caller;
 use crate::fault::Failure;
 use crate::scenario::{Scenario, client_key, hub_key};
 use scenario_commands::attributes::Capturer;
 use scenario_commands::logs::LogCommand;
 use sentry_base::protocol::Log;
+use sentry_engine::call::{Call, ClientCall, HubCall};
+use sentry_plain::Boxed;
 use std::alloc::AllocError;
 
-impl Scenario {
+impl<E: Caller> Scenario<E> {
     /// Captures the log that a line asks for.
     pub fn capture_log<'a>(&mut self, command: &LogCommand<'_>) -> Result<Answer<'a>, Failure> {
         let log = self.log(command)?;
-        let out = match command.capturer {
-            Capturer::Hub(hub) => self.engine.capture_log(hub_key(hub), log)?,
-            Capturer::Client(client) => {
-                let scope = self.new_scope();
-                self.engine
-                    .client_capture_log(client_key(client), log, &scope)?
+        let log = Boxed::new(self.alloc, log)?;
+        match command.capturer {
+            Capturer::Hub(hub) => {
+                let hub = hub_key(hub);
+                self.call_hub(HubCall::CaptureLog { hub, log })
             }
-        };
-        Ok(Answer::of_sent(out))
+            Capturer::Client(client) => {
+                let scope = Boxed::new(self.alloc, self.new_scope())?;
+                let client = client_key(client);
+                self.call(Call::Client(ClientCall::ClientCaptureLog { client, log, scope }))
+            }
+        }
     }
 
     // The log, at the moment of the line.

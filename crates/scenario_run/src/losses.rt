@@ -1,5 +1,6 @@
 //! What is done with losses and reports.
 use crate::answer::{Answer, Reply};
+use crate::caller::{CallReply, Caller};
 use crate::fault::Failure;
 use crate::scenario::{Scenario, client_key};
 use scenario_commands::losses::{Kind, LossCommand};
@@ -9,7 +10,7 @@ use sentry_client_reports::client_reports::{LossWords, TransportLossReason};
 use sentry_engine::call::{Call, ClientCall};
 use sentry_plain::Boxed;
 
-impl Scenario {
+impl<E: Caller> Scenario<E> {
     /// Does a command on losses, reports or envelopes.
     pub fn perform_on_losses<'a>(
         &mut self,
@@ -35,16 +36,12 @@ impl Scenario {
         kind: Kind,
         reason: TransportLossReason,
     ) -> Result<Answer<'a>, Failure> {
-        self.engine.is_enabled(client_key(client))?;
+        self.decide(Call::Client(ClientCall::IsEnabled(client_key(client))))?;
         let (mut recorder, mut drainer) = LossWords::new(self.alloc, self.label(client))?;
         recorder.record_lost_data(&kind, reason);
-        match self.engine.absorb(drainer.drain()) {
-            Ok(out) => Ok(Answer::of_sent(out)),
-            Err((refusal, drained)) => {
-                drained.into_parts();
-                Err(Failure::Refused(refusal))
-            }
-        }
+        let (label, losses) = drainer.drain().into_parts();
+        let losses = Boxed::new(self.alloc, losses)?;
+        self.call(Call::Client(ClientCall::Absorb { label, losses }))
     }
 
     // Quantities of the line's own go into the book of the client's label.
@@ -53,22 +50,24 @@ impl Scenario {
             Some(words) => losses_of_words(words).ok_or(Failure::BadCommand)?,
             None => Losses::none(),
         };
-        let call = Call::Client(ClientCall::Absorb {
-            label: self.label(client),
-            losses: Boxed::new(self.alloc, losses)?,
-        });
-        Ok(Answer::of_sent(self.engine.apply(call)?))
+        let losses = Boxed::new(self.alloc, losses)?;
+        let label = self.label(client);
+        self.call(Call::Client(ClientCall::Absorb { label, losses }))
     }
 
     fn report<'a>(&mut self, client: u64) -> Result<Answer<'a>, Failure> {
         let label = self.label(client);
-        let report = self.engine.take_report(label)?.reply;
-        Ok(Answer::new(self.alloc, Reply::Report { client, report }))
+        match self.ask(Call::Client(ClientCall::TakeReport(label)))? {
+            CallReply::Report(report) => {
+                Ok(Answer::new(self.alloc, Reply::Report { client, report }))
+            }
+            _other => Err(Failure::OtherReply),
+        }
     }
 
     fn send_empty<'a>(&mut self, client: u64) -> Result<Answer<'a>, Failure> {
         let envelope = Envelope::new(self.alloc);
-        let out = self.engine.send_envelope(client_key(client), envelope)?;
-        Ok(Answer::of_sent(out))
+        let client = client_key(client);
+        self.call(Call::Client(ClientCall::SendEnvelope { client, envelope }))
     }
 }

@@ -1,12 +1,14 @@
 //! How metrics are captured.
 use crate::answer::Answer;
 use crate::attributes::attributes;
+use crate::caller::Caller;
 use crate::fault::Failure;
 use crate::scenario::{Scenario, client_key, hub_key};
 use scenario_commands::attributes::Capturer;
 use scenario_commands::metrics::MetricCommand;
 use sentry_base::protocol::{MetricDraft, Unit};
-use sentry_plain::Text;
+use sentry_engine::call::{Call, ClientCall, HubCall};
+use sentry_plain::{Boxed, Text};
 use std::alloc::{AllocError, Global};
 
 // A word that names no unit of its own is the name of another one.
@@ -26,23 +28,30 @@ fn unit_if_any(alloc: Global, word: Option<&str>) -> Result<Option<Unit>, AllocE
     }
 }
 
-impl Scenario {
+impl<E: Caller> Scenario<E> {
     /// Captures the metric that a line asks for.
     pub fn capture_metric<'a>(
         &mut self,
         command: &MetricCommand<'_>,
     ) -> Result<Answer<'a>, Failure> {
         let draft = self.draft(command)?;
+        let draft = Boxed::new(self.alloc, draft)?;
         let now = self.moment();
-        let out = match command.capturer {
-            Capturer::Hub(hub) => self.engine.capture_metric(hub_key(hub), draft, now)?,
-            Capturer::Client(client) => {
-                let scope = self.new_scope();
-                self.engine
-                    .client_capture_metric(client_key(client), draft, &scope, now)?
+        match command.capturer {
+            Capturer::Hub(hub) => {
+                let hub = hub_key(hub);
+                self.call_hub(HubCall::CaptureMetric { hub, draft, now })
             }
-        };
-        Ok(Answer::of_sent(out))
+            Capturer::Client(client) => {
+                let scope = Boxed::new(self.alloc, self.new_scope())?;
+                self.call(Call::Client(ClientCall::ClientCaptureMetric {
+                    client: client_key(client),
+                    draft,
+                    scope,
+                    now,
+                }))
+            }
+        }
     }
 
     fn draft(&self, command: &MetricCommand<'_>) -> Result<MetricDraft, AllocError> {

@@ -1,12 +1,14 @@
 //! A run over a whole input.
 use crate::answer::{Answer, Reply};
+use crate::caller::Caller;
 use crate::fault::{Failure, ScenarioFault};
 use crate::lines::next_line;
 use crate::originals::Originals;
 use crate::print::push_answer;
-use crate::scenario::Scenario;
+use crate::scenario::{Scenario, TAG};
 use scenario_commands::Command;
 use sentry_base::protocol::Refusal;
+use sentry_engine::engine::Engine;
 use std::alloc::{AllocError, Global};
 use std::io::{BufRead, Write};
 
@@ -23,8 +25,8 @@ fn read(line: &[u8]) -> Option<Command<'_>> {
 
 /// Does a command, and does it once more where memory is refused, since nothing has changed then. A refusal for another
 /// cause is an answer.
-fn answer<'a>(
-    scenario: &mut Scenario,
+fn answer<'a, E: Caller>(
+    scenario: &mut Scenario<E>,
     number: u64,
     command: &Command<'a>,
 ) -> Result<Answer<'a>, ScenarioFault> {
@@ -34,7 +36,7 @@ fn answer<'a>(
     };
     match performed {
         Ok(answer) => Ok(answer),
-        Err(Failure::BadCommand) => Err(ScenarioFault::BadCommand(number)),
+        Err(Failure::BadCommand | Failure::OtherReply) => Err(ScenarioFault::BadCommand(number)),
         Err(Failure::Refused(Refusal::OutOfMemory)) => Err(ScenarioFault::OutOfMemory),
         Err(Failure::Refused(refusal)) => {
             Ok(Answer::new(scenario.alloc, Reply::Refused(refusal)))
@@ -49,8 +51,8 @@ fn print(text: &mut String, originals: &Originals, answer: &Answer<'_>) -> Resul
 
 /// Does one line, and makes its text in `text`. Where memory is refused for that, the text is made once more, and the
 /// line isn't done again.
-fn play(
-    scenario: &mut Scenario,
+fn play<E: Caller>(
+    scenario: &mut Scenario<E>,
     number: u64,
     line: &[u8],
     text: &mut String,
@@ -81,7 +83,17 @@ pub fn run_scenario<R: BufRead, W: Write>(
     reader: &mut R,
     writer: &mut W,
 ) -> Result<(), ScenarioFault> {
-    let mut scenario = Scenario::new(alloc);
+    run_scenario_by(alloc, Engine::new(alloc, TAG), reader, writer)
+}
+
+/// The same by what makes the calls in place of an engine, and holds nothing yet. The tag of its keys is 0.
+pub fn run_scenario_by<E: Caller, R: BufRead, W: Write>(
+    alloc: Global,
+    caller: E,
+    reader: &mut R,
+    writer: &mut W,
+) -> Result<(), ScenarioFault> {
+    let mut scenario = Scenario::new(alloc, caller);
     let mut line = Vec::new(alloc);
     let mut text = String::new(alloc);
     for index in 0..u64::MAX {

@@ -1,12 +1,11 @@
-//! The engine that commands act on, and what lines set for those that follow.
+//! What commands act on, and what lines set for those that follow.
 use crate::answer::Answer;
-use crate::callbacks::{Callbacks, Handler};
+use crate::caller::Caller;
 use crate::fault::Failure;
 use crate::headers::Header;
 use crate::originals::Originals;
 use scenario_commands::Command;
 use sentry_base::protocol::{ClientKey, Draw, Fresh, HubKey, Label, SpanId, TraceId, Uuid};
-use sentry_engine::engine::Engine;
 use sentry_plain::{Items, Table};
 use std::alloc::Global;
 
@@ -15,10 +14,10 @@ pub const TAG: u64 = 0;
 
 const NANOSECONDS: u64 = 1_000_000_000;
 
-/// An engine, and what lines set for those that follow.
-pub struct Scenario {
+/// What makes the calls, and what lines set for those that follow.
+pub struct Scenario<E> {
     pub alloc: Global,
-    pub engine: Engine<Handler, Callbacks>,
+    pub caller: E,
     /// How many clients there are.
     pub clients: u64,
     /// Which client each clone was made of.
@@ -35,11 +34,11 @@ pub struct Scenario {
     pub headers: Items<Header>,
 }
 
-impl Drop for Scenario {
+impl<E: Drop> Drop for Scenario<E> {
     fn drop(self) {
         let Scenario {
             alloc: _,
-            engine: _,
+            caller: _,
             clients: _,
             originals: _,
             depths: _,
@@ -66,12 +65,12 @@ pub fn hub_key(number: u64) -> HubKey {
     HubKey { tag: TAG, number }
 }
 
-impl Scenario {
-    /// An engine that holds nothing, before the first line. It takes no memory.
-    pub fn new(alloc: Global) -> Scenario {
+impl<E: Caller> Scenario<E> {
+    /// The state before the first line, over what holds nothing yet. It takes no memory.
+    pub fn new(alloc: Global, caller: E) -> Scenario<E> {
         Scenario {
             alloc,
-            engine: Engine::new(alloc, TAG),
+            caller,
             clients: 0,
             originals: Originals::new(alloc),
             depths: Table::new(alloc),

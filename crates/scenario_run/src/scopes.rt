@@ -1,11 +1,13 @@
 //! How the top scope of a hub is edited. `configure` serves all of its commands.
 use crate::answer::Answer;
 use crate::callbacks::Handler;
+use crate::caller::Caller;
 use crate::fault::Failure;
 use crate::scenario::{Scenario, hub_key};
 use crate::spans::span_key;
 use scenario_commands::scopes::{Entry, Identity, Role, ScopeChange, ScopeCommand};
 use sentry_base::protocol::{Attachment, Context, Fresh, User, Value, ValueMap};
+use sentry_engine::call::HubCall;
 use sentry_plain::{Items, Text};
 use sentry_scope::scope::ScopeEdit;
 use std::alloc::{AllocError, Global};
@@ -110,14 +112,13 @@ fn edit(
     }
 }
 
-impl Scenario {
+impl<E: Caller> Scenario<E> {
     /// Edits the top scope of a hub.
     pub fn configure<'a>(&mut self, command: &ScopeCommand<'_>) -> Result<Answer<'a>, Failure> {
         let mut edits = Items::new(self.alloc);
         edits.push(edit(self.alloc, self.fresh(), &command.change)?)?;
         let hub = hub_key(command.hub);
         let now = self.moment();
-        let out = self.engine.configure(hub, edits.into_vec(), now)?;
-        Ok(Answer::of_sent(out))
+        self.call_hub(HubCall::Configure { hub, edits, now })
     }
 }

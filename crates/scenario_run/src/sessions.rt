@@ -1,11 +1,13 @@
 //! What is done with the sessions of hubs.
 use crate::answer::Answer;
+use crate::caller::Caller;
 use crate::fault::Failure;
 use crate::scenario::{Scenario, hub_key};
 use scenario_commands::sessions::SessionCommand;
 use sentry_base::protocol::SessionStatus;
+use sentry_engine::call::HubCall;
 
-impl Scenario {
+impl<E: Caller> Scenario<E> {
     /// Does a command on the session of a hub.
     pub fn perform_on_session<'a>(
         &mut self,
@@ -19,14 +21,13 @@ impl Scenario {
 
     fn start_session<'a>(&mut self, hub: u64) -> Result<Answer<'a>, Failure> {
         let fresh = self.fresh();
-        Ok(Answer::of_sent(self.engine.start_session(hub_key(hub), fresh)?))
+        let hub = hub_key(hub);
+        self.call_hub(HubCall::StartSession { hub, fresh })
     }
 
     fn end_session<'a>(&mut self, hub: u64, status: SessionStatus) -> Result<Answer<'a>, Failure> {
         let now = self.moment();
-        let out = self
-            .engine
-            .end_session_with_status(hub_key(hub), status, now)?;
-        Ok(Answer::of_sent(out))
+        let hub = hub_key(hub);
+        self.call_hub(HubCall::EndSessionWithStatus { hub, status, now })
     }
 }

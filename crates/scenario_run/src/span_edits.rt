@@ -1,13 +1,14 @@
 //! How transactions and spans are changed.
 use crate::answer::Answer;
+use crate::caller::Caller;
 use crate::fault::Failure;
 use crate::scenario::Scenario;
 use crate::spans::{span_key, transaction_key};
 use scenario_commands::scopes::Entry;
 use scenario_commands::span_edits::{RequestWords, SpanEdit, SpanEditCommand, TransactionEdit};
-use sentry_base::protocol::{Refusal, Request, TransactionKey, TransactionOrSpanKey, Value};
-use sentry_engine::engine::Out;
-use sentry_plain::{Text, TextMap};
+use sentry_base::protocol::{Request, TransactionKey, TransactionOrSpanKey, Value};
+use sentry_engine::call::SpanCall;
+use sentry_plain::{Boxed, Text, TextMap};
 use std::alloc::{AllocError, Global};
 
 /// A request with this method, this URL and this body.
@@ -23,50 +24,73 @@ fn request(alloc: Global, words: RequestWords<'_>) -> Result<Request, AllocError
     })
 }
 
-impl Scenario {
+fn text_value(alloc: Global, text: &str) -> Result<Value, AllocError> {
+    Ok(Value::Text(Text::new(alloc, text)?))
+}
+
+// The call of an edit of a transaction or a span.
+fn edit_of_span(
+    alloc: Global,
+    name: TransactionOrSpanKey,
+    edit: SpanEdit<'_>,
+) -> Result<SpanCall, AllocError> {
+    match edit {
+        SpanEdit::SetTag(Entry { key, value }) => Ok(SpanCall::SetTag {
+            name,
+            key: Text::new(alloc, key)?,
+            value: Text::new(alloc, value)?,
+        }),
+        SpanEdit::SetData(Entry { key, value }) => Ok(SpanCall::SetData {
+            name,
+            key: Text::new(alloc, key)?,
+            value: text_value(alloc, value)?,
+        }),
+        SpanEdit::SetName(text) => Ok(SpanCall::SetName {
+            name,
+            text: Text::new(alloc, text)?,
+        }),
+        SpanEdit::SetOp(op) => Ok(SpanCall::SetOp {
+            name,
+            op: Text::new(alloc, op)?,
+        }),
+        SpanEdit::SetStatus(status) => Ok(SpanCall::SetStatus { name, status }),
+        SpanEdit::SetRequest(words) => Ok(SpanCall::SetRequest {
+            name,
+            request: Boxed::new(alloc, request(alloc, words)?)?,
+        }),
+    }
+}
+
+// The call of an edit of a transaction alone.
+fn edit_of_transaction(
+    alloc: Global,
+    transaction: TransactionKey,
+    edit: TransactionEdit<'_>,
+) -> Result<SpanCall, AllocError> {
+    match edit {
+        TransactionEdit::SetExtra(Entry { key, value }) => Ok(SpanCall::SetExtra {
+            transaction,
+            key: Text::new(alloc, key)?,
+            value: text_value(alloc, value)?,
+        }),
+        TransactionEdit::SetOrigin(origin) => Ok(SpanCall::SetOrigin {
+            transaction,
+            origin: Text::new(alloc, origin)?,
+        }),
+    }
+}
+
+impl<E: Caller> Scenario<E> {
     /// Changes a transaction or a span.
     pub fn edit_span<'a>(&mut self, command: &SpanEditCommand<'_>) -> Result<Answer<'a>, Failure> {
-        let out = match command {
-            SpanEditCommand::Span { span, edit } => self.set_on_span(span_key(*span), *edit)?,
+        let call = match command {
+            SpanEditCommand::Span { span, edit } => {
+                edit_of_span(self.alloc, span_key(*span), *edit)?
+            }
             SpanEditCommand::Transaction { transaction, edit } => {
-                self.set_on_transaction(transaction_key(*transaction), *edit)?
+                edit_of_transaction(self.alloc, transaction_key(*transaction), *edit)?
             }
         };
-        Ok(Answer::of_sent(out))
-    }
-
-    fn set_on_span(
-        &mut self,
-        span: TransactionOrSpanKey,
-        edit: SpanEdit<'_>,
-    ) -> Result<Out<()>, Refusal> {
-        match edit {
-            SpanEdit::SetTag(Entry { key, value }) => self.engine.set_tag(span, key, value),
-            SpanEdit::SetData(Entry { key, value }) => {
-                let value = Value::Text(Text::new(self.alloc, value)?);
-                self.engine.set_data(span, key, value)
-            }
-            SpanEdit::SetName(name) => self.engine.set_name(span, name),
-            SpanEdit::SetOp(op) => self.engine.set_op(span, op),
-            SpanEdit::SetStatus(status) => self.engine.set_status(span, status),
-            SpanEdit::SetRequest(words) => {
-                let request = request(self.alloc, words)?;
-                self.engine.set_request(span, request)
-            }
-        }
-    }
-
-    fn set_on_transaction(
-        &mut self,
-        transaction: TransactionKey,
-        edit: TransactionEdit<'_>,
-    ) -> Result<Out<()>, Refusal> {
-        match edit {
-            TransactionEdit::SetExtra(Entry { key, value }) => {
-                let value = Value::Text(Text::new(self.alloc, value)?);
-                self.engine.set_extra(transaction, key, value)
-            }
-            TransactionEdit::SetOrigin(origin) => self.engine.set_origin(transaction, origin),
-        }
+        self.call_span(call)
     }
 }

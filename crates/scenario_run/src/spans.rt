@@ -1,10 +1,13 @@
 //! What is done with transactions and spans once they have started, and how spans are.
 use crate::answer::{Answer, Reply};
+use crate::caller::Caller;
 use crate::fault::Failure;
 use crate::headers::collect_headers;
 use crate::scenario::{Scenario, TAG, hub_key};
 use scenario_commands::spans::{Child, ChildDetails, SpanCommand, SpanName};
 use sentry_base::protocol::{SpanId, SpanKey, TransactionKey, TransactionOrSpanKey};
+use sentry_engine::call::{SpanCall, SpanReply};
+use sentry_plain::Text;
 
 /// The key of the transaction of this number.
 pub fn transaction_key(number: u64) -> TransactionKey {
@@ -25,7 +28,7 @@ pub fn span_key(span: SpanName) -> TransactionOrSpanKey {
     }
 }
 
-impl Scenario {
+impl<E: Caller> Scenario<E> {
     /// Does a command on transactions and spans.
     pub fn perform_on_span<'a>(
         &mut self,
@@ -34,7 +37,7 @@ impl Scenario {
         match command {
             SpanCommand::StartChild(child) => self.start_child(child),
             SpanCommand::Finish { span, hub } => self.finish(*span, *hub),
-            SpanCommand::Discard(span) => self.discard(*span),
+            SpanCommand::Discard(span) => self.call_span(SpanCall::Discard(span_key(*span))),
             SpanCommand::TraceContext(span) => self.trace_context(*span),
             SpanCommand::IsSampled(span) => self.is_sampled(*span),
             SpanCommand::Headers(span) => self.headers_of_span(*span),
@@ -52,72 +55,102 @@ impl Scenario {
             description,
         } = *child;
         let parent = span_key(parent);
-        let out = match details {
-            None => {
-                let fresh = self.fresh();
-                self.engine.start_child(parent, op, description, fresh)?
-            }
-            Some(ChildDetails { span_id, start }) => {
-                let id = SpanId(span_id.to_be_bytes());
-                self.engine
-                    .start_child_with_details(parent, op, description, id, start)?
-            }
+        let op = Text::new(self.alloc, op)?;
+        let description = Text::new(self.alloc, description)?;
+        let fresh = self.fresh();
+        let call = match details {
+            None => SpanCall::StartChild {
+                parent,
+                op,
+                description,
+                fresh,
+            },
+            Some(ChildDetails { span_id, start }) => SpanCall::StartChildWithDetails {
+                parent,
+                op,
+                description,
+                id: SpanId(span_id.to_be_bytes()),
+                start,
+            },
         };
-        Ok(Answer::of_sent(out))
+        self.call_span(call)
     }
 
     // A transaction finishes under the top scope of the hub.
     fn finish<'a>(&mut self, span: SpanName, hub: u64) -> Result<Answer<'a>, Failure> {
-        let now = self.moment();
-        let out = match span {
-            SpanName::Transaction(number) => {
-                let key = transaction_key(number);
-                self.engine.finish_transaction(key, hub_key(hub), now)?
-            }
-            SpanName::Span(number) => self.engine.finish_span(key_of_span(number), now)?,
+        let moment = self.moment();
+        let call = match span {
+            SpanName::Transaction(number) => SpanCall::FinishTransaction {
+                transaction: transaction_key(number),
+                hub: hub_key(hub),
+                moment,
+            },
+            SpanName::Span(number) => SpanCall::FinishSpan {
+                span: key_of_span(number),
+                moment,
+            },
         };
-        Ok(Answer::of_sent(out))
+        self.call_span(call)
     }
 
-    fn discard<'a>(&mut self, span: SpanName) -> Result<Answer<'a>, Failure> {
-        Ok(Answer::of_sent(self.engine.discard(span_key(span))?))
-    }
-
-    fn trace_context<'a>(&self, span: SpanName) -> Result<Answer<'a>, Failure> {
+    fn trace_context<'a>(&mut self, span: SpanName) -> Result<Answer<'a>, Failure> {
         let span = span_key(span);
-        let context = self.engine.get_trace_context(span)?.reply;
-        Ok(Answer::new(self.alloc, Reply::TraceContext { span, context }))
+        match self.ask_span(SpanCall::GetTraceContext(span))? {
+            SpanReply::TraceContext(context) => {
+                Ok(Answer::new(self.alloc, Reply::TraceContext { span, context }))
+            }
+            _other => Err(Failure::OtherReply),
+        }
     }
 
-    fn is_sampled<'a>(&self, span: SpanName) -> Result<Answer<'a>, Failure> {
+    fn is_sampled<'a>(&mut self, span: SpanName) -> Result<Answer<'a>, Failure> {
         let span = span_key(span);
-        let is_sampled = self.engine.is_sampled(span)?.reply;
-        Ok(Answer::new(self.alloc, Reply::Sampled { span, is_sampled }))
+        match self.ask_span(SpanCall::IsSampled(span))? {
+            SpanReply::Decision(is_sampled) => {
+                Ok(Answer::new(self.alloc, Reply::Sampled { span, is_sampled }))
+            }
+            _other => Err(Failure::OtherReply),
+        }
     }
 
     // The headers that pass on the trace of a transaction or a span.
-    fn headers_of_span<'a>(&self, span: SpanName) -> Result<Answer<'a>, Failure> {
+    fn headers_of_span<'a>(&mut self, span: SpanName) -> Result<Answer<'a>, Failure> {
         let span = span_key(span);
-        let headers = collect_headers(self.alloc, self.engine.iter_headers(span)?.reply)?;
-        Ok(Answer::new(self.alloc, Reply::SpanHeaders { span, headers }))
+        match self.ask_span(SpanCall::IterHeaders(span))? {
+            SpanReply::Headers(headers) => {
+                let headers = collect_headers(self.alloc, headers)?;
+                Ok(Answer::new(self.alloc, Reply::SpanHeaders { span, headers }))
+            }
+            _other => Err(Failure::OtherReply),
+        }
     }
 
-    fn status_of_span<'a>(&self, span: SpanName) -> Result<Answer<'a>, Failure> {
+    fn status_of_span<'a>(&mut self, span: SpanName) -> Result<Answer<'a>, Failure> {
         let span = span_key(span);
-        let status = self.engine.get_status(span)?.reply;
-        Ok(Answer::new(self.alloc, Reply::Status { span, status }))
+        match self.ask_span(SpanCall::GetStatus(span))? {
+            SpanReply::Status(status) => {
+                Ok(Answer::new(self.alloc, Reply::Status { span, status }))
+            }
+            _other => Err(Failure::OtherReply),
+        }
     }
 
-    fn span_id<'a>(&self, number: u64) -> Result<Answer<'a>, Failure> {
+    fn span_id<'a>(&mut self, number: u64) -> Result<Answer<'a>, Failure> {
         let key = key_of_span(number);
-        let id = self.engine.get_span_id(key)?.reply;
-        let span = TransactionOrSpanKey::Span(key);
-        Ok(Answer::new(self.alloc, Reply::SpanId { span, id }))
+        match self.ask_span(SpanCall::GetSpanId(key))? {
+            SpanReply::SpanId(id) => {
+                let span = TransactionOrSpanKey::Span(key);
+                Ok(Answer::new(self.alloc, Reply::SpanId { span, id }))
+            }
+            _other => Err(Failure::OtherReply),
+        }
     }
 
-    fn data_of_span<'a>(&self, span: SpanName) -> Result<Answer<'a>, Failure> {
+    fn data_of_span<'a>(&mut self, span: SpanName) -> Result<Answer<'a>, Failure> {
         let span = span_key(span);
-        let values = self.engine.data(span)?.reply;
-        Ok(Answer::new(self.alloc, Reply::Data { span, values }))
+        match self.ask_span(SpanCall::Data(span))? {
+            SpanReply::Data(values) => { Ok(Answer::new(self.alloc, Reply::Data { span, values })) }
+            _other => Err(Failure::OtherReply),
+        }
     }
 }

@@ -1,15 +1,18 @@
 //! How transactions are started.
 use crate::answer::Answer;
+use crate::caller::Caller;
 use crate::fault::Failure;
 use crate::scenario::{Scenario, hub_key};
 use crate::spans::span_key;
+use scenario_commands::spans::SpanName;
 use scenario_commands::transactions::{Origin, TransactionCommand};
 use sentry_base::protocol::Fresh;
-use sentry_plain::Items;
+use sentry_engine::call::{SpanCall, SpanReply};
+use sentry_plain::{Boxed, Items, Text};
 use sentry_trace::performance::TransactionContext;
 use std::alloc::AllocError;
 
-impl Scenario {
+impl<E: Caller> Scenario<E> {
     /// Starts the transaction that a line asks for.
     pub fn start_transaction<'a>(
         &mut self,
@@ -26,9 +29,7 @@ impl Scenario {
             Origin::Decision(decision) => self.start_new_trace(hub, name, op, decision),
             Origin::Moment(moment) => self.start_at(hub, name, op, moment),
             Origin::Span(span) => {
-                let span = span.map(span_key);
-                let fresh = self.fresh();
-                let context = self.engine.continue_from_span(name, op, span, fresh)?.reply;
+                let context = self.continue_from_span(name, op, span)?;
                 self.start(hub, context)
             }
             Origin::Headers => self.continue_from_headers(hub, name, op),
@@ -37,8 +38,35 @@ impl Scenario {
 
     fn start<'a>(&mut self, hub: u64, context: TransactionContext) -> Result<Answer<'a>, Failure> {
         let fresh = self.fresh();
-        let out = self.engine.start_transaction(hub_key(hub), context, fresh)?;
-        Ok(Answer::of_sent(out))
+        let context = Boxed::new(self.alloc, context)?;
+        self.call_span(SpanCall::StartTransaction {
+            hub: hub_key(hub),
+            context,
+            fresh,
+        })
+    }
+
+    // A context that goes on with the trace of a transaction or a span, or with none.
+    fn continue_from_span(
+        &mut self,
+        name: &str,
+        op: &str,
+        span: Option<SpanName>,
+    ) -> Result<TransactionContext, Failure> {
+        let fresh = self.fresh();
+        let name = Text::new(self.alloc, name)?;
+        let op = Text::new(self.alloc, op)?;
+        let span = span.map(span_key);
+        let reply = self.ask_span(SpanCall::ContinueFromSpan {
+            name,
+            op,
+            span,
+            fresh,
+        })?;
+        match reply {
+            SpanReply::Context(context) => Ok(context),
+            _other => Err(Failure::OtherReply),
+        }
     }
 
     // A context of a trace of the line's own.
@@ -71,11 +99,14 @@ impl Scenario {
         moment: u64,
     ) -> Result<Answer<'a>, Failure> {
         let context = self.new_trace(name, op)?;
+        let context = Boxed::new(self.alloc, context)?;
         let fresh = self.fresh();
-        let out = self
-            .engine
-            .start_transaction_with_timestamp(hub_key(hub), context, moment, fresh)?;
-        Ok(Answer::of_sent(out))
+        self.call_span(SpanCall::StartTransactionWithTimestamp {
+            hub: hub_key(hub),
+            context,
+            start: moment,
+            fresh,
+        })
     }
 
     // The headers are forgotten once the transaction has started, so that what is refused has changed nothing.
