@@ -26,11 +26,7 @@ use Rattle.sentry_sending.specs.Sending.{reply_sending}
 use Rattle.sentry_span_table.specs.SpanTables.{has_transaction_of, is_held}
 use Rattle.sentry_state.specs.Worlds.{World, span_table}
 use Rattle.sentry_state.specs.Outcomes.{Outcome, require_some, require, reply_with, client_at, plain_client_at}
-use Rattle.sentry_state.specs.Clients.{is_client_named, has_session_of, new_client, clone_from}
-
--- a client is enabled where its options have a DSN and its slot is occupied
-abbrev pub is_enabled_client : {C : Type 0} → Client C → Bool
-is_enabled_client client = is_some client.options.plain.dsn && client.occupied
+use Rattle.sentry_state.specs.Clients.{is_enabled_client, is_client_named, has_session_of, new_client, clone_from}
 
 -- what the scope names as active is held, where there is a scope
 abbrev pub holds_active_span : {P C : Type 0} → World P C → Option (Scope P) → Bool

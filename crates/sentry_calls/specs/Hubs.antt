@@ -22,7 +22,7 @@ use Rattle.sentry_options.specs.Meanings.{Meanings}
 use Rattle.sentry_captures.specs.Captures.{message_event, capture_event}
 use Rattle.sentry_sending.specs.SessionEnds.{release_session}
 use Rattle.sentry_state.specs.Changes.{with_session, next_hub_key, with_new_hub}
-use Rattle.sentry_calls.specs.Clients.{is_enabled_client}
+use Rattle.sentry_state.specs.Clients.{is_enabled_client}
 use Rattle.sentry_span_table.specs.SpanTables.{is_held}
 use Rattle.sentry_span_edits.specs.Setters.{with_edited}
 use Rattle.sentry_span_edits.specs.declared.edit.SpanEdit.TheVariants.{Name}

@@ -25,7 +25,7 @@ use sentry_plain::{Boxed, Items};
 use sentry_scope::scope::Scope;
 use sentry_sessions::session::Session;
 use sentry_span_table::table::SpanTable;
-use sentry_state::state::{Client, Out, State};
+use sentry_state::state::{Client, Out, Sent, State};
 use std::alloc::{AllocError, Global};
 
 /// Runs a captured event through the pipeline, in place: the event that came through all callbacks is left, or `None`.
@@ -235,7 +235,7 @@ pub fn captured_envelopes<P: Drop, C: Callbacks>(
     update: Option<Boxed<SessionUpdate>>,
     scope: Option<&Scope<P>>,
     event: &mut Option<Event>,
-) -> Result<Items<(ClientKey, Envelope)>, AllocError>
+) -> Result<Sent, AllocError>
     ensures { (world : World P C) → Stands state.now world → IfOk result (λ sent. sent ≡ captured_envelopes key
         update (attachments_of (option_copied scope.entry)) (pending_report world label) event.old) }
 {

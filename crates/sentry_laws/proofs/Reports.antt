@@ -24,7 +24,7 @@ use Rattle.sentry_options.specs.Meanings.{Meanings}
 use Rattle.sentry_options.specs.declared.clientoptions.ClientOptions.{ClientOptions}
 use Rattle.sentry_queues.specs.declared.flushes.TheConstants.{SESSION_INTERVAL}
 use Rattle.sentry_queues.specs.Flushes.{batch_envelopes, flushed_logs, flushed_metrics, is_flushed}
-use Rattle.sentry_sending.specs.Sending.{send, after_sending, address, envelopes_from}
+use Rattle.sentry_sending.specs.Sending.{send, after_sending, for_client, envelopes_from}
 use Rattle.sentry_state.specs.declared.state.Out.{Out}
 use Rattle.sentry_state.specs.Books.{with_book, with_entry, is_label, has_client_of, has_book, pending_report}
 use Rattle.sentry_state.specs.Changes.{with_client_state}
@@ -325,15 +325,15 @@ module _ (label : Label) (i : ℕ) where
       let n = told_by_effect effect in
       ap (λ k. n + k) r ∙ omega arith
 
-  silent_address : (of_label : ClientKey → Bool) (key : ClientKey) (envelopes : List Envelope)
-      → all_batches report_batch envelopes ≡ [] → told_by_envelopes i of_label None (address key None envelopes) ≡ 0
-  silent_address of_label key [] h = refl
-  silent_address of_label key (first ∷ rest) h =
+  silent_for_client : (of_label : ClientKey → Bool) (key : ClientKey) (envelopes : List Envelope)
+      → all_batches report_batch envelopes ≡ [] → told_by_envelopes i of_label None (for_client key None envelopes) ≡ 0
+  silent_for_client of_label key [] h = refl
+  silent_for_client of_label key (first ∷ rest) h =
       let s = append_none (batches_among report_batch first.items) (all_batches report_batch rest) h in
-      ap (λ n. (if of_label key then n else 0) + told_by_envelopes i of_label None (address key None rest))
+      ap (λ n. (if of_label key then n else 0) + told_by_envelopes i of_label None (for_client key None rest))
       (silent_items i first.items s.0)
-      ∙ (ap (λ n. n + told_by_envelopes i of_label None (address key None rest)) (none_if (of_label key))
-      ∙ (zero_more (told_by_envelopes i of_label None (address key None rest)) ∙ silent_address of_label key rest s.1))
+      ∙ (ap (λ n. n + told_by_envelopes i of_label None (for_client key None rest)) (none_if (of_label key))
+      ∙ (zero_more (told_by_envelopes i of_label None (for_client key None rest)) ∙ silent_for_client of_label key rest s.1))
     where
       none_if : (b : Bool) → ◌≡◌ {A = ℕ} (if b then 0 else 0) 0
       none_if true = refl
@@ -490,7 +490,7 @@ module _ (label : Label) (i : ℕ) where
         let s = append_none (batches_among report_batch first.items) (all_batches report_batch rest) silent in
         same_told (told + told_now world other) _ _
         (sent_one None told world key other first is (report_told i low None (pending_report world other) first
-        (inr (refl, silent_items i first.items s.0))) _ (silent_address of_label key rest s.1))
+        (inr (refl, silent_items i first.items s.0))) _ (silent_for_client of_label key rest s.1))
         (pointed told world other books has a)
 
     left-book : (b : Bool) (n : ℕ) (world : World P C) (history : List LossEntry) → HasBooks world

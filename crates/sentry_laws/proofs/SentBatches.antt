@@ -27,7 +27,7 @@ use Rattle.sentry_state.specs.Clients.{queues_from, clone_from}
 use Rattle.sentry_base.specs.Envelopes.{with_report}
 use Rattle.sentry_state.specs.Books.{pending_report}
 use Rattle.sentry_state.specs.Changes.{with_client_state}
-use Rattle.sentry_sending.specs.Sending.{address, envelopes_from, after_sending, send}
+use Rattle.sentry_sending.specs.Sending.{for_client, envelopes_from, after_sending, send}
 use Rattle.sentry_calls.specs.declared.call.Call.{Call}
 use Rattle.sentry_calls.specs.declared.call.Reply.{Reply}
 use Rattle.sentry_calls.specs.Runs.{May, Run}
@@ -116,17 +116,17 @@ module _ {T : Type 0} (batch_in : EnvelopeItem → Option (List T)) where
 
     addressed : (n : ℕ) (key : ClientKey) (b : Bool) → (n == key.number) ≡ b → (report : Option ClientReport)
         (envelopes : List Envelope)
-        → batches_for batch_in n (address key report envelopes) ≡ (if b then all_batches envelopes else [])
+        → batches_for batch_in n (for_client key report envelopes) ≡ (if b then all_batches envelopes else [])
     addressed n key true e report [] = refl
     addressed n key false e report [] = refl
     addressed n key true e report (first ∷ rest) =
         ap (λ (b : Bool). (if b then batches_among batch_in (with_report report first).items else [])
-        ++ batches_for batch_in n (address key None rest)) e
-        ∙ (ap (λ l. l ++ batches_for batch_in n (address key None rest)) (reported report first)
+        ++ batches_for batch_in n (for_client key None rest)) e
+        ∙ (ap (λ l. l ++ batches_for batch_in n (for_client key None rest)) (reported report first)
         ∙ ap (λ l. batches_among batch_in first.items ++ l) (addressed n key true e None rest))
     addressed n key false e report (first ∷ rest) =
         ap (λ (b : Bool). (if b then batches_among batch_in (with_report report first).items else [])
-        ++ batches_for batch_in n (address key None rest)) e
+        ++ batches_for batch_in n (for_client key None rest)) e
         ∙ addressed n key false e None rest
 
     from_slot : (n : ℕ) (key : ClientKey) (occupied b : Bool) → (n == key.number) ≡ b → (report : Option ClientReport)

@@ -7,7 +7,7 @@ use Rattle.sentry_base.specs.declared.protocol.envelope.Envelope.{Envelope}
 use Rattle.sentry_base.specs.declared.protocol.keys.ClientKey.{ClientKey}
 use Rattle.sentry_batches.specs.Batches.{if_full}
 use Rattle.sentry_batches.proofs.BatchLemmas.{next_full}
-use Rattle.sentry_sending.specs.Sending.{address, envelopes_from}
+use Rattle.sentry_sending.specs.Sending.{for_client, envelopes_from}
 
 pub and_true : (a b : Bool) → (a && b) ≡ true → a ≡ true
 and_true true b e = refl
@@ -23,7 +23,7 @@ module _ {T : Type 0} where
       → (limit : ℕ) (items : List T) (item : T) → (occupied && nat_le (limit - 1) (length items)) ≡ false
       → [] ≡ envelopes_from occupied key report (envelopes (if_full limit (items ++ item ∷ [])))
   unsent_item key true report envelopes none limit items item h =
-      ap (address key report)
+      ap (for_client key report)
       (none ∙ ap envelopes (sym (no_batch (if_full limit (items ++ item ∷ [])) (sym (next_full limit items item) ∙ h))))
   unsent_item key false report envelopes none limit items item h = refl
 

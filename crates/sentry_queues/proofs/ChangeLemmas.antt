@@ -7,7 +7,7 @@ use Rattle.sentry_base.specs.declared.protocol.keys.ClientKey.{ClientKey}
 use Rattle.sentry_plain.specs.Tables.{value_at}
 use Rattle.sentry_state.specs.Books.{pending_report}
 use Rattle.sentry_state.specs.Outcomes.{client_at, plain_client_at}
-use Rattle.sentry_sending.specs.Sending.{Sending, address, send, send_nothing, send_some, envelopes_from, after_sending}
+use Rattle.sentry_sending.specs.Sending.{Sending, for_client, send, send_nothing, send_some, envelopes_from, after_sending}
 use Rattle.sentry_state.specs.Changes.{with_client_state}
 use Rattle.sentry_state.specs.Worlds.{World, ClientState, Stands, plain_client}
 use Rattle.sentry_state.specs.declared.state.Client.{Client}
@@ -72,5 +72,5 @@ pub unsent_if_empty : (key : ClientKey) (occupied : Bool) (report : Option Clien
 unsent_if_empty key occupied report envelopes empty = ap (λ b. envelopes_from b key report envelopes) (sym empty)
 
 pub sent_if_occupied : (key : ClientKey) (occupied : Bool) (report : Option ClientReport) (envelopes : List Envelope) (sent : List (ClientKey × Envelope))
-    → occupied ≡ true → sent ≡ address key report envelopes → sent ≡ envelopes_from occupied key report envelopes
+    → occupied ≡ true → sent ≡ for_client key report envelopes → sent ≡ envelopes_from occupied key report envelopes
 sent_if_occupied key occupied report envelopes sent full is = is ∙ ap (λ b. envelopes_from b key report envelopes) (sym full)

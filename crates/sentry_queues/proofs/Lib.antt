@@ -1,3 +1,3 @@
-pub mod MailLemmas
+pub mod ForClient
 pub mod ChangeLemmas
 pub mod BatchSending

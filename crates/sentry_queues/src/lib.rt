@@ -2,6 +2,5 @@
 #![tactic(auto)]
 
 pub mod flushes;
-pub mod flushing;
-mod mail;
+mod prepared_envelopes;
 pub mod telemetry;

@@ -1,15 +1,14 @@
 //! What becomes of captured logs and metrics.
 ghost use Rattle.std.specs.Prelude.{◌≡◌, IfOk, OnErr};
 ghost use Rattle.sentry_state.specs.Books.{with_entry};
+ghost use Rattle.sentry_sending.specs.Sending.{Sends};
 ghost use Rattle.sentry_state.specs.Worlds.{World, Stands};
 ghost use Rattle.sentry_queues.specs.Telemetry.{dropped_item, client_log, client_metric};
 ghost use Rattle.sentry_queues.specs.Telemetry.{accept_log, accept_metric, keep_log, keep_metric};
 
 use crate::flushes::Batches;
-use crate::mail::mail_of;
-use sentry_base::protocol::{
-    Category, ClientKey, Envelope, Label, Log, Losses, Metric, MetricDraft, Reason,
-};
+use crate::prepared_envelopes::prepare_envelopes;
+use sentry_base::protocol::{Category, ClientKey, Label, Log, Losses, Metric, MetricDraft, Reason};
 use sentry_options::clientoptions::Callbacks;
 use sentry_pipeline::pipeline::{
     default_log_attributes, default_metric_attributes, prepare_log, prepare_metric,
@@ -18,7 +17,7 @@ use sentry_plain::Items;
 use sentry_scope::scope::Scope;
 use sentry_sending::sending::mark_sent;
 use sentry_span_table::table::SpanTable;
-use sentry_state::state::{Client, State};
+use sentry_state::state::{Client, Sent, State};
 use std::alloc::{AllocError, Global};
 
 /// The log as a client would send it, or `None` if its callback drops it.
@@ -71,9 +70,8 @@ fn accept_log<P: Drop, C: Callbacks>(
     state: &mut State<P, C>,
     key: ClientKey,
     log: Log,
-) -> Result<Items<(ClientKey, Envelope)>, AllocError>
-    ensures in_world { IfOk result (λ sent. (world : World P C) → Stands state.old world →
-        (sent ≡ (accept_log key log world).sent) × Stands state.new (accept_log key log world).after) }
+) -> Result<Sent, AllocError>
+    ensures in_world { IfOk result (λ sent. Sends state.old state.new sent (accept_log key log)) }
     ensures err { OnErr result (state.new ≡ state.old) }
 {
     let Some(client) = state.client_at(key) else {
@@ -87,9 +85,9 @@ fn accept_log<P: Drop, C: Callbacks>(
         return Ok(Items::new(state.alloc));
     }
     let label = client.label;
-    let mail = mail_of(state, key, label, Items::new(state.alloc))?;
+    let prepared = prepare_envelopes(state, key, label, Items::new(state.alloc))?;
     let logs = state.enqueue_log(key.number, log)?;
-    let sent = mail.finish(Batches {
+    let sent = prepared.finish(Batches {
         logs,
         metrics: None,
     });
@@ -103,9 +101,8 @@ fn accept_metric<P: Drop, C: Callbacks>(
     state: &mut State<P, C>,
     key: ClientKey,
     metric: Metric,
-) -> Result<Items<(ClientKey, Envelope)>, AllocError>
-    ensures in_world { IfOk result (λ sent. (world : World P C) → Stands state.old world →
-        (sent ≡ (accept_metric key metric world).sent) × Stands state.new (accept_metric key metric world).after) }
+) -> Result<Sent, AllocError>
+    ensures in_world { IfOk result (λ sent. Sends state.old state.new sent (accept_metric key metric)) }
     ensures err { OnErr result (state.new ≡ state.old) }
 {
     let Some(client) = state.client_at(key) else {
@@ -119,9 +116,9 @@ fn accept_metric<P: Drop, C: Callbacks>(
         return Ok(Items::new(state.alloc));
     }
     let label = client.label;
-    let mail = mail_of(state, key, label, Items::new(state.alloc))?;
+    let prepared = prepare_envelopes(state, key, label, Items::new(state.alloc))?;
     let metrics = state.enqueue_metric(key.number, metric)?;
-    let sent = mail.finish(Batches {
+    let sent = prepared.finish(Batches {
         logs: None,
         metrics,
     });
@@ -136,9 +133,8 @@ pub fn keep_log<P: Drop, C: Callbacks>(
     key: ClientKey,
     label: Label,
     made: Option<Log>,
-) -> Result<Items<(ClientKey, Envelope)>, AllocError>
-    ensures in_world { IfOk result (λ sent. (world : World P C) → Stands state.old world →
-        (sent ≡ (keep_log key label made world).sent) × Stands state.new (keep_log key label made world).after) }
+) -> Result<Sent, AllocError>
+    ensures in_world { IfOk result (λ sent. Sends state.old state.new sent (keep_log key label made)) }
     ensures err { OnErr result (state.new ≡ state.old) }
 {
     let Some(log) = made else {
@@ -156,10 +152,8 @@ pub fn keep_metric<P: Drop, C: Callbacks>(
     key: ClientKey,
     label: Label,
     made: Option<Metric>,
-) -> Result<Items<(ClientKey, Envelope)>, AllocError>
-    ensures in_world { IfOk result (λ sent. (world : World P C) → Stands state.old world →
-        (sent ≡ (keep_metric key label made world).sent)
-        × Stands state.new (keep_metric key label made world).after) }
+) -> Result<Sent, AllocError>
+    ensures in_world { IfOk result (λ sent. Sends state.old state.new sent (keep_metric key label made)) }
     ensures err { OnErr result (state.new ≡ state.old) }
 {
     let Some(metric) = made else {

@@ -1,5 +1,5 @@
 -- How envelopes leave a client: from an occupied slot alone, and with the pending report of its label.
-use Rattle.std.specs.Prelude.{Bool, Option, Some, None, List, [], ◌∷◌, if◌then◌else◌}
+use Rattle.std.specs.Prelude.{◌≡◌, Bool, Option, Some, None, List, [], ◌∷◌, if◌then◌else◌}
 use Rattle.sentry_base.specs.declared.protocol.client_report.ClientReport.{ClientReport}
 use Rattle.sentry_base.specs.declared.protocol.envelope.Envelope.{Envelope}
 use Rattle.sentry_base.specs.declared.protocol.keys.ClientKey.{ClientKey}
@@ -8,7 +8,8 @@ use Rattle.sentry_client_reports.specs.LossBooks.{report_point}
 use Rattle.sentry_state.specs.Books.{pending_report, with_entry}
 use Rattle.sentry_base.specs.Envelopes.{with_report}
 use Rattle.sentry_state.specs.Outcomes.{Outcome, reply_with}
-use Rattle.sentry_state.specs.Worlds.{World, ClientState}
+use Rattle.sentry_state.specs.declared.state.State.{State}
+use Rattle.sentry_state.specs.Worlds.{World, ClientState, Stands}
 
 -- what is handed out, and the world after it
 pub record Sending (P C : Type 0) : Type 0 where
@@ -16,9 +17,9 @@ pub record Sending (P C : Type 0) : Type 0 where
   pub after : World P C
 
 -- envelopes of a client; the first takes the report, if there is one, as its last item
-abbrev pub address : ClientKey → Option ClientReport → List Envelope → List (ClientKey × Envelope)
-address key report [] = []
-address key report (first ∷ rest) = (key, with_report report first) ∷ address key None rest
+abbrev pub for_client : ClientKey → Option ClientReport → List Envelope → List (ClientKey × Envelope)
+for_client key report [] = []
+for_client key report (first ∷ rest) = (key, with_report report first) ∷ for_client key None rest
 
 -- the report that is left for further envelopes, after these
 abbrev pub report_left : Option ClientReport → List (ClientKey × Envelope) → Option ClientReport
@@ -27,9 +28,15 @@ report_left report (first ∷ rest) = None
 
 -- what leaves a slot: nothing, where it is empty
 abbrev pub envelopes_from : Bool → ClientKey → Option ClientReport → List Envelope → List (ClientKey × Envelope)
-envelopes_from occupied key report envelopes = if occupied then address key report envelopes else []
+envelopes_from occupied key report envelopes = if occupied then for_client key report envelopes else []
 
 module _ {P C : Type 0} where
+  -- these are the envelopes that the function sends, in every world that the engine stood for, and the engine stands
+  -- for the world after them
+  abbrev pub Sends : State P C → State P C → List (ClientKey × Envelope) → (World P C → Sending P C) → Type 0
+  Sends old new sent sending =
+      (world : World P C) → Stands old world → (sent ≡ (sending world).sent) × Stands new (sending world).after
+
   abbrev pub send_nothing : World P C → Sending P C
   send_nothing world = record { sent = []; after = world }
 

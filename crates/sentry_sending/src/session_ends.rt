@@ -4,13 +4,14 @@ ghost use Rattle.sentry_plain.specs.Tables.{value_at, replace_at};
 ghost use Rattle.sentry_hub_table.specs.declared.hub.Hub.{Hub};
 ghost use Rattle.sentry_state.specs.Changes.{with_session};
 ghost use Rattle.sentry_state.specs.Worlds.{World, Stands};
+ghost use Rattle.sentry_sending.specs.Sending.{Sends};
 ghost use Rattle.sentry_sending.specs.SessionEnds.{queue_update, end_session, end_unnamed_session, release_session};
 
 use crate::sending::{envelopes_from, mark_sent};
-use sentry_base::protocol::{ClientKey, Envelope, SessionKey, SessionStatus, SessionUpdate};
+use sentry_base::protocol::{ClientKey, SessionKey, SessionStatus, SessionUpdate};
 use sentry_options::clientoptions::Callbacks;
 use sentry_plain::Items;
-use sentry_state::state::State;
+use sentry_state::state::{Sent, State};
 use std::alloc::AllocError;
 
 // Queues the last update of a session at a client. If out of memory, nothing has changed.
@@ -19,9 +20,8 @@ fn queue_update<P: Drop, C: Callbacks>(
     state: &mut State<P, C>,
     key: ClientKey,
     update: SessionUpdate,
-) -> Result<Items<(ClientKey, Envelope)>, AllocError>
-    ensures in_world { IfOk result (λ sent. (world : World P C) → Stands state.old world →
-        (sent ≡ (queue_update key update world).sent) × Stands state.new (queue_update key update world).after) }
+) -> Result<Sent, AllocError>
+    ensures in_world { IfOk result (λ sent. Sends state.old state.new sent (queue_update key update)) }
     ensures hubs { OnOk result (state.new.hubs ≡ state.old.hubs) }
     ensures next { OnOk result (state.new.next ≡ state.old.next) }
     ensures err { OnErr result (state.new ≡ state.old) }
@@ -47,10 +47,8 @@ pub fn end_session<P: Drop, C: Callbacks>(
     key: SessionKey,
     status: Option<SessionStatus>,
     now: u64,
-) -> Result<Items<(ClientKey, Envelope)>, AllocError>
-    ensures in_world { IfOk result (λ sent. (world : World P C) → Stands state.old world →
-        (sent ≡ (end_session key status now world).sent)
-        × Stands state.new (end_session key status now world).after) }
+) -> Result<Sent, AllocError>
+    ensures in_world { IfOk result (λ sent. Sends state.old state.new sent (end_session key status now)) }
     ensures hubs { OnOk result (state.new.hubs ≡ state.old.hubs) }
     ensures next { OnOk result (state.new.next ≡ state.old.next) }
     ensures err { OnErr result (state.new ≡ state.old) }
@@ -76,10 +74,8 @@ fn end_unnamed_session<P: Drop, C: Callbacks>(
     state: &mut State<P, C>,
     name: Option<SessionKey>,
     now: u64,
-) -> Result<Items<(ClientKey, Envelope)>, AllocError>
-    ensures in_world { IfOk result (λ sent. (world : World P C) → Stands state.old world →
-        (sent ≡ (end_unnamed_session name now world).sent)
-        × Stands state.new (end_unnamed_session name now world).after) }
+) -> Result<Sent, AllocError>
+    ensures in_world { IfOk result (λ sent. Sends state.old state.new sent (end_unnamed_session name now)) }
     ensures hubs { OnOk result (state.new.hubs ≡ state.old.hubs) }
     ensures next { OnOk result (state.new.next ≡ state.old.next) }
     ensures err { OnErr result (state.new ≡ state.old) }
@@ -100,7 +96,7 @@ pub fn release_session<P: Drop, C: Callbacks>(
     state: &mut State<P, C>,
     number: u64,
     now: u64,
-) -> Result<Items<(ClientKey, Envelope)>, AllocError>
+) -> Result<Sent, AllocError>
     ensures in_world { IfOk result (λ sent. (world : World P C) (hub : Hub P) → Stands state.old world →
         value_at state.old.hubs number ≡ Some hub →
         (sent ≡ (release_session number hub now world).sent)

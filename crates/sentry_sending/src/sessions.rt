@@ -8,11 +8,9 @@ ghost use Rattle.sentry_state.specs.Worlds.{World, Stands};
 ghost use Rattle.sentry_sending.specs.Sessions.{replace_session};
 
 use crate::session_ends::release_session;
-use sentry_base::protocol::{ClientKey, Envelope};
 use sentry_options::clientoptions::Callbacks;
-use sentry_plain::Items;
 use sentry_sessions::session::Session;
-use sentry_state::state::State;
+use sentry_state::state::{Sent, State};
 use std::alloc::AllocError;
 
 /// Holds a session under the next number, which is free: the top layer of a hub that is held names it, and gives up
@@ -23,7 +21,7 @@ pub fn replace_session<P: Drop, C: Callbacks>(
     hub: u64,
     session: Session,
     now: u64,
-) -> Result<Items<(ClientKey, Envelope)>, AllocError>
+) -> Result<Sent, AllocError>
     requires left { state.old.next.session < 2 ^ 64 - 1 }
     requires free { value_at state.old.sessions state.old.next.session ≡ None }
     ensures in_world { IfOk result (λ sent. (world : World P C) (held : Hub P) (start : SessionStart) →

@@ -1,12 +1,13 @@
 -- A world after one change.
-use Rattle.std.specs.Prelude.{ℕ, Bool, Option, None, List, ◌∷◌, nat_lt, ◌+◌, ◌-◌, ◌^◌, ◌&&◌, not, is_some, Some, []}
+use Rattle.std.specs.Prelude.{◌≡◌, ℕ, Bool, Option, None, List, ◌∷◌, nat_lt, ◌+◌, ◌-◌, ◌^◌, ◌&&◌, not, is_some, Some, []}
 use Rattle.sentry_plain.specs.Tables.{replace_at, value_at, put}
 use Rattle.sentry_base.specs.declared.protocol.keys.ClientKey.{ClientKey}
 use Rattle.sentry_base.specs.declared.protocol.keys.SessionKey.{SessionKey}
 use Rattle.sentry_sessions.specs.SessionQueues.{QueueEntry}
 use Rattle.sentry_sessions.specs.Sessions.{SessionEntry}
 use Rattle.sentry_hub_table.specs.declared.hub.Hub.{Hub}
-use Rattle.sentry_state.specs.Worlds.{World, ClientState, QueueHistories, SessionState}
+use Rattle.sentry_state.specs.declared.state.State.{State}
+use Rattle.sentry_state.specs.Worlds.{World, ClientState, QueueHistories, SessionState, Stands, plain_client}
 use Rattle.sentry_base.specs.declared.protocol.keys.HubKey.{HubKey}
 use Rattle.sentry_sessions.specs.declared.session.record.SessionStart.{SessionStart}
 use Rattle.sentry_base.specs.declared.protocol.breadcrumb.Breadcrumb.{Breadcrumb}
@@ -58,6 +59,19 @@ with_breadcrumbs hub n added =
     })
 
 module _ {P C : Type 0} where
+  -- at a number that has a hub, what the function makes of that hub stands, and nothing else changed
+  abbrev pub ChangesHub : State P C → State P C → ℕ → (Hub P → Hub P) → Type 0
+  ChangesHub old new number f =
+      (world : World P C) (hub : Hub P) → Stands old world → value_at old.hubs number ≡ Some hub
+      → Stands new (record world { hubs = replace_at world.hubs number (f hub) })
+
+  -- at a number that has a client, what the function makes of that client stands, and nothing else changed
+  abbrev pub ChangesClient : State P C → State P C → ℕ → (ClientState C → ClientState C) → Type 0
+  ChangesClient old new number f =
+      (world : World P C) (client : ClientState C) → Stands old world
+      → value_at old.clients number ≡ Some (plain_client client)
+      → Stands new (record world { clients = replace_at world.clients number (f client) })
+
   -- the world with another client under a key that it has
   abbrev pub with_client_state : World P C → ClientKey → ClientState C → World P C
   with_client_state world key client = record world { clients = replace_at world.clients key.number client }

@@ -11,7 +11,12 @@ use Rattle.sentry_options.specs.declared.clientoptions.ClientOptions.{ClientOpti
 use Rattle.sentry_scope.specs.Stacks.{is_client}
 use Rattle.sentry_pipeline.specs.OsAttributes.{os_attributes}
 use Rattle.std.specs.Option.{is_some}
+use Rattle.sentry_state.specs.declared.state.Client.{Client}
 pub use Rattle.sentry_hub_table.specs.Hubs.{is_client_named}
+
+-- a client is enabled where its options have a DSN and its slot is occupied
+abbrev pub is_enabled_client : {C : Type 0} → Client C → Bool
+is_enabled_client client = is_some client.options.plain.dsn && client.occupied
 
 -- a session that goes on was started under the client
 abbrev pub has_session_of : ClientKey → List (ℕ × SessionState) → Bool

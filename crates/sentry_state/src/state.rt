@@ -5,8 +5,8 @@ ghost use Rattle.std.specs.Option.{option_map};
 ghost use Rattle.sentry_state.specs.Worlds.{World, Stands, starting_world, plain_session};
 ghost use Rattle.sentry_state.specs.Outcomes.{hub_at, plain_client_at, is_held_or_none, named_session};
 
-mod arrivals;
 mod books;
+mod client_queues;
 pub mod clients;
 mod hubs;
 mod sessions;
@@ -25,11 +25,14 @@ use sentry_sessions::session::{Session, SessionQueue};
 use sentry_span_table::table::SpanTable;
 use std::alloc::{AllocError, Global};
 
-/// The reply of a call, and the envelopes that it hands out, each with the client whose transport is to send it.
+/// Envelopes that a call hands out, in order, each with the client whose transport is to send it.
+pub type Sent = Items<(ClientKey, Envelope)>;
+
+/// The reply of a call, and the envelopes that it hands out.
 #[derive(Drop)]
 pub struct Out<T> {
     pub reply: T,
-    pub sent: Items<(ClientKey, Envelope)>,
+    pub sent: Sent,
 }
 
 /// What waits in a client to be sent.

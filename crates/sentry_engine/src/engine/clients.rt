@@ -17,8 +17,7 @@ use sentry_captures::captures::{
 use sentry_options::clientoptions::{Callbacks, ClientOptions};
 use sentry_pipeline::pipeline::prepare_event;
 use sentry_plain::{Boxed, Items, Shared};
-use sentry_queues::flushes::Flush;
-use sentry_queues::flushing::flush_queues;
+use sentry_queues::flushes::{Flush, flush_queues};
 use sentry_scope::scope::Scope;
 use sentry_state::state::clients::{clone_of, new_client};
 use sentry_texts::dsn::Dsn;
@@ -153,8 +152,7 @@ impl<P: Drop, C: Callbacks> Engine<P, C> {
         let Some(held) = self.state.client_at(client) else {
             return Err(Refusal::Stale);
         };
-        let is_enabled = held.options.get().plain.dsn.is_some() && held.occupied;
-        Ok(self.state.out(is_enabled))
+        Ok(self.state.out(held.is_enabled()))
     }
 
     /// Whether what has this draw is sent at this rate. It takes no memory, and is never refused.

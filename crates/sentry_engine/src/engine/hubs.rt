@@ -242,8 +242,7 @@ impl<P: Drop, C: Callbacks> Engine<P, C> {
         let Some(client) = self.state.client_at(key) else {
             return Ok(self.state.out(false));
         };
-        let is_enabled = client.options.get().plain.dsn.is_some() && client.occupied;
-        Ok(self.state.out(is_enabled))
+        Ok(self.state.out(client.is_enabled()))
     }
 
     /// A copy of the top scope.

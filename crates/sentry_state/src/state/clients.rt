@@ -6,7 +6,7 @@ ghost use Rattle.sentry_scope.specs.Stacks.{is_client};
 ghost use Rattle.sentry_state.specs.Worlds.{World, ClientState, Stands, plain_client, plain_queues};
 ghost use Rattle.sentry_state.specs.Books.{with_book, is_label, without_unused_book};
 ghost use Rattle.sentry_options.specs.Options.{set_up};
-ghost use Rattle.sentry_state.specs.Clients.{has_session_of, new_client, clone_from, queues_from};
+ghost use Rattle.sentry_state.specs.Clients.{is_enabled_client, has_session_of, new_client, clone_from, queues_from};
 
 use crate::state::{Client, Queues, State};
 use sentry_base::protocol::{ClientKey, Label};
@@ -110,6 +110,15 @@ fn has_client_of<C>(clients: &Table<Client<C>>, label: Label) -> bool
         }
     }
     false
+}
+
+impl<C> Client<C> {
+    /// Whether it has a DSN, now and when it was added, and a transport.
+    pub fn is_enabled(&self) -> bool
+        ensures { result ≡ is_enabled_client self.now }
+    {
+        self.options.get().plain.dsn.is_some() && self.occupied
+    }
 }
 
 impl<P: Drop, C: Callbacks> State<P, C> {

@@ -6,7 +6,7 @@ ghost use Rattle.sentry_scope.specs.Scopes.{edit};
 ghost use Rattle.sentry_scope.specs.Stacks.{depth, push, pop};
 ghost use Rattle.sentry_hub_table.specs.declared.hub.Hub.{Hub};
 ghost use Rattle.sentry_state.specs.Breadcrumbs.{add_breadcrumbs};
-ghost use Rattle.sentry_state.specs.Changes.{next_hub_key, with_breadcrumbs, with_new_hub};
+ghost use Rattle.sentry_state.specs.Changes.{ChangesHub, next_hub_key, with_breadcrumbs, with_new_hub};
 ghost use Rattle.sentry_state.specs.Outcomes.{Does, with_client, with_scope, with_stack};
 ghost use Rattle.sentry_state.specs.Worlds.{World, Stands};
 
@@ -61,40 +61,29 @@ impl<P: Drop, C: Callbacks> State<P, C> {
 
     /// Removes the top layer of a hub that is held, unless it has no other. It takes no memory.
     pub fn pop_layer(&mut self, number: u64)
-        ensures in_world { (world : World P C) (hub : Hub P) → Stands self.old world →
-            value_at self.old.hubs number ≡ Some hub → Stands self.new (record world {
-              hubs = replace_at world.hubs number (with_stack hub (pop hub.stack));
-            }) }
+        ensures in_world { ChangesHub self.old self.new number (λ hub. with_stack hub (pop hub.stack)) }
     {
         self.hubs.pop(number);
     }
 
     /// Writes the client of the top layer of a hub that is held. It takes no memory.
     pub fn set_client(&mut self, number: u64, client: Option<ClientKey>)
-        ensures in_world { (world : World P C) (hub : Hub P) → Stands self.old world →
-            value_at self.old.hubs number ≡ Some hub → Stands self.new (record world {
-              hubs = replace_at world.hubs number (with_client hub client);
-            }) }
+        ensures in_world { ChangesHub self.old self.new number (λ hub. with_client hub client) }
     {
         self.hubs.set_client(number, client);
     }
 
     /// Writes the top scope of a hub that is held. It takes no memory.
     pub fn set_scope(&mut self, number: u64, scope: Scope<P>)
-        ensures in_world { (world : World P C) (hub : Hub P) → Stands self.old world →
-            value_at self.old.hubs number ≡ Some hub → Stands self.new (record world {
-              hubs = replace_at world.hubs number (with_scope hub scope);
-            }) }
+        ensures in_world { ChangesHub self.old self.new number (λ hub. with_scope hub scope) }
     {
         self.hubs.set_scope(number, scope);
     }
 
     /// Makes one edit of the top scope of a hub that is held, in place. If out of memory, nothing has changed.
     pub fn edit_scope(&mut self, number: u64, setter: ScopeEdit<P>) -> Result<(), AllocError>
-        ensures in_world { OnOk result ((world : World P C) (hub : Hub P) → Stands self.old world →
-            value_at self.old.hubs number ≡ Some hub → Stands self.new (record world {
-              hubs = replace_at world.hubs number (with_scope hub (edit setter hub.stack.top.scope));
-            })) }
+        ensures in_world { OnOk result (ChangesHub self.old self.new number (λ hub.
+            with_scope hub (edit setter hub.stack.top.scope))) }
         ensures err { OnErr result (self.new ≡ self.old) }
     {
         self.hubs.edit_scope(number, setter)
@@ -102,10 +91,7 @@ impl<P: Drop, C: Callbacks> State<P, C> {
 
     /// Notes the last event of a hub that is held.
     pub fn set_last_event_id(&mut self, number: u64, id: Uuid)
-        ensures in_world { (world : World P C) (hub : Hub P) → Stands self.old world →
-            value_at self.old.hubs number ≡ Some hub → Stands self.new (record world {
-              hubs = replace_at world.hubs number (record hub { last_event_id = Some id });
-            }) }
+        ensures in_world { ChangesHub self.old self.new number (λ hub. record hub { last_event_id = Some id }) }
     {
         self.hubs.set_last_event_id(number, id);
     }
@@ -117,10 +103,8 @@ impl<P: Drop, C: Callbacks> State<P, C> {
         breadcrumbs: Items<Breadcrumb>,
         max_breadcrumbs: usize,
     ) -> Result<(), AllocError>
-        ensures in_world { OnOk result ((world : World P C) (hub : Hub P) → Stands self.old world →
-            value_at self.old.hubs number ≡ Some hub → Stands self.new (record world {
-              hubs = replace_at world.hubs number (with_breadcrumbs hub max_breadcrumbs breadcrumbs);
-            })) }
+        ensures in_world { OnOk result (ChangesHub self.old self.new number (λ hub.
+            with_breadcrumbs hub max_breadcrumbs breadcrumbs)) }
         ensures err { OnErr result (self.new ≡ self.old) }
     {
         self.hubs

@@ -3,7 +3,7 @@ ghost use Rattle.std.specs.Prelude.{◌≡◌, ◌<◌, ◌+◌, ◌-◌, ◌^�
 ghost use Rattle.std.specs.Bool.{OnTrue};
 ghost use Rattle.sentry_plain.specs.Tables.{value_at, replace_at, without};
 ghost use Rattle.sentry_hub_table.specs.declared.hub.Hub.{Hub};
-ghost use Rattle.sentry_state.specs.Changes.{is_session_number_left, with_session};
+ghost use Rattle.sentry_state.specs.Changes.{ChangesHub, is_session_number_left, with_session};
 ghost use Rattle.sentry_state.specs.Worlds.{World, SessionState, Stands, plain_session};
 
 use crate::state::State;
@@ -45,10 +45,7 @@ impl<P: Drop, C: Callbacks> State<P, C> {
 
     /// Writes which session the top layer of a hub names.
     pub fn set_session_name(&mut self, number: u64, name: Option<SessionKey>)
-        ensures in_world { (world : World P C) (hub : Hub P) → Stands self.old world →
-            value_at self.old.hubs number ≡ Some hub → Stands self.new (record world {
-              hubs = replace_at world.hubs number (with_session hub name);
-            }) }
+        ensures in_world { ChangesHub self.old self.new number (λ hub. with_session hub name) }
         ensures next { self.new.next ≡ self.old.next }
         ensures engine { (hub : Hub P) → value_at self.old.hubs number ≡ Some hub →
             self.new ≡ record self.old { hubs = replace_at self.old.hubs number (with_session hub name) } }

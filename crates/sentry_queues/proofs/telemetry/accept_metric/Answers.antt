@@ -4,7 +4,7 @@ use Rattle.sentry_base.specs.declared.protocol.metric.Metric.{Metric}
 use Rattle.sentry_batches.specs.Batches.{accept, batch_on, hands_out_next, queued_items}
 use Rattle.sentry_state.specs.Books.{pending_report}
 use Rattle.sentry_queues.specs.Flushes.{batch_envelopes}
-use Rattle.sentry_sending.specs.Sending.{address}
+use Rattle.sentry_sending.specs.Sending.{for_client}
 use Rattle.sentry_queues.specs.Telemetry.{accept_metric}
 use Rattle.sentry_state.specs.Changes.{with_metric_entry}
 use Rattle.sentry_state.specs.Worlds.{ClientState}
@@ -40,9 +40,9 @@ returns-clause-in_world g c = λ world s.
     (c.in-Some.ensures world s) c.if-client.false c.finish-sent.result (λ client there is.
     let pending = pending_report world c.in-Some.client.now.label in
     let batch = c.in_ok-metrics.ensures.batch client there in
-    let mailed = c.in_ok-mail.ensures.sent world s (batch_envelopes None c.in_ok-metrics.metrics) in
+    let addressed = c.in_ok-prepared.ensures.sent world s (batch_envelopes None c.in_ok-metrics.metrics) in
     let stands = c.in_ok-metrics.ensures.in_world world client s there in (
       sent_if_occupied c.args.key c.in-Some.client.now.occupied pending _ _ (and_true _ _ leaves)
-          (c.finish-sent.ensures ∙ (mailed ∙ (λ i. address c.args.key pending (c.new-2.ensures i ++ batch_envelopes None (batch i))))),
+          (c.finish-sent.ensures ∙ (addressed ∙ (λ i. for_client c.args.key pending (c.new-2.ensures i ++ batch_envelopes None (batch i))))),
       c.mark_sent.ensures.in_world _ stands,
     ))

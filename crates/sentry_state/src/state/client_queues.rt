@@ -1,10 +1,10 @@
 //! What comes to the queues of a client.
 ghost use Rattle.std.specs.Prelude.{◌≡◌, ◌&&◌, IfOk, OnOk, OnErr, Some};
-ghost use Rattle.sentry_plain.specs.Tables.{value_at, replace_at};
+ghost use Rattle.sentry_plain.specs.Tables.{value_at};
 ghost use Rattle.sentry_batches.specs.Batches.{accept, batch_on, hands_out_next};
 ghost use Rattle.sentry_sessions.specs.SessionQueues.{enqueued};
-ghost use Rattle.sentry_state.specs.Changes.{with_client_entry, with_log_entry, with_metric_entry};
-ghost use Rattle.sentry_state.specs.Worlds.{World, ClientState, Stands, plain_client};
+ghost use Rattle.sentry_state.specs.Changes.{ChangesClient, with_client_entry, with_log_entry, with_metric_entry};
+ghost use Rattle.sentry_state.specs.Worlds.{ClientState, plain_client};
 
 use crate::state::{Client, State};
 use sentry_base::protocol::{Log, Metric, SessionUpdate};
@@ -33,10 +33,7 @@ impl<P: Drop, C: Callbacks> State<P, C> {
     /// changed.
     #[tactic(auto, using(crate::proofs::Keeping::changed_same))]
     pub fn enqueue_update(&mut self, number: u64, update: SessionUpdate) -> Result<(), AllocError>
-        ensures in_world { OnOk result ((world : World P C) (client : ClientState C) → Stands self.old world →
-            value_at self.old.clients number ≡ Some (plain_client client) → Stands self.new (record world {
-              clients = replace_at world.clients number (with_client_entry (enqueued update) client);
-            })) }
+        ensures in_world { OnOk result (ChangesClient self.old self.new number (with_client_entry (enqueued update))) }
         ensures hubs { self.new.hubs ≡ self.old.hubs }
         ensures next { self.new.next ≡ self.old.next }
         ensures err { OnErr result (self.new ≡ self.old) }
@@ -52,10 +49,7 @@ impl<P: Drop, C: Callbacks> State<P, C> {
     /// many as the client's limit says. If out of memory, nothing has changed.
     #[tactic(auto, using(crate::proofs::Keeping::changed_same))]
     pub fn enqueue_log(&mut self, number: u64, log: Log) -> Result<Option<Items<Log>>, AllocError>
-        ensures in_world { OnOk result ((world : World P C) (client : ClientState C) → Stands self.old world →
-            value_at self.old.clients number ≡ Some (plain_client client) → Stands self.new (record world {
-              clients = replace_at world.clients number (with_log_entry (accept log) client);
-            })) }
+        ensures in_world { OnOk result (ChangesClient self.old self.new number (with_log_entry (accept log))) }
         ensures batch { IfOk result (λ batch. (client : ClientState C) →
             value_at self.old.clients number ≡ Some (plain_client client) →
             batch ≡ batch_on client.options.plain.max_batch_items (accept log) client.queues.logs) }
@@ -75,10 +69,7 @@ impl<P: Drop, C: Callbacks> State<P, C> {
         number: u64,
         metric: Metric,
     ) -> Result<Option<Items<Metric>>, AllocError>
-        ensures in_world { OnOk result ((world : World P C) (client : ClientState C) → Stands self.old world →
-            value_at self.old.clients number ≡ Some (plain_client client) → Stands self.new (record world {
-              clients = replace_at world.clients number (with_metric_entry (accept metric) client);
-            })) }
+        ensures in_world { OnOk result (ChangesClient self.old self.new number (with_metric_entry (accept metric))) }
         ensures batch { IfOk result (λ batch. (client : ClientState C) →
             value_at self.old.clients number ≡ Some (plain_client client) →
             batch ≡ batch_on client.options.plain.max_batch_items (accept metric) client.queues.metrics) }

@@ -1,13 +1,13 @@
 use Rattle.std.proofs.Common.{◌≡◌, ◌∙◌, ◌++◌, ◌==◌, ap, sym, true, false, rules, length}
 use Rattle.sentry_state.specs.Books.{pending_report}
 use Rattle.sentry_queues.specs.Flushes.{flush_queues, flushed_envelopes, after_flush, session_envelopes, batch_envelopes, is_flushed}
-use Rattle.sentry_sending.specs.Sending.{address}
+use Rattle.sentry_sending.specs.Sending.{for_client}
 use Rattle.sentry_state.specs.Worlds.{ClientState}
 use Rattle.sentry_state.specs.declared.state.Client.{Client}
 use Rattle.sentry_queues.specs.declared.flushes.TheConstants.{SESSION_INTERVAL}
 use Rattle.sentry_queues.proofs.BatchSending.{none_if_empty}
 use Rattle.sentry_queues.proofs.ChangeLemmas.{client_changed, client_changed_unsent, sent_if_occupied, unsent_if_empty}
-use Rattle.sentry_queues.proofs.flushing.flush_queues.Goals as goal
+use Rattle.sentry_queues.proofs.flushes.flush_queues.Goals as goal
 
 -- an empty slot drops what was flushed
 pub returns-then-not-client-clause-in_world : goal.returns-then-not-client-clause-in_world
@@ -41,7 +41,7 @@ returns-then-not-has_batch-clause-in_world g c = λ world s.
     let metrics = sym (c.has_batch.ensures.metrics client.options.plain client.queues c.args.flush queues no_batch) in
     let pending = pending_report world c.in-Some.client.now.label in (
       sent_if_occupied c.args.key c.in-Some.client.now.occupied pending _ _ occupied
-          (λ i. address c.args.key pending (sessions i ++ batch_envelopes (logs i) (metrics i))),
+          (λ i. for_client c.args.key pending (sessions i ++ batch_envelopes (logs i) (metrics i))),
       c.take_flushed-then-not-has_batch.ensures.in_world world client s there,
     ))
 
@@ -59,9 +59,9 @@ returns-clause-in_world g c = λ world s.
     let logs = c.take_flushed-batches.ensures.logs client there in
     let metrics = c.take_flushed-batches.ensures.metrics client there in
     let pending = pending_report world c.in-Some.client.now.label in
-    let mailed = c.in_ok-mail.ensures.sent world s (batch_envelopes c.take_flushed-batches.result.logs c.take_flushed-batches.result.metrics) in
+    let addressed = c.in_ok-prepared.ensures.sent world s (batch_envelopes c.take_flushed-batches.result.logs c.take_flushed-batches.result.metrics) in
     let stands = c.take_flushed-batches.ensures.in_world world client s there in (
       sent_if_occupied c.args.key c.in-Some.client.now.occupied pending _ _ occupied
-          (c.finish-sent.ensures ∙ (mailed ∙ (λ i. address c.args.key pending (sessions i ++ batch_envelopes (logs i) (metrics i))))),
+          (c.finish-sent.ensures ∙ (addressed ∙ (λ i. for_client c.args.key pending (sessions i ++ batch_envelopes (logs i) (metrics i))))),
       c.mark_sent.ensures.in_world _ stands,
     ))

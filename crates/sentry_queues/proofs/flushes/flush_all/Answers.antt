@@ -1,6 +1,6 @@
 use Rattle.std.proofs.Common.{ap}
 use Rattle.sentry_state.specs.declared.state.Queues.{Queues}
-use Rattle.sentry_queues.proofs.flushing.flush_all.Goals as goal
+use Rattle.sentry_queues.proofs.flushes.flush_all.Goals as goal
 
 -- each queue stands for its history with a flush
 pub returns-clause-queues : goal.returns-clause-queues

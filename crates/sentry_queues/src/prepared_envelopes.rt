@@ -7,7 +7,7 @@ ghost use Rattle.sentry_sessions.specs.SessionQueues.{envelope_of};
 ghost use Rattle.sentry_state.specs.Books.{pending_report};
 ghost use Rattle.sentry_base.specs.Envelopes.{with_report};
 ghost use Rattle.sentry_queues.specs.Flushes.{envelope_if_some, batch_envelopes};
-ghost use Rattle.sentry_sending.specs.Sending.{address, report_left};
+ghost use Rattle.sentry_sending.specs.Sending.{for_client, report_left};
 ghost use Rattle.sentry_state.specs.Worlds.{World, Stands};
 
 use crate::flushes::Batches;
@@ -17,11 +17,11 @@ use sentry_base::protocol::{
 use sentry_options::clientoptions::Callbacks;
 use sentry_plain::Items;
 use sentry_sending::sending::envelopes_from;
-use sentry_state::state::State;
+use sentry_state::state::{Sent, State};
 use std::alloc::{AllocError, Global};
 
 // Envelopes of a client, with room for one of logs and for one of metrics, which takes no more memory.
-pub(crate) struct Mail {
+pub(crate) struct PreparedEnvelopes {
     key: ClientKey,
     // Goes along with the first of the envelopes that are still to come.
     report: Option<ClientReport>,
@@ -31,9 +31,9 @@ pub(crate) struct Mail {
     metrics: Vec<EnvelopeItem>,
 }
 
-impl Drop for Mail {
+impl Drop for PreparedEnvelopes {
     fn drop(self) {
-        let Mail {
+        let PreparedEnvelopes {
             key: _,
             report: _,
             sent: _,
@@ -56,7 +56,11 @@ fn push_report(items: &mut Vec<EnvelopeItem>, report: Option<ClientReport>)
 }
 
 // An envelope of one item, and a report, if there is one, for which there is room.
-fn seal(mut items: Vec<EnvelopeItem>, added: EnvelopeItem, report: Option<ClientReport>) -> Envelope
+fn with_report(
+    mut items: Vec<EnvelopeItem>,
+    added: EnvelopeItem,
+    report: Option<ClientReport>,
+) -> Envelope
     requires empty { items.items ≡ [] }
     requires room { vec_len items + 2 ≤ vec_capacity items }
     ensures { result ≡ with_report report (envelope_of (added ∷ [])) }
@@ -83,15 +87,15 @@ fn push_if_some(
     requires sent { vec_len sent.old < vec_capacity sent.old }
     requires empty { room.items ≡ [] }
     requires room { vec_len room + 2 ≤ vec_capacity room }
-    ensures items { (others : List Envelope) → sent.new.items ++ address key report.new others
-        ≡ sent.old.items ++ address key report.old (envelope_if_some added others) }
+    ensures items { (others : List Envelope) → sent.new.items ++ for_client key report.new others
+        ≡ sent.old.items ++ for_client key report.old (envelope_if_some added others) }
     ensures len { vec_len sent.new ≤ vec_len sent.old + 1 }
     ensures capacity { vec_capacity sent.new ≡ vec_capacity sent.old }
 {
     let Some(added) = added else {
         return;
     };
-    let envelope = seal(room, added, report.take());
+    let envelope = with_report(room, added, report.take());
     sent.push_reserved((key, envelope));
 }
 
@@ -109,16 +113,16 @@ fn metrics_item(metrics: Option<Items<Metric>>) -> Option<EnvelopeItem>
     Some(EnvelopeItem::Metrics(metrics?))
 }
 
-impl Mail {
+impl PreparedEnvelopes {
     // All envelopes: those that were made before, and those of the batches. It takes no memory.
-    pub(crate) fn finish(self, batches: Batches) -> Items<(ClientKey, Envelope)>
+    pub(crate) fn finish(self, batches: Batches) -> Sent
         requires sent { vec_len self.sent + 2 ≤ vec_capacity self.sent }
         requires logs { (self.logs.items ≡ []) × (vec_len self.logs + 2 ≤ vec_capacity self.logs) }
         requires metrics { (self.metrics.items ≡ []) × (vec_len self.metrics + 2 ≤ vec_capacity self.metrics) }
         ensures { result ≡ self.sent.items
-            ++ address self.key self.report (batch_envelopes batches.logs batches.metrics) }
+            ++ for_client self.key self.report (batch_envelopes batches.logs batches.metrics) }
     {
-        let Mail {
+        let PreparedEnvelopes {
             key,
             mut report,
             mut sent,
@@ -141,7 +145,7 @@ impl Mail {
 fn report_left<P: Drop, C: Callbacks>(
     state: &State<P, C>,
     label: Label,
-    sent: &Items<(ClientKey, Envelope)>,
+    sent: &Sent,
 ) -> Result<Option<ClientReport>, AllocError>
     ensures { (world : World P C) → Stands state.now world → IfOk result (λ report.
         report ≡ report_left (pending_report world label) sent.now) }
@@ -154,19 +158,19 @@ fn report_left<P: Drop, C: Callbacks>(
 }
 
 // Envelopes of a client whose slot is occupied, the first with the pending report, and room for those of batches.
-pub(crate) fn mail_of<P: Drop, C: Callbacks>(
+pub(crate) fn prepare_envelopes<P: Drop, C: Callbacks>(
     state: &State<P, C>,
     key: ClientKey,
     label: Label,
     envelopes: Items<Envelope>,
-) -> Result<Mail, AllocError>
-    ensures sent { (world : World P C) → Stands state.now world → IfOk result (λ mail. (others : List Envelope) →
-        mail.sent.items ++ address mail.key mail.report others
-        ≡ address key (pending_report world label) (envelopes ++ others)) }
-    ensures room { IfOk result (λ mail. vec_len mail.sent + 2 ≤ vec_capacity mail.sent) }
-    ensures logs { IfOk result (λ mail. (mail.logs.items ≡ []) × (vec_len mail.logs + 2 ≤ vec_capacity mail.logs)) }
-    ensures metrics { IfOk result (λ mail.
-        (mail.metrics.items ≡ []) × (vec_len mail.metrics + 2 ≤ vec_capacity mail.metrics)) }
+) -> Result<PreparedEnvelopes, AllocError>
+    ensures sent { (world : World P C) → Stands state.now world → IfOk result (λ prepared. (others : List Envelope) →
+        prepared.sent.items ++ for_client prepared.key prepared.report others
+        ≡ for_client key (pending_report world label) (envelopes ++ others)) }
+    ensures room { IfOk result (λ prepared. vec_len prepared.sent + 2 ≤ vec_capacity prepared.sent) }
+    ensures logs { IfOk result (λ prepared. (prepared.logs.items ≡ []) × (vec_len prepared.logs + 2 ≤ vec_capacity prepared.logs)) }
+    ensures metrics { IfOk result (λ prepared.
+        (prepared.metrics.items ≡ []) × (vec_len prepared.metrics + 2 ≤ vec_capacity prepared.metrics)) }
 {
     let sent = envelopes_from(state, true, key, label, envelopes)?;
     let report = report_left(state, label, &sent)?;
@@ -174,7 +178,7 @@ pub(crate) fn mail_of<P: Drop, C: Callbacks>(
     sent.reserve(2)?;
     let logs = Vec::with_capacity(state.alloc, 2)?;
     let metrics = Vec::with_capacity(state.alloc, 2)?;
-    Ok(Mail {
+    Ok(PreparedEnvelopes {
         key,
         report,
         sent,

@@ -1,7 +1,7 @@
 use Rattle.std.proofs.Common.{◌≡◌, ◌∙◌, Some}
 use Rattle.sentry_state.specs.Worlds.{plain_client}
 use Rattle.sentry_state.proofs.Keeping.{client_replaced}
-use Rattle.sentry_queues.proofs.flushing.take_flushed.Goals as goal
+use Rattle.sentry_queues.proofs.flushes.take_flushed.Goals as goal
 
 pub returns-clause-in_world : goal.returns-clause-in_world
 returns-clause-in_world g c = λ world client s found.
