@@ -1,5 +1,5 @@
 -- What the calls on clients answer, hand out and leave.
-use Rattle.std.specs.Prelude.{ℕ, nat_lt, ◌-◌, Bool, not, ◌&&◌, Option, None, is_some, List, [], ◌∷◌, ◌+◌, ◌^◌, ◌==◌, if◌then◌else◌}
+use Rattle.std.specs.Prelude.{ℕ, nat_lt, ◌-◌, Bool, not, Option, None, List, [], ◌∷◌, ◌+◌, ◌^◌, ◌==◌, if◌then◌else◌}
 use Rattle.std.specs.Option.{option_map, option_and_then}
 use Rattle.sentry_plain.specs.Tables.{put, without}
 use Rattle.sentry_texts.specs.DsnParts.{DsnParts}
@@ -9,7 +9,6 @@ use Rattle.sentry_base.specs.declared.protocol.refusal.Refusal.TheVariants.{Stal
 use Rattle.sentry_options.specs.declared.clientoptions.ClientOptions.{ClientOptions}
 use Rattle.sentry_base.specs.Callbacks.{Partial}
 use Rattle.sentry_options.specs.Meanings.{Meanings}
-use Rattle.sentry_state.specs.declared.state.Client.{Client}
 use Rattle.sentry_base.specs.declared.protocol.event.Event.{Event}
 use Rattle.sentry_base.specs.declared.protocol.envelope.Envelope.{Envelope}
 use Rattle.sentry_base.specs.declared.protocol.fresh.Fresh.{Fresh}
