@@ -1,5 +1,5 @@
 //! The hubs of an engine.
-ghost use Rattle.std.specs.Prelude.{◌≡◌, [], Some, IfOk, OnOk, OnErr, length, option_copied};
+ghost use Rattle.std.specs.Prelude.{◌≡◌, [], Some, true, is_some, IfOk, OnOk, OnErr, length, option_copied};
 ghost use Rattle.sentry_plain.specs.Tables.{value_at, put, replace_at, without};
 ghost use Rattle.sentry_scope.specs.Scopes.{edit, breadcrumb_trail};
 ghost use Rattle.sentry_scope.specs.Stacks.{depth, push, pop};
@@ -113,13 +113,14 @@ impl<P> HubTable<P> {
 }
 
 impl<P: Drop> HubTable<P> {
-    /// The top layer of a hub names this client, or none. It takes no memory.
+    /// The top layer of a hub that is held names this client, or none. It takes no memory.
     pub fn set_client(&mut self, number: u64, client: Option<ClientKey>)
+        requires { is_some (value_at self.old number) ≡ true }
         ensures { (hub : Hub P) → value_at self.old number ≡ Some hub →
             self.new ≡ replace_at self.old number (with_client hub client) }
     {
         let Some(hub) = self.hubs.get_mut(number) else {
-            return;
+            unreachable!()
         };
         let before = hub.stack.top.client;
         hub.stack.top.client = client;
@@ -127,13 +128,14 @@ impl<P: Drop> HubTable<P> {
         self.names.clients.raise(client_name(client));
     }
 
-    /// The top layer of a hub names this session, or none. It takes no memory.
+    /// The top layer of a hub that is held names this session, or none. It takes no memory.
     pub fn set_session(&mut self, number: u64, session: Option<SessionKey>)
+        requires { is_some (value_at self.old number) ≡ true }
         ensures { (hub : Hub P) → value_at self.old number ≡ Some hub →
             self.new ≡ replace_at self.old number (with_session hub session) }
     {
         let Some(hub) = self.hubs.get_mut(number) else {
-            return;
+            unreachable!()
         };
         let before = hub.stack.top.session;
         hub.stack.top.session = session;
@@ -141,13 +143,14 @@ impl<P: Drop> HubTable<P> {
         self.names.sessions.raise(session_name(session));
     }
 
-    /// Replaces the top scope of a hub. It takes no memory.
+    /// Replaces the top scope of a hub that is held. It takes no memory.
     pub fn set_scope(&mut self, number: u64, scope: Scope<P>)
+        requires { is_some (value_at self.old number) ≡ true }
         ensures { (hub : Hub P) → value_at self.old number ≡ Some hub →
             self.new ≡ replace_at self.old number (with_scope hub scope) }
     {
         let Some(hub) = self.hubs.get_mut(number) else {
-            return;
+            unreachable!()
         };
         let before = hub.stack.top.scope.span;
         let after = scope.span;
@@ -158,15 +161,16 @@ impl<P: Drop> HubTable<P> {
         self.names.spans.raise(span_name(after));
     }
 
-    /// Makes one edit of the top scope of a hub, in place. If out of memory, nothing has changed.
+    /// Makes one edit of the top scope of a hub that is held, in place. If out of memory, nothing has changed.
     #[tactic(auto, using(crate::proofs::TallyLemmas::changed_same))]
     pub fn edit_scope(&mut self, number: u64, setter: ScopeEdit<P>) -> Result<(), AllocError>
+        requires { is_some (value_at self.old number) ≡ true }
         ensures ok { OnOk result ((hub : Hub P) → value_at self.old number ≡ Some hub →
             self.new ≡ replace_at self.old number (with_scope hub (edit setter hub.stack.top.scope))) }
         ensures err { OnErr result (self.new ≡ self.old) }
     {
         let Some(hub) = self.hubs.get_mut(number) else {
-            return Ok(());
+            unreachable!()
         };
         let before = hub.stack.top.scope.span;
         hub.stack.top.scope.edit(setter)?;
@@ -178,7 +182,7 @@ impl<P: Drop> HubTable<P> {
         Ok(())
     }
 
-    /// Adds breadcrumbs to the top scope of a hub, in place. If out of memory, nothing has changed.
+    /// Adds breadcrumbs to the top scope of a hub that is held, in place. If out of memory, nothing has changed.
     #[tactic(auto, using(crate::proofs::TallyLemmas::changed_same))]
     pub fn add_breadcrumbs(
         &mut self,
@@ -186,6 +190,7 @@ impl<P: Drop> HubTable<P> {
         added: Items<Breadcrumb>,
         max_breadcrumbs: usize,
     ) -> Result<(), AllocError>
+        requires { is_some (value_at self.old number) ≡ true }
         ensures ok { OnOk result ((hub : Hub P) → value_at self.old number ≡ Some hub →
             self.new ≡ replace_at self.old number (with_scope hub (record hub.stack.top.scope {
               breadcrumbs = breadcrumb_trail max_breadcrumbs hub.stack.top.scope.breadcrumbs added;
@@ -193,27 +198,29 @@ impl<P: Drop> HubTable<P> {
         ensures err { OnErr result (self.new ≡ self.old) }
     {
         let Some(hub) = self.hubs.get_mut(number) else {
-            return Ok(());
+            unreachable!()
         };
         hub.stack.top.scope.add_breadcrumbs(added, max_breadcrumbs)?;
         Ok(())
     }
 
-    /// Notes the last event of a hub. It takes no memory.
+    /// Notes the last event of a hub that is held. It takes no memory.
     pub fn set_last_event_id(&mut self, number: u64, id: Uuid)
+        requires { is_some (value_at self.old number) ≡ true }
         ensures { (hub : Hub P) → value_at self.old number ≡ Some hub →
             self.new ≡ replace_at self.old number (record hub { last_event_id = Some id }) }
     {
         let Some(hub) = self.hubs.get_mut(number) else {
-            return;
+            unreachable!()
         };
         hub.last_event_id = Some(id);
     }
 
-    /// Puts a copy of the top layer of a hub on it, and returns the depth after it. If out of memory, nothing has
+    /// Puts a copy of the top layer of a hub that is held on it, and returns the depth after it. If out of memory, nothing has
     /// changed.
     #[tactic(auto, using(crate::proofs::TallyLemmas::changed_same))]
     pub fn push(&mut self, number: u64) -> Result<usize, AllocError>
+        requires { is_some (value_at self.old number) ≡ true }
         ensures ok { IfOk result (λ pushed. (hub : Hub P) → value_at self.old number ≡ Some hub →
             (pushed ≡ depth (push hub.stack))
             × (self.new ≡ replace_at self.old number (with_stack hub (push hub.stack)))) }
@@ -224,7 +231,7 @@ impl<P: Drop> HubTable<P> {
         };
         self.names.reserve(layers)?;
         let Some(hub) = self.hubs.get_mut(number) else {
-            return Ok(0);
+            unreachable!()
         };
         hub.stack.push()?;
         let depth = hub.stack.depth();
@@ -234,14 +241,15 @@ impl<P: Drop> HubTable<P> {
         Ok(depth)
     }
 
-    /// Removes the top layer of a hub, unless it has no other. It takes no memory.
+    /// Removes the top layer of a hub that is held, unless it has no other. It takes no memory.
     #[tactic(auto, using(crate::proofs::TallyLemmas::changed_same))]
     pub fn pop(&mut self, number: u64)
+        requires { is_some (value_at self.old number) ≡ true }
         ensures { (hub : Hub P) → value_at self.old number ≡ Some hub →
             self.new ≡ replace_at self.old number (with_stack hub (pop hub.stack)) }
     {
         let Some(hub) = self.hubs.get_mut(number) else {
-            return;
+            unreachable!()
         };
         let names = layer_names(&hub.stack.top);
         if let Err(_) = hub.stack.pop() {

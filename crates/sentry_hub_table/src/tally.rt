@@ -77,11 +77,9 @@ fn lower_entry(counts: &mut Table<u128>, number: u64)
     ensures total { sum (values_of counts.old) ≡ sum (values_of counts.new) + 1 }
 {
     let Some(count) = counts.get_mut(number) else {
-        return;
+        unreachable!()
     };
-    if *count != 0 {
-        *count -= 1;
-    }
+    *count -= 1;
 }
 
 impl Tally {

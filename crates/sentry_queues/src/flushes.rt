@@ -1,5 +1,5 @@
 //! Flushes of a client's queues.
-ghost use Rattle.std.specs.Prelude.{◌≡◌, false, IfOk, OnErr, Some, None};
+ghost use Rattle.std.specs.Prelude.{◌≡◌, true, false, is_some, IfOk, OnErr, Some, None};
 ghost use Rattle.sentry_queues.specs.declared.flushes.Flush.{Flush};
 ghost use Rattle.sentry_plain.specs.Tables.{value_at};
 ghost use Rattle.sentry_options.specs.declared.clientoptions.plain.PlainOptions.{PlainOptions};
@@ -163,6 +163,7 @@ fn take_flushed<P: Drop, C: Callbacks>(
     number: u64,
     flush: Flush,
 ) -> Batches
+    requires { is_some (value_at state.old.clients number) ≡ true }
     ensures in_world { ChangesClient state.old state.new number (after_flush flush) }
     ensures logs { (client : ClientState C) → value_at state.old.clients number ≡ Some (plain_client client) →
         result.logs ≡ flushed_logs client.options.plain.max_batch_items flush client.queues }
@@ -170,10 +171,7 @@ fn take_flushed<P: Drop, C: Callbacks>(
         result.metrics ≡ flushed_metrics client.options.plain.max_batch_items flush client.queues }
 {
     let Some(client) = state.clients.get_mut(number) else {
-        return Batches {
-            logs: None,
-            metrics: None,
-        };
+        unreachable!()
     };
     flush_client(client, flush)
 }

@@ -1,5 +1,5 @@
 //! When a session ends, and what becomes of it.
-ghost use Rattle.std.specs.Prelude.{◌≡◌, IfOk, OnOk, OnErr, Some, None};
+ghost use Rattle.std.specs.Prelude.{◌≡◌, IfOk, OnOk, OnErr, Some, None, true, is_some};
 ghost use Rattle.sentry_plain.specs.Tables.{value_at, replace_at};
 ghost use Rattle.sentry_hub_table.specs.declared.hub.Hub.{Hub};
 ghost use Rattle.sentry_state.specs.Changes.{with_session};
@@ -91,23 +91,25 @@ fn end_unnamed_session<P: Drop, C: Callbacks>(
     Ok(sent)
 }
 
-/// The top layer of a hub gives up the session that it names. If out of memory, nothing has changed.
+/// The top layer of a hub that is held gives up the session that it names. If out of memory, nothing has changed.
 pub fn release_session<P: Drop, C: Callbacks>(
     state: &mut State<P, C>,
     number: u64,
     now: u64,
 ) -> Result<Sent, AllocError>
+    requires { is_some (value_at state.old.hubs number) ≡ true }
     ensures in_world { IfOk result (λ sent. (world : World P C) (hub : Hub P) → Stands state.old world →
         value_at state.old.hubs number ≡ Some hub →
         (sent ≡ (release_session number hub now world).sent)
         × Stands state.new (release_session number hub now world).after) }
     ensures hubs { OnOk result ((hub : Hub P) → value_at state.old.hubs number ≡ Some hub →
         state.new.hubs ≡ replace_at state.old.hubs number (with_session hub None)) }
+    ensures held { OnOk result (is_some (value_at state.new.hubs number) ≡ true) }
     ensures next { OnOk result (state.new.next ≡ state.old.next) }
     ensures err { OnErr result (state.new ≡ state.old) }
 {
     let Some(hub) = state.hubs.get(number) else {
-        return Ok(Items::new(state.alloc));
+        unreachable!()
     };
     let name = hub.stack.top.session;
     state.hubs.set_session(number, None);

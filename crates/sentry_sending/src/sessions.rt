@@ -1,5 +1,5 @@
 //! How a session starts in place of another.
-ghost use Rattle.std.specs.Prelude.{◌≡◌, ◌<◌, ◌-◌, ◌^◌, IfOk, OnErr, Some, None, []};
+ghost use Rattle.std.specs.Prelude.{◌≡◌, ◌<◌, ◌-◌, ◌^◌, IfOk, OnErr, Some, None, true, is_some, []};
 ghost use Rattle.sentry_plain.specs.Tables.{value_at};
 ghost use Rattle.sentry_sessions.specs.Sessions.{session_of};
 ghost use Rattle.sentry_sessions.specs.declared.session.record.SessionStart.{SessionStart};
@@ -24,6 +24,7 @@ pub fn replace_session<P: Drop, C: Callbacks>(
 ) -> Result<Sent, AllocError>
     requires left { state.old.next.session < 2 ^ 64 - 1 }
     requires free { value_at state.old.sessions state.old.next.session ≡ None }
+    requires held { is_some (value_at state.old.hubs hub) ≡ true }
     ensures in_world { IfOk result (λ sent. (world : World P C) (held : Hub P) (start : SessionStart) →
         Stands state.old world → value_at state.old.hubs hub ≡ Some held → session ≡ session_of start [] →
         (sent ≡ (replace_session hub held now start world).sent)

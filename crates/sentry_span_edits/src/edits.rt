@@ -1,5 +1,5 @@
 //! How one edit changes a transaction or a span.
-ghost use Rattle.std.specs.Prelude.{◌≡◌, OnOk, OnErr, Some};
+ghost use Rattle.std.specs.Prelude.{◌≡◌, OnOk, OnErr, Some, true, is_some};
 ghost use Rattle.std.specs.Option.{option_map};
 ghost use Rattle.sentry_plain.specs.Tables.{value_at, replace_at};
 ghost use Rattle.sentry_span_edits.specs.Edits.{edit_context, edit_held, edit_sent, edit_span, edit_span_record, edit_unfinished};
@@ -114,6 +114,7 @@ fn edit_span(alloc: Global, span: &mut Span, edit: SpanEdit) -> Result<(), Alloc
 // Edits a transaction that a table holds. If out of memory, nothing has changed.
 #[tactic(auto, using(sentry_span_table::proofs::SpanTableLemmas::changed_same))]
 fn edit_transaction_at(spans: &mut SpanTable, number: u64, edit: SpanEdit) -> Result<(), AllocError>
+    requires { is_some (value_at spans.old.transactions number) ≡ true }
     ensures ok { OnOk result ((held : TransactionRecord) → value_at spans.old.transactions number ≡ Some held →
         spans.new ≡ record spans.old {
           transactions = replace_at spans.old.transactions number (edit_held edit held);
@@ -121,7 +122,7 @@ fn edit_transaction_at(spans: &mut SpanTable, number: u64, edit: SpanEdit) -> Re
     ensures err { OnErr result (spans.new ≡ spans.old) }
 {
     let Some(held) = spans.transactions.get_mut(number) else {
-        return Ok(());
+        unreachable!()
     };
     edit_held(held, edit)?;
     Ok(())
@@ -135,6 +136,7 @@ fn edit_span_at(
     number: u64,
     edit: SpanEdit,
 ) -> Result<(), AllocError>
+    requires { is_some (value_at spans.old.spans number) ≡ true }
     ensures ok { OnOk result ((held : SpanRecord) → value_at spans.old.spans number ≡ Some held →
         spans.new ≡ record spans.old {
           spans = replace_at spans.old.spans number (edit_span_record edit held);
@@ -142,7 +144,7 @@ fn edit_span_at(
     ensures err { OnErr result (spans.new ≡ spans.old) }
 {
     let Some(held) = spans.spans.get_mut(number) else {
-        return Ok(());
+        unreachable!()
     };
     edit_span(alloc, &mut held.span, edit)?;
     Ok(())

@@ -1,9 +1,10 @@
 //! How transactions and spans finish.
-ghost use Rattle.std.specs.Prelude.{◌≡◌, [], ◌∷◌, IfOk, OnOk, OnErr, Some, codes};
+ghost use Rattle.std.specs.Prelude.{◌≡◌, [], ◌∷◌, IfOk, OnOk, OnErr, Some, true, is_some, codes};
 ghost use Rattle.sentry_plain.specs.Texts.{put};
 ghost use Rattle.sentry_base.specs.declared.protocol.context.Context.TheVariants as context_of;
 ghost use Rattle.sentry_client_reports.specs.LossBooks.{engine_losses};
 ghost use Rattle.sentry_span_table.specs.SpanLists.{TransactionState, fate_of};
+ghost use Rattle.sentry_span_table.specs.SpanTables.{span_in, transaction_in};
 ghost use Rattle.sentry_span_table.specs.declared.table.records.SpanFate.TheVariants.{Kept};
 ghost use Rattle.sentry_span_table.specs.declared.table.records.SpanRecord.{SpanRecord};
 ghost use Rattle.sentry_spans.specs.Spans.{lost_span, lost_transaction, sent_transaction, transaction_envelope, with_client_loss, with_span_in};
@@ -68,6 +69,8 @@ fn keep_span<P: Drop, C: Callbacks>(
     transaction: TransactionKey,
     moment: u64,
 ) -> Result<(), AllocError>
+    requires span { is_some (span_in state.old.spans key) ≡ true }
+    requires transaction { is_some (transaction_in state.old.spans transaction) ≡ true }
     ensures in_world { OnOk result ((world : World P C) (held : SpanRecord) (kept : TransactionState) →
         Stands state.old world → span_at world key ≡ Some held → transaction_at world transaction ≡ Some kept →
         fate_of kept ≡ Kept → Stands state.new (with_span_in transaction (finished_span moment held).span (Some kept)
@@ -75,7 +78,7 @@ fn keep_span<P: Drop, C: Callbacks>(
     ensures err { OnErr result (state.new ≡ state.old) }
 {
     let Some(held) = state.span_at(key) else {
-        return Ok(());
+        unreachable!()
     };
     let copy = finished_copy(&held.span, moment)?;
     state.push_span(transaction.number, copy)?;
@@ -90,6 +93,7 @@ fn finish_in_transaction<P: Drop, C: Callbacks>(
     transaction: TransactionKey,
     moment: u64,
 ) -> Result<(), AllocError>
+    requires { is_some (span_in state.old.spans key) ≡ true }
     ensures in_world { OnOk result ((world : World P C) (held : SpanRecord) → Stands state.old world →
         span_at world key ≡ Some held →
         Stands state.new (with_span_in transaction (finished_span moment held).span (transaction_at world transaction)

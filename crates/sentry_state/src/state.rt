@@ -163,7 +163,9 @@ impl<P: Drop, C: Callbacks> State<P, C> {
     /// The client of a key, or `None` if it isn't held.
     #[tactic(auto, using(crate::proofs::Keeping::found_in_world))]
     pub fn client_at(&self, key: ClientKey) -> Option<&Client<C>>
-        ensures { (world : World P C) → Stands self.now world → option_copied result ≡ plain_client_at world key }
+        ensures in_world { (world : World P C) → Stands self.now world → option_copied result ≡ plain_client_at world key }
+        ensures in_table { (client : Client C) → option_copied result ≡ Some client →
+            value_at self.now.clients key.number ≡ Some client }
     {
         if key.tag != self.tag {
             return None;

@@ -1,5 +1,5 @@
 //! What comes to the queues of a client.
-ghost use Rattle.std.specs.Prelude.{◌≡◌, ◌&&◌, IfOk, OnOk, OnErr, Some};
+ghost use Rattle.std.specs.Prelude.{◌≡◌, ◌&&◌, IfOk, OnOk, OnErr, Some, true, is_some};
 ghost use Rattle.sentry_plain.specs.Tables.{value_at};
 ghost use Rattle.sentry_batches.specs.Batches.{accept, batch_on, hands_out_next};
 ghost use Rattle.sentry_sessions.specs.SessionQueues.{enqueued};
@@ -33,13 +33,14 @@ impl<P: Drop, C: Callbacks> State<P, C> {
     /// changed.
     #[tactic(auto, using(crate::proofs::Keeping::changed_same))]
     pub fn enqueue_update(&mut self, number: u64, update: SessionUpdate) -> Result<(), AllocError>
+        requires { is_some (value_at self.old.clients number) ≡ true }
         ensures in_world { OnOk result (ChangesClient self.old self.new number (with_client_entry (enqueued update))) }
         ensures hubs { self.new.hubs ≡ self.old.hubs }
         ensures next { self.new.next ≡ self.old.next }
         ensures err { OnErr result (self.new ≡ self.old) }
     {
         let Some(client) = self.clients.get_mut(number) else {
-            return Ok(());
+            unreachable!()
         };
         client.queues.sessions.mark_enqueued(update)?;
         Ok(())
@@ -49,6 +50,7 @@ impl<P: Drop, C: Callbacks> State<P, C> {
     /// many as the client's limit says. If out of memory, nothing has changed.
     #[tactic(auto, using(crate::proofs::Keeping::changed_same))]
     pub fn enqueue_log(&mut self, number: u64, log: Log) -> Result<Option<Items<Log>>, AllocError>
+        requires { is_some (value_at self.old.clients number) ≡ true }
         ensures in_world { OnOk result (ChangesClient self.old self.new number (with_log_entry (accept log))) }
         ensures batch { IfOk result (λ batch. (client : ClientState C) →
             value_at self.old.clients number ≡ Some (plain_client client) →
@@ -56,7 +58,7 @@ impl<P: Drop, C: Callbacks> State<P, C> {
         ensures err { OnErr result (self.new ≡ self.old) }
     {
         let Some(client) = self.clients.get_mut(number) else {
-            return Ok(None);
+            unreachable!()
         };
         let batch = client.queues.logs.enqueue(log)?;
         Ok(batch)
@@ -69,6 +71,7 @@ impl<P: Drop, C: Callbacks> State<P, C> {
         number: u64,
         metric: Metric,
     ) -> Result<Option<Items<Metric>>, AllocError>
+        requires { is_some (value_at self.old.clients number) ≡ true }
         ensures in_world { OnOk result (ChangesClient self.old self.new number (with_metric_entry (accept metric))) }
         ensures batch { IfOk result (λ batch. (client : ClientState C) →
             value_at self.old.clients number ≡ Some (plain_client client) →
@@ -76,7 +79,7 @@ impl<P: Drop, C: Callbacks> State<P, C> {
         ensures err { OnErr result (self.new ≡ self.old) }
     {
         let Some(client) = self.clients.get_mut(number) else {
-            return Ok(None);
+            unreachable!()
         };
         let batch = client.queues.metrics.enqueue(metric)?;
         Ok(batch)

@@ -1,5 +1,5 @@
 //! How hubs are held, and how their top layers change.
-ghost use Rattle.std.specs.Prelude.{◌≡◌, ◌<◌, ◌-◌, ◌^◌, nat_lt, IfOk, OnOk, OnErr, Some};
+ghost use Rattle.std.specs.Prelude.{◌≡◌, ◌<◌, ◌-◌, ◌^◌, nat_lt, true, is_some, IfOk, OnOk, OnErr, Some};
 ghost use Rattle.std.specs.Bool.{OnTrue};
 ghost use Rattle.sentry_plain.specs.Tables.{value_at, replace_at};
 ghost use Rattle.sentry_scope.specs.Scopes.{edit};
@@ -51,6 +51,7 @@ impl<P: Drop, C: Callbacks> State<P, C> {
     /// Pushes a copy of the top layer of a hub that is held, and returns the depth after it. If out of memory, nothing
     /// has changed.
     pub fn push_layer(&mut self, number: u64) -> Result<usize, AllocError>
+        requires { is_some (value_at self.old.hubs number) ≡ true }
         ensures in_world { IfOk result (λ pushed. (world : World P C) (hub : Hub P) → Stands self.old world →
             value_at self.old.hubs number ≡ Some hub → (pushed ≡ depth (push hub.stack)) ×
             Stands self.new (record world { hubs = replace_at world.hubs number (with_stack hub (push hub.stack)) })) }
@@ -61,6 +62,7 @@ impl<P: Drop, C: Callbacks> State<P, C> {
 
     /// Removes the top layer of a hub that is held, unless it has no other. It takes no memory.
     pub fn pop_layer(&mut self, number: u64)
+        requires { is_some (value_at self.old.hubs number) ≡ true }
         ensures in_world { ChangesHub self.old self.new number (λ hub. with_stack hub (pop hub.stack)) }
     {
         self.hubs.pop(number);
@@ -68,6 +70,7 @@ impl<P: Drop, C: Callbacks> State<P, C> {
 
     /// Writes the client of the top layer of a hub that is held. It takes no memory.
     pub fn set_client(&mut self, number: u64, client: Option<ClientKey>)
+        requires { is_some (value_at self.old.hubs number) ≡ true }
         ensures in_world { ChangesHub self.old self.new number (λ hub. with_client hub client) }
     {
         self.hubs.set_client(number, client);
@@ -75,6 +78,7 @@ impl<P: Drop, C: Callbacks> State<P, C> {
 
     /// Writes the top scope of a hub that is held. It takes no memory.
     pub fn set_scope(&mut self, number: u64, scope: Scope<P>)
+        requires { is_some (value_at self.old.hubs number) ≡ true }
         ensures in_world { ChangesHub self.old self.new number (λ hub. with_scope hub scope) }
     {
         self.hubs.set_scope(number, scope);
@@ -82,6 +86,7 @@ impl<P: Drop, C: Callbacks> State<P, C> {
 
     /// Makes one edit of the top scope of a hub that is held, in place. If out of memory, nothing has changed.
     pub fn edit_scope(&mut self, number: u64, setter: ScopeEdit<P>) -> Result<(), AllocError>
+        requires { is_some (value_at self.old.hubs number) ≡ true }
         ensures in_world { OnOk result (ChangesHub self.old self.new number (λ hub.
             with_scope hub (edit setter hub.stack.top.scope))) }
         ensures err { OnErr result (self.new ≡ self.old) }
@@ -91,18 +96,20 @@ impl<P: Drop, C: Callbacks> State<P, C> {
 
     /// Notes the last event of a hub that is held.
     pub fn set_last_event_id(&mut self, number: u64, id: Uuid)
+        requires { is_some (value_at self.old.hubs number) ≡ true }
         ensures in_world { ChangesHub self.old self.new number (λ hub. record hub { last_event_id = Some id }) }
     {
         self.hubs.set_last_event_id(number, id);
     }
 
-    // Adds breadcrumbs to the top scope of a hub, in place. If out of memory, nothing has changed.
+    // Adds breadcrumbs to the top scope of a hub that is held, in place. If out of memory, nothing has changed.
     fn add_to_trail(
         &mut self,
         number: u64,
         breadcrumbs: Items<Breadcrumb>,
         max_breadcrumbs: usize,
     ) -> Result<(), AllocError>
+        requires { is_some (value_at self.old.hubs number) ≡ true }
         ensures in_world { OnOk result (ChangesHub self.old self.new number (λ hub.
             with_breadcrumbs hub max_breadcrumbs breadcrumbs)) }
         ensures err { OnErr result (self.new ≡ self.old) }

@@ -1,5 +1,5 @@
 //! How sessions are named and change.
-ghost use Rattle.std.specs.Prelude.{◌≡◌, ◌<◌, ◌+◌, ◌-◌, ◌^◌, Some, None};
+ghost use Rattle.std.specs.Prelude.{◌≡◌, ◌<◌, ◌+◌, ◌-◌, ◌^◌, Some, None, true, is_some};
 ghost use Rattle.std.specs.Bool.{OnTrue};
 ghost use Rattle.sentry_plain.specs.Tables.{value_at, replace_at, without};
 ghost use Rattle.sentry_hub_table.specs.declared.hub.Hub.{Hub};
@@ -27,7 +27,8 @@ impl<P: Drop, C: Callbacks> State<P, C> {
 
     /// The top layer of a hub that is held names the session under the next number.
     pub fn name_next_session(&mut self, number: u64)
-        requires { self.old.next.session < 2 ^ 64 - 1 }
+        requires left { self.old.next.session < 2 ^ 64 - 1 }
+        requires held { is_some (value_at self.old.hubs number) ≡ true }
         ensures { (world : World P C) (hub : Hub P) → Stands self.old world → value_at self.old.hubs number ≡ Some hub →
             Stands self.new (record world {
               next = record world.next { session = world.next.session + 1 };
@@ -43,8 +44,9 @@ impl<P: Drop, C: Callbacks> State<P, C> {
         self.next.session += 1;
     }
 
-    /// Writes which session the top layer of a hub names.
+    /// Writes which session the top layer of a hub that is held names.
     pub fn set_session_name(&mut self, number: u64, name: Option<SessionKey>)
+        requires { is_some (value_at self.old.hubs number) ≡ true }
         ensures in_world { ChangesHub self.old self.new number (λ hub. with_session hub name) }
         ensures next { self.new.next ≡ self.old.next }
         ensures engine { (hub : Hub P) → value_at self.old.hubs number ≡ Some hub →

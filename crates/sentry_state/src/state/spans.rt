@@ -1,8 +1,8 @@
 //! How transactions and spans are held, found and finished.
-ghost use Rattle.std.specs.Prelude.{◌≡◌, ◌<◌, ◌-◌, ◌^◌, IfOk, OnOk, OnErr, Some, None, [], option_copied};
+ghost use Rattle.std.specs.Prelude.{◌≡◌, ◌<◌, ◌-◌, ◌^◌, IfOk, OnOk, OnErr, Some, None, true, is_some, [], option_copied};
 ghost use Rattle.sentry_plain.specs.Tables.{value_at, without};
 ghost use Rattle.sentry_span_table.specs.SpanLists.{TransactionState, plain_transaction, fate_of, with_finished};
-ghost use Rattle.sentry_span_table.specs.SpanTables.{is_held};
+ghost use Rattle.sentry_span_table.specs.SpanTables.{is_held, span_in, transaction_in};
 ghost use Rattle.sentry_span_table.specs.declared.table.records.SpanFate.TheVariants.{Kept};
 ghost use Rattle.sentry_span_table.specs.declared.table.records.SpanRecord.{SpanRecord};
 ghost use Rattle.sentry_state.specs.Outcomes.{plain_transaction_at, span_at};
@@ -20,7 +20,9 @@ impl<P: Drop, C: Callbacks> State<P, C> {
     /// The transaction of a key, or `None` if it isn't held.
     #[tactic(auto, using(crate::proofs::SpanKeeping::transaction_in_world))]
     pub fn transaction_at(&self, key: TransactionKey) -> Option<&TransactionRecord>
-        ensures { (world : World P C) → Stands self.now world → option_copied result ≡ plain_transaction_at world key }
+        ensures in_world { (world : World P C) → Stands self.now world →
+            option_copied result ≡ plain_transaction_at world key }
+        ensures in_table { option_copied result ≡ transaction_in self.now.spans key }
     {
         self.spans.transaction(key)
     }
@@ -28,7 +30,8 @@ impl<P: Drop, C: Callbacks> State<P, C> {
     /// The span of a key, or `None` if it isn't held.
     #[tactic(auto, using(crate::proofs::SpanKeeping::span_in_world))]
     pub fn span_at(&self, key: SpanKey) -> Option<&SpanRecord>
-        ensures { (world : World P C) → Stands self.now world → option_copied result ≡ span_at world key }
+        ensures in_world { (world : World P C) → Stands self.now world → option_copied result ≡ span_at world key }
+        ensures in_table { option_copied result ≡ span_in self.now.spans key }
     {
         self.spans.span(key)
     }
@@ -87,6 +90,7 @@ impl<P: Drop, C: Callbacks> State<P, C> {
 
     /// Notes when a span that is held finished.
     pub fn set_span_finished(&mut self, number: u64, moment: u64)
+        requires { is_some (value_at self.old.spans.spans number) ≡ true }
         ensures { (world : World P C) (held : SpanRecord) → Stands self.old world →
             value_at self.old.spans.spans number ≡ Some held →
             Stands self.new (with_span number (finished_span moment held) world) }
@@ -96,6 +100,7 @@ impl<P: Drop, C: Callbacks> State<P, C> {
 
     /// Gives a transaction that is held a span that it keeps. If out of memory, nothing has changed.
     pub fn push_span(&mut self, number: u64, span: Span) -> Result<(), AllocError>
+        requires { is_some (value_at self.old.spans.transactions number) ≡ true }
         ensures in_world { OnOk result ((world : World P C) (state : TransactionState) → Stands self.old world →
             value_at self.old.spans.transactions number ≡ Some (plain_transaction state) → fate_of state ≡ Kept →
             Stands self.new (with_transaction number (with_finished span state) world)) }
