@@ -22,11 +22,10 @@ pub(crate) fn drain_words(drainers: &mut Drainers, number: u64) -> Option<Losses
     let Some(place) = drainers.get_mut(number) else {
         return None;
     };
-    let Some(mut drainer) = place.take() else {
+    let Some(drainer) = place else {
         return None;
     };
     let (_, losses) = drainer.drain().into_parts();
-    *place = Some(drainer);
     Some(losses)
 }
 

@@ -1,6 +1,6 @@
 -- Tables whose values are replaced more than once.
-use Rattle.std.proofs.Common.{◌≡◌, refl, ap, ◌∙◌, ℕ, List, [], ◌∷◌, Bool, true, false, cond}
-use Rattle.std.specs.Prelude.{Some}
+use Rattle.std.proofs.Common.{◌≡◌, refl, ap, ◌∙◌, ℕ, List, [], ◌∷◌, Bool, true, false, cond, Option, Some, None}
+use Rattle.std.specs.Prelude.{is_some}
 use Rattle.std.specs.BTreeMap.{is_at}
 use Rattle.std.specs.Ordering.{nat_cmp}
 use Rattle.sentry_plain.specs.Tables.{value_at, replace_at, without}
@@ -16,6 +16,16 @@ module _ {X : Type 0} (n : ℕ) where
   pub value_replaced : (m : List (ℕ × X)) (x y : X) → value_at m n ≡ Some y → value_at (replace_at m n x) n ≡ Some x
   value_replaced [] x y h = cc
   value_replaced (e ∷ es) x y h = value_replaced-at (is_at (nat_cmp n) e.0) e es x y refl h (value_replaced es x y)
+
+  held_replaced-at : (m : List (ℕ × X)) (x : X) (found : Option X) → value_at m n ≡ found → is_some found ≡ true
+      → is_some (value_at (replace_at m n x) n) ≡ true
+  held_replaced-at m x (Some y) q h = ap is_some (value_replaced m x y q)
+  held_replaced-at m x None q h = absurd cc
+
+  -- where something stood, something stands once it was written
+  pub held_replaced : (m : List (ℕ × X)) (x : X) → is_some (value_at m n) ≡ true
+      → is_some (value_at (replace_at m n x) n) ≡ true
+  held_replaced m x h = held_replaced-at m x (value_at m n) refl h
 
   replaced_twice-at : (b : Bool) (e : ℕ × X) (es : List (ℕ × X)) (x y : X) → is_at (nat_cmp n) e.0 ≡ b
       → replace_at (replace_at es n x) n y ≡ replace_at es n y

@@ -25,26 +25,26 @@ use Rattle.std.specs.Option.{is_some}
 abbrev pub with_session : {P : Type 0} → Hub P → Option SessionKey → Hub P
 with_session hub session = record hub { stack = record hub.stack { top = record hub.stack.top { session = session } } }
 
--- the session, to which this came
+-- the session with one more entry in its history
 abbrev pub with_session_entry : SessionEntry → SessionState → SessionState
 with_session_entry entry session = record session { history = entry ∷ session.history }
 
--- the queues, to whose sessions this came
+-- the queues with one more entry in the history of ended sessions
 abbrev pub with_queue_entry : QueueEntry → QueueHistories → QueueHistories
 with_queue_entry entry queues = record queues { sessions = entry ∷ queues.sessions }
 
--- the client, to whose queue of ended sessions this came
+-- the client with one more entry in the history of its ended sessions
 abbrev pub with_client_entry : {C : Type 0} → QueueEntry → ClientState C → ClientState C
 with_client_entry entry client = record client { queues = with_queue_entry entry client.queues }
 
 -- ---- logs and metrics
 
--- the client, to whose logs this came
+-- the client with one more entry in the history of its logs
 abbrev pub with_log_entry : {C : Type 0} → BatchEntry Log → ClientState C → ClientState C
 with_log_entry entry client =
     record client { queues = record client.queues { logs = entry ∷ client.queues.logs } }
 
--- the client, to whose metrics this came
+-- the client with one more entry in the history of its metrics
 abbrev pub with_metric_entry : {C : Type 0} → BatchEntry Metric → ClientState C → ClientState C
 with_metric_entry entry client =
     record client { queues = record client.queues { metrics = entry ∷ client.queues.metrics } }

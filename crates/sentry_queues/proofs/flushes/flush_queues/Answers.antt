@@ -17,7 +17,7 @@ returns-then-not-client-clause-in_world g c = λ world s.
     client_changed_unsent c.args.key
     (λ (client : ClientState g.row.C.Denot). flushed_envelopes c.args.flush client.options.plain client.queues)
     (after_flush c.args.flush) c.args.state.now c.take_flushed.new.state world s c.in-Some.client.now
-    (c.in-Some.ensures world s) c.if-client.false c.new-then-not-client.result c.new-then-not-client.ensures (λ client there is. (
+    (c.in-Some.ensures.in_world world s) c.if-client.false c.new-then-not-client.result c.new-then-not-client.ensures (λ client there is. (
       unsent_if_empty c.args.key c.in-Some.client.now.occupied (pending_report world c.in-Some.client.now.label) _ empty,
       c.take_flushed.ensures.in_world world client s there,
     ))
@@ -32,7 +32,7 @@ returns-then-not-has_batch-clause-in_world g c = λ world s.
     client_changed_unsent c.args.key
     (λ (client : ClientState g.row.C.Denot). flushed_envelopes c.args.flush client.options.plain client.queues)
     (after_flush c.args.flush) c.args.state.now c.take_flushed-then-not-has_batch.new.state world s c.in-Some.client.now
-    (c.in-Some.ensures world s) c.if-client.false c.new-then-not-has_batch.result c.new-then-not-has_batch.ensures (λ client there is.
+    (c.in-Some.ensures.in_world world s) c.if-client.false c.new-then-not-has_batch.result c.new-then-not-has_batch.ensures (λ client there is.
     let sessions = sym (none_if_empty c.in_ok-sessions.sessions empty)
     ∙ (c.in_ok-sessions.ensures
     ∙ ap (λ (kept : Client g.row.C.Denot). session_envelopes (is_flushed c.args.flush SESSION_INTERVAL kept.queues.session_tick.0) kept.queues.sessions) is) in
@@ -53,7 +53,7 @@ returns-clause-in_world g c = λ world s.
     client_changed c.args.key
     (λ (client : ClientState g.row.C.Denot). flushed_envelopes c.args.flush client.options.plain client.queues)
     (after_flush c.args.flush) c.args.state.now c.mark_sent.new.state world s c.in-Some.client.now
-    (c.in-Some.ensures world s) c.if-client.false c.finish-sent.result (λ client there is.
+    (c.in-Some.ensures.in_world world s) c.if-client.false c.finish-sent.result (λ client there is.
     let sessions = c.in_ok-sessions.ensures
     ∙ ap (λ (kept : Client g.row.C.Denot). session_envelopes (is_flushed c.args.flush SESSION_INTERVAL kept.queues.session_tick.0) kept.queues.sessions) is in
     let logs = c.take_flushed-batches.ensures.logs client there in

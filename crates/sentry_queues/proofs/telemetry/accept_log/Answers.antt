@@ -21,7 +21,7 @@ returns-then-not-sends_next_log-clause-in_world g c = λ world s.
     client_changed_unsent c.args.key
     (λ (client : ClientState g.row.C.Denot). batch_envelopes (batch_on client.options.plain.max_batch_items (accept c.args.log) client.queues.logs) None)
     (with_log_entry (accept c.args.log)) c.args.state.now c.enqueue_log.new.self world s c.in-Some.client.now
-    (c.in-Some.ensures world s) c.if-client.false c.new-then-not-sends_next_log.result c.new-then-not-sends_next_log.ensures (λ client there is. (
+    (c.in-Some.ensures.in_world world s) c.if-client.false c.new-then-not-sends_next_log.result c.new-then-not-sends_next_log.ensures (λ client there is. (
       unsent_item c.args.key c.in-Some.client.now.occupied (pending_report world c.in-Some.client.now.label)
           (λ (logs : Option (List Log)). batch_envelopes logs None) refl client.options.plain.max_batch_items
           (queued_items client.options.plain.max_batch_items client.queues.logs) c.args.log
@@ -37,7 +37,7 @@ returns-clause-in_world g c = λ world s.
     client_changed c.args.key
     (λ (client : ClientState g.row.C.Denot). batch_envelopes (batch_on client.options.plain.max_batch_items (accept c.args.log) client.queues.logs) None)
     (with_log_entry (accept c.args.log)) c.args.state.now c.mark_sent.new.state world s c.in-Some.client.now
-    (c.in-Some.ensures world s) c.if-client.false c.finish-sent.result (λ client there is.
+    (c.in-Some.ensures.in_world world s) c.if-client.false c.finish-sent.result (λ client there is.
     let pending = pending_report world c.in-Some.client.now.label in
     let batch = c.in_ok-logs.ensures.batch client there in
     let addressed = c.in_ok-prepared.ensures.sent world s (batch_envelopes c.in_ok-logs.logs None) in

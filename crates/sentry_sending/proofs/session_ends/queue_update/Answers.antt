@@ -12,7 +12,7 @@ use Rattle.sentry_sending.proofs.session_ends.queue_update.Goals as goal
 -- the client that was found stands in the world, and is not closed
 pub returns-clause-in_world : goal.returns-clause-in_world
 returns-clause-in_world g c = λ world s.
-    let found = client_state c.args.state.now world s c.args.key c.in-Some.client.now (c.in-Some.ensures world s) in
+    let found = client_state c.args.state.now world s c.args.key c.in-Some.client.now (c.in-Some.ensures.in_world world s) in
     let client = found.0 in
     let is : c.in-Some.client.now ≡ plain_client client = found.3 in
     let going_on : client.closed ≡ false = sym (ap (λ (kept : Client g.row.C.Denot). kept.closed) is) ∙ c.if-client.false in

@@ -12,14 +12,14 @@ use Rattle.sentry_span_edits.proofs.edits.edit_transaction.Goals as goal
 -- nothing changes where the world has no transaction
 pub returns-in_default-clause-in_world : goal.returns-in_default-clause-in_world
 returns-in_default-clause-in_world g c = λ world s.
-    let none = no_transaction (transaction_at world c.args.key) (c.in_default.ensures world s) in
+    let none = no_transaction (transaction_at world c.args.key) (c.in_default.ensures.in_world world s) in
     subst (λ (w : World g.row.P.Denot g.row.C.Denot). Stands c.args.state.now w)
     (sym (ap (λ (o : Option TransactionState). with_found_edited c.args.edit c.args.key.number o world) none)) s
 
 -- the transaction of the world is edited
 pub returns-clause-in_world : goal.returns-clause-in_world
 returns-clause-in_world g c = λ world s.
-    let found = transaction_state (transaction_at world c.args.key) c.in-Some._held.now (c.in-Some.ensures world s) in
+    let found = transaction_state (transaction_at world c.args.key) c.in-Some._held.now (c.in-Some.ensures.in_world world s) in
     let state = found.0 in
     let after = edit_transaction c.args.edit state in
     let stands : Stands (record c.args.state.now { spans = c.edit_transaction_at.new.spans })

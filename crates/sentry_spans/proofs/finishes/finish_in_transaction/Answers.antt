@@ -13,7 +13,7 @@ use Rattle.sentry_spans.proofs.finishes.finish_in_transaction.Goals as goal
 -- the transaction is not held
 pub returns-in_default-clause-in_world : goal.returns-in_default-clause-in_world
 returns-in_default-clause-in_world g c = λ world held s at.
-    let none = no_transaction (transaction_at world c.args.transaction) (c.in_default.ensures world s) in
+    let none = no_transaction (transaction_at world c.args.transaction) (c.in_default.ensures.in_world world s) in
     let after = with_span c.args.key.number (finished_span c.args.moment held) world in
     let done = c.set_span_finished.ensures world held s (span_in_table c.args.state.now world s c.args.key held at) in
     subst (λ (w : World g.row.P.Denot g.row.C.Denot). Stands c.set_span_finished.new.self w)
@@ -22,7 +22,7 @@ returns-in_default-clause-in_world g c = λ world held s at.
 -- it keeps the span
 pub returns-in_ok-keep_span-in-Kept-clause-in_world : goal.returns-in_ok-keep_span-in-Kept-clause-in_world
 returns-in_ok-keep_span-in-Kept-clause-in_world g c = λ world held s at.
-    let found = transaction_state (transaction_at world c.args.transaction) c.in-Some.kept.now (c.in-Some.ensures world s) in
+    let found = transaction_state (transaction_at world c.args.transaction) c.in-Some.kept.now (c.in-Some.ensures.in_world world s) in
     let fate = sym (c.in-Kept.ensures.fate found.0 found.2) in
     let span = (finished_span c.args.moment held).span in
     let after = with_span c.args.key.number (finished_span c.args.moment held) world in
@@ -33,7 +33,7 @@ returns-in_ok-keep_span-in-Kept-clause-in_world g c = λ world held s at.
 -- it keeps no more
 pub returns-in-Lost-clause-in_world : goal.returns-in-Lost-clause-in_world
 returns-in-Lost-clause-in_world g c = λ world held s at.
-    let found = transaction_state (transaction_at world c.args.transaction) c.in-Some.kept.now (c.in-Some.ensures world s) in
+    let found = transaction_state (transaction_at world c.args.transaction) c.in-Some.kept.now (c.in-Some.ensures.in_world world s) in
     let lost = sym (c.in-Lost.ensures.fate found.0 found.2) in
     let span = (finished_span c.args.moment held).span in
     let after = with_span c.args.key.number (finished_span c.args.moment held) world in
@@ -46,7 +46,7 @@ returns-in-Lost-clause-in_world g c = λ world held s at.
 -- it is finished, or traces nothing
 pub returns-in-Gone-clause-in_world : goal.returns-in-Gone-clause-in_world
 returns-in-Gone-clause-in_world g c = λ world held s at.
-    let found = transaction_state (transaction_at world c.args.transaction) c.in-Some.kept.now (c.in-Some.ensures world s) in
+    let found = transaction_state (transaction_at world c.args.transaction) c.in-Some.kept.now (c.in-Some.ensures.in_world world s) in
     let gone = sym (c.in-Gone.ensures.fate found.0 found.2) in
     let span = (finished_span c.args.moment held).span in
     let after = with_span c.args.key.number (finished_span c.args.moment held) world in

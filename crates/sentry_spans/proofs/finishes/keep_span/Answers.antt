@@ -13,7 +13,7 @@ use Rattle.sentry_spans.proofs.finishes.keep_span.Goals as goal
 -- the copy comes to the transaction, and then the span is finished
 pub returns-clause-in_world : goal.returns-clause-in_world
 returns-clause-in_world g c = λ world held kept s at there fate.
-    let same : Some c.in-Some.held.now ≡ Some held = c.in-Some.ensures world s ∙ at in
+    let same : Some c.in-Some.held.now ≡ Some held = c.in-Some.ensures.in_world world s ∙ at in
     let is : c.in-Some.held.now ≡ held = cc in
     let copy = c.in_ok-copy.ensures ∙ ap (λ (found : SpanRecord). (finished_span c.args.moment found).span) is in
     let pushed =

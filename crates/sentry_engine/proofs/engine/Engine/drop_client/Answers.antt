@@ -12,7 +12,7 @@ pub returns : goal.returns
 returns g c = λ world here.
     let s = subst (λ (kept : State g.row.P.Denot g.row.C.Denot). Stands kept world) (sym c.self.view_is) here in
     let key = c.args.client in
-    let found : plain_client_at world key ≡ Some c.in-Some.held.now = sym (c.in-Some.ensures world s) in
+    let found : plain_client_at world key ≡ Some c.in-Some.held.now = sym (c.in-Some.ensures.in_world world s) in
     let unnamed : is_client_named key world.hubs ≡ false =
     ap (is_client_named key) (sym s.hubs) ∙ (sym c.is_client_named.ensures ∙ c.if-is_client_named.false) in
     let no_session : has_session_of key world.sessions ≡ false = sym (c.has_session_of.ensures world s) ∙ c.if-has_session_of.false in

@@ -9,14 +9,14 @@ use Rattle.sentry_state.proofs.state.State.close_transaction.Goals as goal
 -- nothing is closed where the world has no transaction
 pub returns-in_default : goal.returns-in_default
 returns-in_default g c = λ world s.
-    let none = no_transaction (transaction_at world c.args.key) (c.in_default.ensures world s) in
+    let none = no_transaction (transaction_at world c.args.key) (c.in_default.ensures.in_world world s) in
     subst (λ (w : World g.row.P.Denot g.row.C.Denot). Stands c.args.self.now w)
     (sym (ap (λ (o : Option TransactionState). with_closed_state c.args.key.number o world) none)) s
 
 -- the transaction of the world is closed
 pub returns : goal.returns
 returns g c = λ world s.
-    let found = transaction_state (transaction_at world c.args.key) c.in-Some._held.now (c.in-Some.ensures world s) in
+    let found = transaction_state (transaction_at world c.args.key) c.in-Some._held.now (c.in-Some.ensures.in_world world s) in
     let state = found.0 in
     let stands : Stands (record c.args.self.now { spans = c.close_transaction.new.self })
     (with_transaction c.args.key.number (closed_transaction state) world) = record {
