@@ -1,10 +1,8 @@
 -- How many layers name each record, of all kinds at once.
-use Rattle.std.proofs.Common.{◌≡◌, refl, ap, ◌∙◌, sym, subst, ℕ, ◌+◌, ◌<◌, ◌≤◌, List, length, arith}
-use Rattle.std.specs.Prelude.{Option, Some, None}
+use Rattle.std.proofs.Common.{◌≡◌, ap, ℕ, ◌+◌, ◌<◌, List, length}
+use Rattle.std.specs.Prelude.{Some, None}
 use Rattle.sentry_plain.specs.Tables.{value_at, replace_at, put, without}
 use Rattle.sentry_scope.specs.Stacks.{push, pop, depth}
-use Rattle.sentry_scope.specs.declared.scope.stack.Stack.{Stack}
-use Rattle.sentry_scope.specs.declared.scope.stack.StackLayer.{StackLayer}
 use Rattle.sentry_hub_table.specs.Names.{client_of, session_of, transaction_of, span_of, layer_names, all_layers, CountsNames, HasNames, HasRoom, HasRoomFor, KeepsNames, RaisesNames, LowersNames, HasAllLayers, LowersLayers}
 use Rattle.sentry_hub_table.specs.declared.hub.Hub.{Hub}
 use Rattle.sentry_hub_table.specs.declared.names.Names.{Names}

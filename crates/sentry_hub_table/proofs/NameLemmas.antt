@@ -1,18 +1,16 @@
 -- How many layers name something, after a hub is changed.
-use Rattle.std.proofs.Common.{◌≡◌, refl, ap, ◌∙◌, sym, subst, ℕ, ◌+◌, ◌<◌, ◌≤◌, List, [], ◌∷◌, ◌++◌, length, take, get_or, length-append, Bool, true, false, cond, arith}
-use Rattle.std.specs.Prelude.{Option, Some, None, ◌==◌, ◌&&◌, ◌||◌, nat_lt, count_by, unwrap_or, vec_capacity}
-use Rattle.std.specs.Option.{option_map, is_some}
+use Rattle.std.proofs.Common.{◌≡◌, refl, ap, ◌∙◌, sym, ℕ, ◌+◌, ◌<◌, ◌≤◌, List, [], ◌∷◌, length, take, get_or, length-append, Bool, true, false, arith}
+use Rattle.std.specs.Prelude.{Option, Some, None, ◌||◌, nat_lt, count_by, vec_capacity}
+use Rattle.std.specs.Option.{is_some}
 use Rattle.std.specs.List.{sum_by, list_any}
 use Rattle.std.specs.Map.{values_of}
 use Rattle.std.specs.Ordering.{nat_cmp}
 use Rattle.std.specs.BTreeMap.{is_at}
 use Rattle.std.proofs.lemmas.Map.Entries.{sum_by-set_value}
-use Rattle.std.proofs.lemmas.List.Sums.{sum_by-cons, sum_by_push, sum_by_more, sum_by_more_le, count_by-le-length}
+use Rattle.std.proofs.lemmas.List.Sums.{sum_by-cons, sum_by_push, sum_by_more_le, count_by-le-length}
 use Rattle.std.proofs.lemmas.Bool.Decides.{nat_tests}
 use Rattle.sentry_base.specs.declared.protocol.keys.ClientKey.{ClientKey}
 use Rattle.sentry_base.specs.declared.protocol.keys.SessionKey.{SessionKey}
-use Rattle.sentry_base.specs.declared.protocol.keys.SpanKey.{SpanKey}
-use Rattle.sentry_base.specs.declared.protocol.keys.TransactionKey.{TransactionKey}
 use Rattle.sentry_base.specs.declared.protocol.keys.TransactionOrSpanKey.{TransactionOrSpanKey}
 use Rattle.sentry_base.specs.declared.protocol.keys.TransactionOrSpanKey.TheVariants.{Transaction, Span}
 use Rattle.sentry_plain.specs.Tables.{value_at, replace_at, put, without}
@@ -20,12 +18,12 @@ use Rattle.sentry_scope.specs.Stacks.{is_client, is_session, stack_of, stack_of_
 use Rattle.sentry_scope.specs.declared.scope.stack.Stack.{Stack}
 use Rattle.sentry_scope.specs.declared.scope.stack.StackLayer.{StackLayer}
 use Rattle.sentry_hub_table.specs.Hubs.{is_transaction, is_span}
-use Rattle.sentry_hub_table.specs.Tallies.{one_if, is_named, tally_at, tally_total, Keeps, Raises, Lowers}
+use Rattle.sentry_hub_table.specs.Tallies.{one_if, is_named, tally_at, Keeps, Raises, Lowers}
 use Rattle.sentry_hub_table.specs.Names.{client_name, session_name, transaction_name, span_name, layers_passing, height, over_hubs, all_layers_passing, all_layers, Counts, LowersBy, HasLayers, HasName}
 use Rattle.sentry_hub_table.specs.declared.hub.Hub.{Hub}
 use Rattle.sentry_hub_table.specs.declared.tally.Key.{Key}
 use Rattle.sentry_hub_table.specs.declared.tally.Tally.{Tally}
-use Rattle.sentry_hub_table.proofs.TallyLemmas.{key_itself, changed_same, sum_put, sum_without, sum_without_none, weighs_at_most}
+use Rattle.sentry_hub_table.proofs.TallyLemmas.{key_itself, sum_put, sum_without, sum_without_none, weighs_at_most}
 
 -- ---- the kinds of names
 

@@ -12,7 +12,7 @@ use Rattle.std.proofs.lemmas.Bool.Decides.{eqb_tells, nat_tests}
 use Rattle.std.proofs.lemmas.Map.{lookup-set_value}
 use Rattle.std.proofs.lemmas.Map.Entries.{sum_by-set_value, sum_by-remove_entry}
 use Rattle.std.proofs.lemmas.List.Sums.{sum_by_push, sum_by-cons, sum_by-remove}
-use Rattle.std.proofs.Common.{◌++◌, length, length-append, get_or}
+use Rattle.std.proofs.Common.{◌++◌, length, get_or}
 use Rattle.std.specs.Prelude.{count_by, sum, ◌&&◌, vec_capacity}
 use Rattle.std.specs.List.{sum_by, remove}
 use Rattle.std.specs.Map.{values_of}

@@ -1,5 +1,5 @@
 -- What a table of hubs keeps of the names in its layers.
-use Rattle.std.specs.Prelude.{◌≡◌, ℕ, List}
+use Rattle.std.specs.Prelude.{◌≡◌}
 use Rattle.sentry_hub_table.specs.Names.{CountsNames, all_layers}
 use Rattle.sentry_hub_table.specs.declared.hub_table.HubTable.TheInside.{Inside}
 

@@ -1,5 +1,5 @@
-use Rattle.std.proofs.Common.{◌≡◌, ◌∙◌, refl, ap, sym, subst, Some, None, ℕ, ◌+◌, List, length, arith}
-use Rattle.sentry_plain.specs.Tables.{value_at, put, replace_at, without}
+use Rattle.std.proofs.Common.{◌≡◌, ◌∙◌, refl, ap, sym, Some}
+use Rattle.sentry_plain.specs.Tables.{value_at}
 use Rattle.sentry_hub_table.specs.Hubs.{with_scope}
 use Rattle.sentry_hub_table.specs.Names.{layer_names}
 use Rattle.sentry_hub_table.proofs.NameLemmas.{layers_kept}

@@ -1,5 +1,5 @@
-use Rattle.std.proofs.Common.{◌≡◌, ◌∙◌, refl, ap, sym, subst, Some, None, ℕ, ◌+◌, List, length, arith}
-use Rattle.sentry_plain.specs.Tables.{value_at, put, replace_at, without}
+use Rattle.std.proofs.Common.{◌≡◌, ◌∙◌, refl, sym, subst, Some}
+use Rattle.sentry_plain.specs.Tables.{value_at}
 use Rattle.sentry_hub_table.specs.Hubs.{with_scope}
 use Rattle.sentry_hub_table.specs.Names.{client_of, session_of, transaction_of, span_of}
 use Rattle.sentry_hub_table.specs.Tallies.{Lowers, Raises}

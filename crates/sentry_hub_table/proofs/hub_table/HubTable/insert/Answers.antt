@@ -1,5 +1,5 @@
-use Rattle.std.proofs.Common.{◌≡◌, ◌∙◌, refl, ap, sym, subst, Some, None, ℕ, ◌+◌, List, length, arith}
-use Rattle.sentry_plain.specs.Tables.{value_at, put, replace_at, without}
+use Rattle.std.proofs.Common.{◌≡◌, ◌∙◌, ap, sym, subst, None, ℕ, ◌+◌, List}
+use Rattle.sentry_plain.specs.Tables.{value_at}
 use Rattle.sentry_hub_table.specs.Names.{HasRoomFor, RaisesNames, all_layers}
 use Rattle.sentry_hub_table.specs.TrueNames.{TrueNames}
 use Rattle.sentry_hub_table.specs.declared.hub.Hub.{Hub}

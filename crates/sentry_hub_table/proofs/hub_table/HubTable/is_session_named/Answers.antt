@@ -1,5 +1,4 @@
-use Rattle.std.proofs.Common.{◌≡◌, ◌∙◌, refl, ap, sym, subst, Some, None, ℕ, ◌+◌, List, length, arith}
-use Rattle.sentry_plain.specs.Tables.{value_at, put, replace_at, without}
+use Rattle.std.proofs.Common.{◌∙◌, ap, ℕ, List}
 use Rattle.sentry_scope.specs.Stacks.{is_session}
 use Rattle.sentry_hub_table.specs.Hubs.{is_session_named}
 use Rattle.sentry_hub_table.specs.Names.{session_of}

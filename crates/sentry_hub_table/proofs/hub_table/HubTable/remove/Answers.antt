@@ -1,5 +1,5 @@
-use Rattle.std.proofs.Common.{◌≡◌, ◌∙◌, refl, ap, sym, subst, Some, None, ℕ, ◌+◌, List, length, arith}
-use Rattle.sentry_plain.specs.Tables.{value_at, put, replace_at, without}
+use Rattle.std.proofs.Common.{◌≡◌, ◌∙◌, sym, subst, Some, None, ℕ, List, arith}
+use Rattle.sentry_plain.specs.Tables.{value_at}
 use Rattle.std.proofs.Common.{◌-◌}
 use Rattle.sentry_hub_table.specs.Names.{HasNames, LowersNames, HasAllLayers, LowersLayers}
 use Rattle.sentry_hub_table.specs.TrueNames.{TrueNames}

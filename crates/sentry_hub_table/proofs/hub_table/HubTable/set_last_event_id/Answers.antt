@@ -1,13 +1,12 @@
-use Rattle.std.proofs.Common.{◌≡◌, ◌∙◌, refl, ap, sym, subst, Some, None, ℕ, ◌+◌, List, length, arith}
-use Rattle.sentry_plain.specs.Tables.{value_at, put, replace_at, without}
-use Rattle.sentry_hub_table.specs.Hubs.{with_scope}
+use Rattle.std.proofs.Common.{◌≡◌, ◌∙◌, refl, sym, Some}
+use Rattle.sentry_plain.specs.Tables.{value_at}
 use Rattle.sentry_hub_table.proofs.NameLemmas.{layers_kept}
 use Rattle.sentry_hub_table.proofs.AllNameLemmas.{all_kept}
 use Rattle.sentry_hub_table.proofs.hub_table.HubTable.set_last_event_id.Goals as goal
 
 -- no name changes
-pub invariant_of-self-2 : goal.invariant_of-self-2
-invariant_of-self-2 g c =
+pub invariant_of-self : goal.invariant_of-self
+invariant_of-self g c =
     let hubs = c.self.inside.hubs in
     let number = c.args.number in
     let hub = c.in-Some.hub.now in

@@ -1,5 +1,5 @@
-use Rattle.std.proofs.Common.{◌≡◌, ◌∙◌, refl, ap, sym, subst, Some, None, ℕ, ◌+◌, List, length, arith}
-use Rattle.sentry_plain.specs.Tables.{value_at, put, replace_at, without}
+use Rattle.std.proofs.Common.{◌≡◌, ◌∙◌, refl, sym, subst, Some}
+use Rattle.sentry_plain.specs.Tables.{value_at}
 use Rattle.sentry_hub_table.specs.Hubs.{with_scope}
 use Rattle.sentry_hub_table.specs.Names.{client_of, session_of, transaction_of, span_of}
 use Rattle.sentry_hub_table.specs.Tallies.{Lowers, Raises}
@@ -51,8 +51,8 @@ raise-requires-2 g c =
     has_room span_of hubs number hub found names.spans c.lower-2.new.self counts.spans (subst (Lowers names.spans c.lower-2.new.self) c.span_name.ensures c.lower-2.ensures)
 
 -- the scope names another
-pub invariant_of-self-2 : goal.invariant_of-self-2
-invariant_of-self-2 g c =
+pub invariant_of-self : goal.invariant_of-self
+invariant_of-self g c =
     let hubs = c.self.inside.hubs in
     let number = c.args.number in
     let hub = c.in-Some.hub.now in

@@ -1,5 +1,5 @@
-use Rattle.std.proofs.Common.{◌≡◌, ◌∙◌, refl, ap, sym, subst, Some, None, ℕ, ◌+◌, List, length, arith}
-use Rattle.sentry_plain.specs.Tables.{value_at, put, replace_at, without}
+use Rattle.std.proofs.Common.{◌≡◌, ◌∙◌, refl, sym, subst, Some}
+use Rattle.sentry_plain.specs.Tables.{value_at}
 use Rattle.sentry_hub_table.specs.Hubs.{with_session}
 use Rattle.sentry_hub_table.specs.Names.{client_of, session_of, transaction_of, span_of}
 use Rattle.sentry_hub_table.specs.Tallies.{Lowers, Raises}
@@ -29,8 +29,8 @@ raise-requires g c =
     has_room session_of hubs number hub found names.sessions c.lower.new.self counts.sessions (subst (Lowers names.sessions c.lower.new.self) c.session_name.ensures c.lower.ensures)
 
 -- the top layer names another
-pub invariant_of-self-2 : goal.invariant_of-self-2
-invariant_of-self-2 g c =
+pub invariant_of-self : goal.invariant_of-self
+invariant_of-self g c =
     let hubs = c.self.inside.hubs in
     let number = c.args.number in
     let hub = c.in-Some.hub.now in

@@ -1,4 +1,4 @@
-use Rattle.std.proofs.Common.{◌≡◌, sym, subst, get_or}
+use Rattle.std.proofs.Common.{sym, subst}
 use Rattle.sentry_hub_table.specs.Names.{HasNames, client_of, session_of, transaction_of, span_of}
 use Rattle.sentry_hub_table.proofs.NameLemmas.{has_name_left}
 use Rattle.sentry_hub_table.proofs.names.Names.lower_each.Goals as goal

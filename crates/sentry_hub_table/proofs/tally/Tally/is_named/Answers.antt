@@ -1,4 +1,4 @@
-use Rattle.std.proofs.Common.{◌<◌, List, cond, subst, ap}
+use Rattle.std.proofs.Common.{◌<◌, List, cond, subst}
 use Rattle.std.specs.Prelude.{count_by, ◌==◌}
 use Rattle.sentry_hub_table.specs.declared.tally.Key.{Key}
 use Rattle.sentry_hub_table.specs.Tallies.{count_at, is_key}
