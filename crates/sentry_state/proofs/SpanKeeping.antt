@@ -7,19 +7,16 @@ use Rattle.sentry_base.specs.declared.protocol.keys.ClientKey.{ClientKey}
 use Rattle.sentry_base.specs.declared.protocol.keys.SpanKey.{SpanKey}
 use Rattle.sentry_base.specs.declared.protocol.keys.TransactionKey.{TransactionKey}
 use Rattle.sentry_base.specs.declared.protocol.keys.TransactionOrSpanKey.{TransactionOrSpanKey}
-use Rattle.sentry_base.specs.declared.protocol.span.Span.{Span}
-use Rattle.sentry_span_table.specs.SpanLists.{TransactionState, plain_transaction, with_finished, fate_of}
+use Rattle.sentry_span_table.specs.SpanLists.{TransactionState, plain_transaction}
 use Rattle.sentry_span_table.specs.SpanTables.{has_span_of, has_transaction_of, place_in, transaction_in, span_in}
-use Rattle.sentry_span_table.specs.declared.table.records.SpanFate.TheVariants.{Kept, Lost, Gone}
 use Rattle.sentry_span_table.specs.declared.table.records.SpanRecord.{SpanRecord}
 use Rattle.sentry_span_table.specs.declared.table.records.SpanTable.{SpanTable}
 use Rattle.sentry_span_table.specs.declared.table.records.TransactionRecord.{TransactionRecord}
-use Rattle.sentry_span_table.proofs.SpanListLemmas.{finished_kept, finished_lost, finished_gone}
 use Rattle.sentry_state.specs.Outcomes.{plain_transaction_at, transaction_at, span_at}
 use Rattle.sentry_state.specs.declared.state.State.{State}
 use Rattle.sentry_state.specs.SpanChanges.{with_transaction}
-use Rattle.sentry_state.specs.Worlds.{World, Stands, map_values, span_table}
-use Rattle.sentry_state.proofs.Keeping.{option_map-cond, value_at-map_values, put-map_values, replace_at-map_values, without_map_values, changed_same, replace_absent}
+use Rattle.sentry_state.specs.Worlds.{World, Stands, span_table}
+use Rattle.sentry_state.proofs.Keeping.{option_map-cond, value_at-map_values, put-map_values, replace_at-map_values, without_map_values, changed_same}
 
 module _ {P C : Type 0} where
   -- the transaction that the engine finds

@@ -2,7 +2,6 @@
 use Rattle.std.specs.Prelude.{ℕ, Bool, List, ◌&&◌, is_some, Some, [], false}
 use Rattle.std.specs.List.{list_any}
 use Rattle.sentry_base.specs.declared.protocol.keys.ClientKey.{ClientKey}
-use Rattle.sentry_sessions.specs.Sessions.{closed}
 use Rattle.sentry_state.specs.Worlds.{ClientState, QueueHistories, SessionState}
 use Rattle.sentry_options.specs.Meanings.{Meanings}
 use Rattle.sentry_options.specs.Options.{set_up}

@@ -1,10 +1,9 @@
 -- A world after one change of its transactions and spans.
-use Rattle.std.specs.Prelude.{ℕ, Bool, Option, Some, None, List, ◌+◌, ◌-◌, ◌^◌, nat_lt}
+use Rattle.std.specs.Prelude.{ℕ, Option, Some, None, ◌+◌}
 use Rattle.sentry_plain.specs.Tables.{put, replace_at}
 use Rattle.sentry_base.specs.declared.protocol.keys.SpanKey.{SpanKey}
 use Rattle.sentry_base.specs.declared.protocol.keys.TransactionKey.{TransactionKey}
-use Rattle.sentry_base.specs.declared.protocol.span.Span.{Span}
-use Rattle.sentry_span_table.specs.SpanLists.{TransactionState, with_finished}
+use Rattle.sentry_span_table.specs.SpanLists.{TransactionState}
 use Rattle.sentry_span_table.specs.declared.table.records.SpanRecord.{SpanRecord}
 use Rattle.sentry_state.specs.Outcomes.{transaction_at}
 use Rattle.sentry_state.specs.Worlds.{World}

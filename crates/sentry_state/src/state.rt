@@ -1,5 +1,5 @@
 //! What an engine holds, and how it is found.
-ghost use Rattle.std.specs.Prelude.{◌≡◌, [], Some, option_copied};
+ghost use Rattle.std.specs.Prelude.{◌≡◌, [], Some, true, is_some, OnSome, option_copied};
 ghost use Rattle.sentry_plain.specs.Tables.{value_at};
 ghost use Rattle.std.specs.Option.{option_map};
 ghost use Rattle.sentry_state.specs.Worlds.{World, Stands, starting_world, plain_session};
@@ -153,6 +153,7 @@ impl<P: Drop, C: Callbacks> State<P, C> {
         ensures in_world { (world : World P C) → Stands self.now world → option_copied result ≡ hub_at world key }
         ensures in_table { (hub : Hub P) → option_copied result ≡ Some hub →
             value_at self.now.hubs key.number ≡ Some hub }
+        ensures held { OnSome result (is_some (value_at self.now.hubs key.number) ≡ true) }
     {
         if key.tag != self.tag {
             return None;
@@ -164,8 +165,7 @@ impl<P: Drop, C: Callbacks> State<P, C> {
     #[tactic(auto, using(crate::proofs::Keeping::found_in_world))]
     pub fn client_at(&self, key: ClientKey) -> Option<&Client<C>>
         ensures in_world { (world : World P C) → Stands self.now world → option_copied result ≡ plain_client_at world key }
-        ensures in_table { (client : Client C) → option_copied result ≡ Some client →
-            value_at self.now.clients key.number ≡ Some client }
+        ensures held { OnSome result (is_some (value_at self.now.clients key.number) ≡ true) }
     {
         if key.tag != self.tag {
             return None;

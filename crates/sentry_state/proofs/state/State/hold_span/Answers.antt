@@ -1,4 +1,4 @@
-use Rattle.std.proofs.Common.{◌≡◌, ◌∙◌, ◌+◌, ap}
+use Rattle.std.proofs.Common.{◌∙◌, ◌+◌, ap}
 use Rattle.sentry_state.specs.declared.state.NextNumbers.{NextNumbers}
 use Rattle.sentry_state.proofs.SpanKeeping.{span_stored}
 use Rattle.sentry_state.proofs.state.State.hold_span.Goals as goal

@@ -1,4 +1,4 @@
-use Rattle.std.proofs.Common.{◌≡◌, ◌∙◌, ◌++◌, ◌∷◌, [], sym}
+use Rattle.std.proofs.Common.{◌∙◌, ◌++◌, ◌∷◌, [], sym}
 use Rattle.sentry_span_table.specs.SpanLists.{plain_transaction, with_finished}
 use Rattle.sentry_span_table.proofs.SpanListLemmas.{finished_kept}
 use Rattle.sentry_state.proofs.SpanKeeping.{transaction_replaced}

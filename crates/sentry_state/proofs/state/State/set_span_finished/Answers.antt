@@ -1,4 +1,4 @@
-use Rattle.std.proofs.Common.{◌≡◌, ◌∙◌}
+use Rattle.std.proofs.Common.{◌∙◌}
 use Rattle.sentry_state.specs.SpanChanges.{finished_span}
 use Rattle.sentry_state.proofs.SpanKeeping.{span_replaced}
 use Rattle.sentry_state.proofs.state.State.set_span_finished.Goals as goal
