@@ -1,4 +1,4 @@
-use Rattle.std.proofs.Common.{◌≡◌, ◌∙◌, ◌++◌, ◌-◌, ◌==◌, ap, sym, true, false, rules, refl, List, length}
+use Rattle.std.proofs.Common.{◌≡◌, ◌∙◌, ◌++◌, ap, sym, true, false, rules, refl, List}
 use Rattle.std.specs.Prelude.{Option, None, ◌&&◌}
 use Rattle.sentry_base.specs.declared.protocol.log.Log.{Log}
 use Rattle.sentry_batches.specs.Batches.{accept, batch_on, hands_out_next, queued_items}
