@@ -1,5 +1,5 @@
 -- How one edit changes a transaction or a span.
-use Rattle.std.specs.Prelude.{Bool, true, Option, Some}
+use Rattle.std.specs.Prelude.{Bool, true, Some}
 use Rattle.std.specs.Option.{is_some, option_map}
 use Rattle.sentry_plain.specs.Texts.{put}
 use Rattle.sentry_plain.specs.ValueView.{data_of}

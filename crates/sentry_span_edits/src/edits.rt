@@ -4,6 +4,7 @@ ghost use Rattle.std.specs.Option.{option_map};
 ghost use Rattle.sentry_plain.specs.Tables.{value_at, replace_at};
 ghost use Rattle.sentry_span_edits.specs.Edits.{edit_context, edit_held, edit_sent, edit_span, edit_span_record, edit_unfinished};
 ghost use Rattle.sentry_span_edits.specs.Setters.{with_edited};
+ghost use Rattle.sentry_span_table.specs.SpanTables.{span_in};
 ghost use Rattle.sentry_span_table.specs.declared.table.records.SpanRecord.{SpanRecord};
 ghost use Rattle.sentry_span_table.specs.declared.table.records.TransactionRecord.{TransactionRecord};
 ghost use Rattle.sentry_state.specs.Outcomes.{span_at};
@@ -173,6 +174,7 @@ pub fn edit_held_span<P: Drop, C: Callbacks>(
     key: SpanKey,
     edit: SpanEdit,
 ) -> Result<(), AllocError>
+    requires { is_some (span_in state.old.spans key) ≡ true }
     ensures in_world { OnOk result ((world : World P C) (held : SpanRecord) → Stands state.old world →
         span_at world key ≡ Some held →
         Stands state.new (with_span key.number (edit_span_record edit held) world)) }

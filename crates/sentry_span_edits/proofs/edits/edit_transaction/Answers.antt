@@ -1,4 +1,4 @@
-use Rattle.std.proofs.Common.{◌≡◌, ◌∙◌, Option, refl, sym, ap, subst}
+use Rattle.std.proofs.Common.{◌∙◌, Option, sym, ap, subst}
 use Rattle.sentry_span_table.specs.SpanLists.{TransactionState, plain_transaction}
 use Rattle.sentry_state.specs.Outcomes.{transaction_at}
 use Rattle.sentry_state.specs.SpanChanges.{with_transaction}
