@@ -1,14 +1,14 @@
 -- What a call on transactions and spans finds in an engine.
-use Rattle.std.proofs.Common.{◌≡◌, ap, ◌∙◌, sym, ℕ}
-use Rattle.std.specs.Prelude.{Option, Some, None}
+use Rattle.std.proofs.Common.{◌≡◌, ap, ◌∙◌}
+use Rattle.std.specs.Prelude.{Some, None}
 use Rattle.sentry_base.specs.declared.protocol.keys.ClientKey.{ClientKey}
 use Rattle.sentry_base.specs.declared.protocol.keys.TransactionKey.{TransactionKey}
 use Rattle.sentry_base.specs.declared.protocol.span.Span.{Span}
 use Rattle.sentry_span_table.specs.SpanLists.{TransactionState, fate_of, with_finished}
 use Rattle.sentry_span_table.specs.declared.table.records.SpanFate.{SpanFate}
-use Rattle.sentry_span_table.specs.declared.table.records.SpanFate.TheVariants.{Kept, Lost, Gone}
+use Rattle.sentry_span_table.specs.declared.table.records.SpanFate.TheVariants.{Lost, Gone}
 use Rattle.sentry_span_table.proofs.SpanListLemmas.{finished_lost, finished_gone}
-use Rattle.sentry_spans.specs.Spans.{lost_span, with_client_loss, with_fate, with_span_in}
+use Rattle.sentry_spans.specs.Spans.{with_fate, with_span_in}
 use Rattle.sentry_state.specs.Outcomes.{transaction_at}
 use Rattle.sentry_state.specs.SpanChanges.{with_transaction}
 use Rattle.sentry_state.proofs.SpanKeeping.{transaction_in_table, transaction_unchanged}

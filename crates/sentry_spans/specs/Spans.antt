@@ -1,5 +1,5 @@
 -- The calls on transactions and spans.
-use Rattle.std.specs.Prelude.{ℕ, Bool, true, false, Option, Some, None, List, [], ◌∷◌, nat_lt, ◌-◌, ◌^◌, codes, length, if◌then◌else◌}
+use Rattle.std.specs.Prelude.{ℕ, Bool, true, false, Option, Some, None, List, [], ◌∷◌, nat_lt, ◌-◌, ◌^◌, codes, if◌then◌else◌}
 use Rattle.std.specs.Option.{is_some, option_map, option_and_then}
 use Rattle.sentry_plain.specs.Texts.{Bytes, put}
 use Rattle.sentry_base.specs.Envelopes.{empty_envelope, with_item}
@@ -26,7 +26,6 @@ use Rattle.sentry_base.specs.declared.protocol.transaction.Transaction.{Transact
 use Rattle.sentry_client_reports.specs.LossBooks.{LossEntry, engine_losses}
 use Rattle.sentry_options.specs.Meanings.{Meanings}
 use Rattle.sentry_options.specs.declared.clientoptions.ClientOptions.{ClientOptions}
-use Rattle.sentry_options.specs.declared.clientoptions.plain.PlainOptions.{PlainOptions}
 use Rattle.sentry_pipeline.specs.Pipeline.{sdk_info}
 use Rattle.sentry_scope.specs.Scopes.{fill_transaction}
 use Rattle.sentry_scope.specs.declared.scope.Scope.{Scope}
@@ -39,7 +38,6 @@ use Rattle.sentry_span_table.specs.declared.table.records.SpanPlace.{SpanPlace}
 use Rattle.sentry_span_table.specs.declared.table.records.SpanRecord.{SpanRecord}
 use Rattle.sentry_span_table.specs.declared.table.records.TracingState.{TracingState}
 use Rattle.sentry_span_table.specs.declared.table.records.TracingState.TheVariants.{Enabled, Disabled}
-use Rattle.sentry_span_table.specs.declared.table.records.Unfinished.{Unfinished}
 use Rattle.sentry_spans.specs.Sampling.{accepted_context, tracing_of}
 use Rattle.sentry_state.specs.Books.{pending_report, with_entry}
 use Rattle.sentry_state.specs.Outcomes.{Outcome, hub_at, plain_client_at, let_some, reply_with, require, require_some, plain_transaction_at, span_at, transaction_at}

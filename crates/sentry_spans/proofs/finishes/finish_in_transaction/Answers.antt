@@ -1,7 +1,7 @@
-use Rattle.std.proofs.Common.{◌≡◌, ◌∙◌, ap, sym, subst}
+use Rattle.std.proofs.Common.{ap, sym, subst}
 use Rattle.std.specs.Prelude.{Option}
 use Rattle.sentry_span_table.specs.SpanLists.{TransactionState}
-use Rattle.sentry_span_table.specs.declared.table.records.SpanFate.TheVariants.{Kept, Lost, Gone}
+use Rattle.sentry_span_table.specs.declared.table.records.SpanFate.TheVariants.{Lost, Gone}
 use Rattle.sentry_state.specs.Outcomes.{transaction_at}
 use Rattle.sentry_state.specs.SpanChanges.{finished_span, with_span}
 use Rattle.sentry_state.specs.Worlds.{World, Stands}
