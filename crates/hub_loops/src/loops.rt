@@ -28,8 +28,8 @@ fn push_tag_and_pop<R: Wait>(rt: &R, thread: &mut ThreadHub) -> Result<(), Refus
         thread,
         |scope| scope.set_tag("key0", "other"),
         |_thread| (),
-    )
-    .map_err(Refusal::from)
+    )?;
+    Ok(())
 }
 
 /// Pushes a layer, sets a tag and pops the layer, on a scope with ten tags.
