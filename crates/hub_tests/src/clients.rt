@@ -4,7 +4,7 @@ use crate::twins::Twins;
 use crate::workshop::{Collector, at, drops_events, event, fresh, options, scope};
 use sentry_core::metrics::{IntoProtocolMetric, gauge};
 use sentry_core::protocol::{Draw, Event, Refusal, SampleRate};
-use sentry_core::{Boxed, BoxedTransport, Client, Scope, SharedCore};
+use sentry_core::{Boxed, BoxedTransport, Client, PlainOptions, Scope, SharedCore};
 use std::alloc::Global;
 use std::sync::{Arc, Wait};
 use std::test::Fail;
@@ -26,14 +26,20 @@ fn decide<R: Wait>(rt: &R, twins: &mut Twins, client: &Client, draw: u32) -> Res
     Ok(twins.note(expected, found)?)
 }
 
-// The release and the DSN in options, whether the client sends, and two decisions.
+// Whether options have the same release and environment, and the same limits.
+fn are_same(expected: &PlainOptions, found: &PlainOptions) -> bool {
+    expected.release == found.release
+        && expected.environment == found.environment
+        && expected.max_breadcrumbs == found.max_breadcrumbs
+        && expected.max_batch_items == found.max_batch_items
+}
+
+// The options, the DSN, whether the client sends, and two decisions.
 fn ask<R: Wait>(rt: &R, twins: &mut Twins, client: &Client) -> Result<(), Refusal> {
     let found = client.options(rt)?;
     let expected = twins.engine.options(client.key())?.reply;
-    twins.compare(
-        expected.get().plain.release.is_some(),
-        found.get().plain.release.is_some(),
-    );
+    let is_same = are_same(&expected.get().plain, &found.get().plain);
+    twins.compare(true, is_same);
     let found = client.dsn(rt);
     let expected = twins.engine.dsn(client.key());
     twins.note(expected, found)?;
@@ -48,11 +54,11 @@ fn ask<R: Wait>(rt: &R, twins: &mut Twins, client: &Client) -> Result<(), Refusa
 fn clients_answer_what_an_engine_answers(rt: HostRuntime) -> Result<(), Fail> {
     let alloc: Global = rt.alloc();
     let mut twins = Twins::new(alloc)?;
-    let client = twins.add_client(&rt, options(alloc)?)?;
+    let limited = options(alloc)?.environment("test")?.max_breadcrumbs(7);
+    let client = twins.add_client(&rt, limited)?;
     ask(&rt, &mut twins, &client)?;
     assert!(rt; client.is_enabled(&rt)?);
-    let release = client.options(&rt)?.get().plain.release.is_some();
-    assert!(rt; release);
+    assert_eq!(rt; client.options(&rt)?.get().plain.max_breadcrumbs, 7);
     assert_eq!(rt; twins.sent()?.as_str(), "");
     twins.close(&rt, &client)?;
     twins.drop_client(&rt, &client)?;

@@ -238,6 +238,20 @@ fn add_breadcrumbs<R: Wait>(rt: &R, twins: &mut Twins, hub: &Hub) -> Result<(), 
     Ok(twins.note(expected, found)?)
 }
 
+// Adds no breadcrumb and then one, by options.
+fn add_optional<R: Wait>(rt: &R, twins: &mut Twins, hub: &Hub) -> Result<(), Refusal> {
+    let alloc = twins.alloc;
+    let nothing: Option<Breadcrumb> = None;
+    let found = hub.add_breadcrumb(rt, nothing);
+    let none = Vec::new(alloc);
+    let expected = twins.engine.add_breadcrumbs(hub.key(), none);
+    twins.note(expected, found)?;
+    let found = hub.add_breadcrumb(rt, Some(breadcrumb(alloc, 1)?));
+    let one = one_breadcrumb(alloc)?;
+    let expected = twins.engine.add_breadcrumbs(hub.key(), one);
+    Ok(twins.note(expected, found)?)
+}
+
 // When the breadcrumbs of a scope were made, in seconds.
 fn seconds_of(alloc: Global, scope: &Scope) -> Result<Vec<u64>, AllocError> {
     let mut seconds = Vec::new(alloc);
@@ -262,7 +276,7 @@ fn copy_trail<R: Wait>(rt: &R, twins: &mut Twins, hub: &Hub) -> Result<Hub, Refu
     let scope = twins.engine.scope(hub.key())?.reply.into_inner();
     let expected = twins.engine.new_hub(Some(client.key()), scope);
     twins.note(expected, Ok(copy.key()))?;
-    let found = copy.add_breadcrumb(rt, Vec::new(twins.alloc));
+    let found = copy.add_breadcrumbs(rt, Vec::new(twins.alloc));
     let none = Vec::new(twins.alloc);
     let expected = twins.engine.add_breadcrumbs(copy.key(), none);
     twins.note(expected, found)?;
@@ -278,6 +292,8 @@ fn the_trail_keeps_the_last_breadcrumbs(rt: HostRuntime) -> Result<(), Fail> {
     assert!(rt; trail(&rt, &hub)?.as_slice() == [3, 1].as_slice());
     let copy = copy_trail(&rt, &mut twins, &hub)?;
     assert!(rt; trail(&rt, &copy)?.as_slice() == [3, 1].as_slice());
+    add_optional(&rt, &mut twins, &hub)?;
+    assert!(rt; trail(&rt, &hub)?.as_slice() == [1, 1].as_slice());
     twins.message(&rt, &copy, 1)?;
     assert_eq!(rt; twins.sent()?.as_str(), "event");
     drop(client);

@@ -4,8 +4,8 @@ use crate::workshop::{at, options, thread_of};
 use sentry_core::metrics::{CaptureMetric, IntoProtocolMetric, counter};
 use sentry_core::protocol::{Log, LogAttribute, LogLevel, Refusal, Value};
 use sentry_core::{
-    Text, ThreadHub, logger_debug, logger_error, logger_fatal, logger_info, logger_trace,
-    logger_warn,
+    Text, ThreadHub, logger_debug, logger_error, logger_fatal, logger_info, logger_log,
+    logger_trace, logger_warn,
 };
 use std::alloc::{AllocError, Global};
 use std::sync::Wait;
@@ -70,7 +70,8 @@ fn log_parameters<R: Wait>(rt: &R, twins: &mut Twins, thread: &ThreadHub) -> Res
     Ok(twins.note(expected, found)?)
 }
 
-// Makes a log of each other level by a macro. Without parameters the text is as it is written.
+// Makes a log of each other level by a macro, and one whose level is handed in. Without parameters the text is as it is
+// written.
 fn log_levels<R: Wait>(rt: &R, twins: &mut Twins, thread: &ThreadHub) -> Result<(), Refusal> {
     let found = logger_trace!(rt, thread, at(5), "{plain}");
     note_log(twins, thread, LogLevel::Trace, found)?;
@@ -79,7 +80,9 @@ fn log_levels<R: Wait>(rt: &R, twins: &mut Twins, thread: &ThreadHub) -> Result<
     let found = logger_warn!(rt, thread, at(5), "{plain}");
     note_log(twins, thread, LogLevel::Warn, found)?;
     let found = logger_fatal!(rt, thread, at(5), "{plain}");
-    note_log(twins, thread, LogLevel::Fatal, found)
+    note_log(twins, thread, LogLevel::Fatal, found)?;
+    let found = logger_log!(rt, thread, at(5), LogLevel::Warn, "{plain}");
+    note_log(twins, thread, LogLevel::Warn, found)
 }
 
 // Hands the engine the same log.
@@ -102,7 +105,7 @@ fn macros_make_logs(rt: HostRuntime) -> Result<(), Fail> {
     log_parameters(&rt, &mut twins, &thread)?;
     log_levels(&rt, &mut twins, &thread)?;
     twins.flush(&rt, &client)?;
-    assert_eq!(rt; twins.sent()?.as_str(), "6 logs");
+    assert_eq!(rt; twins.sent()?.as_str(), "7 logs");
     Ok(())
 }
 

@@ -6,8 +6,8 @@ use sentry_core::protocol::{
     Refusal, Request, SpanId, SpanStatus, TraceId, TransactionOrSpanKey, Value,
 };
 use sentry_core::{
-    Hub, Span, Text, TextMap, ThreadHub, TraceHeadersIter, Transaction, TransactionContext,
-    TransactionOrSpan,
+    Hub, ScopeEdit, Span, Text, TextMap, ThreadHub, TraceHeadersIter, Transaction,
+    TransactionContext, TransactionOrSpan,
 };
 use std::alloc::{AllocError, Global};
 use std::sync::Wait;
@@ -249,25 +249,27 @@ pub(crate) fn finish_span<R: Wait>(rt: &R, twins: &mut Twins, span: &Span) -> Re
     Ok(twins.note(expected, found)?)
 }
 
-/// Forgets a span and then its transaction, after a first try in the other order.
-fn discard<R: Wait>(
+// Forgets a transaction.
+fn discard_transaction<R: Wait>(
     rt: &R,
     twins: &mut Twins,
     transaction: &Transaction,
-    span: &Span,
 ) -> Result<(), Refusal> {
-    let whole = TransactionOrSpanKey::Transaction(transaction.key());
-    let part = TransactionOrSpanKey::Span(span.key());
     let found = transaction.discard(rt);
-    let expected = twins.engine.discard(whole);
+    let key = TransactionOrSpanKey::Transaction(transaction.key());
+    let expected = twins.engine.discard(key);
+    Ok(twins.note(expected, found)?)
+}
+
+// Forgets a span twice.
+fn discard_span<R: Wait>(rt: &R, twins: &mut Twins, span: &Span) -> Result<(), Refusal> {
+    let key = TransactionOrSpanKey::Span(span.key());
+    let found = span.discard(rt);
+    let expected = twins.engine.discard(key);
     twins.note(expected, found)?;
     let found = span.discard(rt);
-    let expected = twins.engine.discard(part);
-    twins.note(expected, found)?;
-    let found = span.discard(rt);
-    let expected = twins.engine.discard(part);
-    twins.note(expected, found)?;
-    Ok(())
+    let expected = twins.engine.discard(key);
+    Ok(twins.note(expected, found)?)
 }
 
 // A hub of a client that samples all traces.
@@ -289,9 +291,21 @@ fn transactions_do_what_an_engine_does(rt: HostRuntime) -> Result<(), Fail> {
     finish_span(&rt, &mut twins, &child)?;
     finish(&rt, &mut twins, &transaction, &thread)?;
     finish(&rt, &mut twins, &transaction, &thread)?;
-    discard(&rt, &mut twins, &transaction, &child)?;
+    // a span of it is still held
+    discard_transaction(&rt, &mut twins, &transaction)?;
+    discard_span(&rt, &mut twins, &child)?;
     assert_eq!(rt; twins.sent()?.as_str(), "transaction of 1 spans");
     Ok(())
+}
+
+// Whether clones are equal to a transaction, a span, and the span as what is either.
+fn clones_are_equal(transaction: &Transaction, span: &Span) -> Result<bool, AllocError> {
+    let whole = transaction.clone()?;
+    let part = span.clone()?;
+    let is_same = whole == *transaction && part == *span;
+    let either = TransactionOrSpan::from(part);
+    let copy = either.clone()?;
+    Ok(is_same && copy == either)
 }
 
 #[test]
@@ -303,6 +317,7 @@ fn spans_do_what_an_engine_does(rt: HostRuntime) -> Result<(), Fail> {
     let span = start_of_transaction(&rt, &mut twins, &transaction)?;
     set_span(&rt, &mut twins, &span)?;
     read_span(&rt, &mut twins, &span)?;
+    assert!(rt; clones_are_equal(&transaction, &span)?);
     let child = start_of_span(&rt, &mut twins, &span)?;
     finish_span(&rt, &mut twins, &child)?;
     finish_span(&rt, &mut twins, &span)?;
@@ -381,6 +396,67 @@ fn what_is_either_does_what_an_engine_does(rt: HostRuntime) -> Result<(), Fail> 
     Ok(())
 }
 
+#[test]
+fn a_transaction_without_spans_is_given_back_once(rt: HostRuntime) -> Result<(), Fail> {
+    let mut twins = Twins::new(rt.alloc())?;
+    let hub = tracing_hub(&rt, &mut twins)?;
+    let first = start(&rt, &mut twins, &hub, 1)?;
+    let second = TransactionOrSpan::from(start(&rt, &mut twins, &hub, 2)?);
+    discard_transaction(&rt, &mut twins, &first)?;
+    discard_transaction(&rt, &mut twins, &first)?;
+    discard_either(&rt, &mut twins, &second)?;
+    discard_either(&rt, &mut twins, &second)?;
+    assert_eq!(rt; twins.sent()?.as_str(), "");
+    assert_eq!(rt; first.discard(&rt), Err(Refusal::Stale));
+    assert_eq!(rt; second.discard(&rt), Err(Refusal::Stale));
+    Ok(())
+}
+
+// The edit that names what is active.
+fn activate(alloc: Global, key: TransactionOrSpanKey) -> Result<Vec<ScopeEdit>, AllocError> {
+    Ok(vec![in alloc; ScopeEdit::SetSpan(Some(key))]?)
+}
+
+// Names what is active on the scope of a hub, by a closure, which finds nothing there and leaves that so.
+fn set_active<R: Wait>(
+    rt: &R,
+    twins: &mut Twins,
+    hub: &Hub,
+    key: TransactionOrSpanKey,
+) -> Result<(), Refusal> {
+    let found = hub.configure_scope(rt, at(1), |edits| {
+        edits.set_span(Some(key))?;
+        Ok(edits.get_span().is_none() && edits.user().is_none())
+    });
+    let edits = activate(twins.alloc, key)?;
+    let expected = twins.engine.configure(hub.key(), edits, at(1));
+    let was_empty = found?;
+    twins.compare(true, was_empty);
+    twins.note(expected, Ok(()))?;
+    Ok(())
+}
+
+// What is active on the scope of a hub, as a closure finds it.
+fn active<R: Wait>(rt: &R, hub: &Hub) -> Result<Option<TransactionOrSpanKey>, Refusal> {
+    hub.configure_scope(rt, at(1), |edits| Ok(edits.get_span()))
+}
+
+#[test]
+fn events_stand_under_what_is_active_on_the_scope(rt: HostRuntime) -> Result<(), Fail> {
+    let mut twins = Twins::new(rt.alloc())?;
+    let hub = tracing_hub(&rt, &mut twins)?;
+    let transaction = start(&rt, &mut twins, &hub, 1)?;
+    let span = start_of_transaction(&rt, &mut twins, &transaction)?;
+    let key = TransactionOrSpanKey::Span(span.key());
+    set_active(&rt, &mut twins, &hub, key)?;
+    assert!(rt; active(&rt, &hub)? == Some(key));
+    twins.message(&rt, &hub, 5)?;
+    assert_eq!(rt; twins.sent()?.as_str(), "event");
+    // the scope still names it
+    assert_eq!(rt; span.discard(&rt), Err(Refusal::StillNamed));
+    Ok(())
+}
+
 // Sets data and a tag by a closure that is lent the data.
 fn edit_data<R: Wait>(rt: &R, twins: &mut Twins, value: &Transaction) -> Result<(), Refusal> {
     let count = value.data(rt, |data| {
@@ -445,6 +521,10 @@ fn data_is_lent_as_a_copy_with_its_setters(rt: HostRuntime) -> Result<(), Fail> 
     edit_span_data(&rt, &mut twins, &span)?;
     finish_by_clock(&rt, &mut twins, &transaction, &span, &mut thread)?;
     assert_eq!(rt; twins.sent()?.as_str(), "transaction of 1 spans");
+    // what is finished keeps its data
+    edit_data(&rt, &mut twins, &transaction)?;
+    read_transaction(&rt, &mut twins, &transaction)?;
+    assert_eq!(rt; twins.sent()?.as_str(), "");
     Ok(())
 }
 

@@ -3,14 +3,14 @@ use crate::pairs::log;
 use crate::workshop::{at, fresh, id, options, scope};
 use sentry_core::protocol::{EnvelopeItem, Refusal};
 use sentry_core::{
-    BoxedTransport, Client, Envelope, Hub, Items, Level, SendEnvelopes, SharedCore, TickClock,
-    Transport, Worker,
+    BoxedTransport, Client, Envelope, Hub, Items, Level, NoOpTransport, SendEnvelopes, SharedCore,
+    TickClock, Transport, Worker,
 };
 use std::alloc::{AllocError, Global};
 use std::sync::atomic::{AtomicU64, Ordering};
 use std::sync::{Arc, Mutex, Wait};
 use std::test::Fail;
-use std::thread::{join, yield_now};
+use std::thread::{Threads, join, yield_now};
 
 /// How often a test looks at a word before it fails.
 const TURNS: u64 = 10_000_000;
@@ -183,5 +183,60 @@ fn a_worker_ticks_beside_its_caller(rt: HostRuntime) -> Result<(), Fail> {
     assert_eq!(rt; wait_for(&ended), 1);
     assert_eq!(rt; logs_in(sink.take(alloc).as_slice()), Some(1));
     worker.stop(&rt);
+    Ok(())
+}
+
+/// Tells three moments. When it is dropped, a word tells how many of them it told, and one more.
+struct CountedTicks {
+    told: u64,
+    ended: Arc<AtomicU64>,
+}
+
+impl Drop for CountedTicks {
+    fn drop(self) {
+        let CountedTicks { told, ended } = self;
+        ended.store(told.saturating_add(1), Ordering::SeqCst);
+    }
+}
+
+impl TickClock for CountedTicks {
+    fn next(&mut self) -> Option<u64> {
+        if self.told >= 3 {
+            return None;
+        }
+        self.told = self.told.saturating_add(1);
+        Some(at(6))
+    }
+}
+
+// A word that isn't set.
+fn unset_word(alloc: Global) -> Result<Arc<AtomicU64>, AllocError> {
+    Ok(Arc::new(alloc, AtomicU64::new(0))?)
+}
+
+// How many moments a worker of the client is told until it ends by itself.
+fn count_moments<R: Threads + Wait + Copy + Send + 'static>(
+    rt: R,
+    client: Client,
+) -> Result<u64, Refusal> {
+    let ended = unset_word(client.core().allocator())?;
+    let clock = CountedTicks {
+        told: 0,
+        ended: ended.clone()?,
+    };
+    let worker = Worker::start(rt, client, clock)?;
+    let told = wait_for(&ended).saturating_sub(1);
+    worker.stop(&rt);
+    Ok(told)
+}
+
+#[test]
+fn a_worker_ends_at_the_first_tick_of_a_client_that_is_gone(rt: HostRuntime) -> Result<(), Fail> {
+    let alloc: Global = rt.alloc();
+    let transport: BoxedTransport = Box::new(alloc, NoOpTransport)?;
+    let client = client_with(&rt, &SharedCore::new(alloc, 1)?, transport)?;
+    assert_eq!(rt; count_moments(rt, client.clone()?)?, 3);
+    client.drop_client(&rt)?;
+    assert_eq!(rt; count_moments(rt, client)?, 1);
     Ok(())
 }
