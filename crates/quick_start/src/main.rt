@@ -52,6 +52,8 @@ fn sell_lamp<R: Wait>(rt: &R, alloc: Global, thread: &mut ThreadHub) -> Result<(
     let query = sale.start_child(rt, "db.query", "take a lamp", thread.fresh())?;
     query.finish(rt, thread)?;
     sale.finish(rt, thread)?;
+    query.discard(rt)?;
+    sale.discard(rt)?;
     Ok(())
 }
 
