@@ -2,7 +2,7 @@
 use crate::boxed::ClientCallbacks;
 use sentry_base::callbacks::BoxedEventCallback;
 pub use sentry_engine::call::{SpanCall, SpanReply};
-pub use sentry_engine::engine::Out;
+pub use sentry_engine::engine::{Out, Sent};
 
 /// An engine.
 pub type Engine = sentry_engine::engine::Engine<BoxedEventCallback, ClientCallbacks>;

@@ -15,8 +15,8 @@ mod telemetry;
 
 pub use layers::ScopeGuard;
 use sentry_options::clientoptions::Callbacks;
-pub use sentry_state::state::Out;
 use sentry_state::state::State;
+pub use sentry_state::state::{Out, Sent};
 use std::alloc::Global;
 use std::marker::Model;
 
