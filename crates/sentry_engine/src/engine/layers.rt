@@ -45,9 +45,9 @@ impl<P: Drop, C: Callbacks> Engine<P, C> {
     pub fn push_scope(&mut self, hub: HubKey) -> Result<Out<ScopeGuard>, Refusal>
         ensures { Does self.old self.new result (call.push_scope hub) }
     {
-        if self.state.hub_at(hub).is_none() {
+        let Some(_held) = self.state.hub_at(hub) else {
             return Err(Refusal::Stale);
-        }
+        };
         let depth = self.state.push_layer(hub.number)?;
         Ok(self.state.out(ScopeGuard { hub, depth }))
     }
@@ -143,9 +143,9 @@ impl<P: Drop, C: Callbacks> Engine<P, C> {
     ) -> Result<Out<()>, Refusal>
         ensures { DoesWithoutMemory self.old self.new result (call.bind_client hub client) }
     {
-        if self.state.hub_at(hub).is_none() {
+        let Some(_held) = self.state.hub_at(hub) else {
             return Err(Refusal::Stale);
-        }
+        };
         if !self.state.holds(client) {
             return Err(Refusal::Stale);
         }
