@@ -34,9 +34,13 @@ impl<R: Wait> Mailbox<R> {
         std::mem::replace(&mut *sent, Vec::new(alloc))
     }
 
-    // There is room for it.
+    // Where there is room it takes no memory. Where there is none, and memory is refused, it is asked for once more.
     fn put(&self, sent: Sent) {
-        drop(self.sent.lock(&self.rt).push(sent));
+        let mut list = self.sent.lock(&self.rt);
+        if list.reserve(1).is_err() {
+            drop(list.reserve(1));
+        }
+        drop(list.push(sent));
     }
 }
 
