@@ -17,4 +17,6 @@ mod metrics;
 #[cfg(test)]
 mod options;
 #[cfg(test)]
+mod samplers;
+#[cfg(test)]
 mod streams;

@@ -16,6 +16,13 @@ impl Drop for Kept {
     }
 }
 
+impl Kept {
+    fn into_guard(self) -> ScopeGuard {
+        let Kept { guard } = self;
+        guard
+    }
+}
+
 /// The guards of each hub, by its number, the youngest last. A hub has one layer to begin with, so the number of its
 /// guards is the depth of its top layer.
 #[derive(Drop)]
@@ -60,7 +67,7 @@ impl Guards {
     pub fn take(&mut self, hub: HubKey, depth: usize) -> Option<ScopeGuard> {
         match self.by_hub.get_mut(hub.number) {
             Some(guards) if guards.len() == depth => match guards.pop() {
-                Some(Kept { guard }) => Some(guard),
+                Some(kept) => Some(kept.into_guard()),
                 None => None,
             },
             _other => None,
