@@ -1,10 +1,10 @@
 //! Records: an envelope is equal to its clone, and to no other, and so is each of its items.
 use sentry_base::protocol::{
     Attachment, Breadcrumb, Category, ClientReport, ClientReportItem, ClientSdkInfo,
-    ClientSdkPackage, Context, Envelope, EnvelopeItem, ErrorLink, Event, Exception, Log,
-    LogAttribute, LogLevel, MetricDraft, MetricType, Reason, Request, SessionAggregateItem,
-    SessionAggregates, SessionAttributes, SessionStatus, SessionUpdate, Span, SpanId, TraceContext,
-    TraceId, Transaction, Unit, User, Uuid, Value, ValueMap,
+    ClientSdkPackage, Context, DynamicSamplingContext, Envelope, EnvelopeItem, ErrorLink, Event,
+    Exception, Log, LogAttribute, LogLevel, Mechanism, MetricDraft, MetricType, Reason, Request,
+    SessionAggregateItem, SessionAggregates, SessionAttributes, SessionStatus, SessionUpdate, Span,
+    SpanId, TraceContext, TraceId, Transaction, Unit, User, Uuid, Value, ValueMap,
 };
 use sentry_plain::{Items, Text, TextMap};
 use std::alloc::{AllocError, Global};
@@ -16,7 +16,10 @@ fn event(alloc: Global, tag: &str) -> Result<EnvelopeItem, AllocError> {
     event.exception.push(Exception {
         ty: Text::new(alloc, "ParseIntError")?,
         value: None,
-        mechanism: None,
+        mechanism: Some(Mechanism {
+            ty: Text::new(alloc, "generic")?,
+            handled: Some(false),
+        }),
     })?;
     let key = Text::new(alloc, "key")?;
     event.tags.insert(key, Text::new(alloc, tag)?)?;
@@ -192,6 +195,16 @@ fn trace(alloc: Global, op: &str) -> Result<Context, AllocError> {
     }))
 }
 
+/// How a trace is sampled, with this key.
+fn sampling(alloc: Global, key: &str) -> Result<DynamicSamplingContext, AllocError> {
+    Ok(DynamicSamplingContext {
+        trace_id: None,
+        sample_rate: None,
+        sampled: Some(true),
+        public_key: text(alloc, key)?,
+    })
+}
+
 /// What made an event, with a package of this name.
 fn sdk(alloc: Global, name: &str) -> Result<ClientSdkInfo, AllocError> {
     let mut packages = Items::new(alloc);
@@ -214,6 +227,7 @@ fn parts_of_events_are_their_clones(rt: HostRuntime) -> Result<(), Fail> {
     assert!(rt; is_its_clone(breadcrumb(alloc, "in")?, breadcrumb(alloc, "out")?)?);
     assert!(rt; is_its_clone(request(alloc, "GET")?, request(alloc, "PUT")?)?);
     assert!(rt; is_its_clone(trace(alloc, "db")?, trace(alloc, "http")?)?);
+    assert!(rt; is_its_clone(sampling(alloc, "one")?, sampling(alloc, "two")?)?);
     assert!(rt; is_its_clone(sdk(alloc, "one")?, sdk(alloc, "two")?)?);
     let error = ErrorLink::new(alloc, "Fault", "it broke")?;
     assert!(rt; is_its_clone(error, ErrorLink::new(alloc, "Cause", "it broke")?)?);
