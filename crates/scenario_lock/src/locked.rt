@@ -20,8 +20,8 @@ use sentry_trace::headers::TraceHeadersIter;
 use std::alloc::{AllocError, Global};
 use std::sync::{Arc, Wait};
 
-/// Hardly any call hands out more envelopes.
-const ROOM: usize = 16;
+/// More envelopes than any call hands out: at most, a flush hands out two of sessions, one of logs and one of metrics.
+const ROOM: usize = 8;
 
 type LockedClient<R> = Client<Handler, Callbacks, Post<R>>;
 

@@ -34,13 +34,9 @@ impl<R: Wait> Mailbox<R> {
         std::mem::replace(&mut *sent, Vec::new(alloc))
     }
 
-    // Where there is room it takes no memory. Where there is none, and memory is refused, it is asked for once more.
+    // There is room for it.
     fn put(&self, sent: SentEnvelope) {
-        let mut list = self.sent.lock(&self.rt);
-        if list.reserve(1).is_err() {
-            drop(list.reserve(1));
-        }
-        drop(list.push(sent));
+        drop(self.sent.lock(&self.rt).push(sent));
     }
 }
 
