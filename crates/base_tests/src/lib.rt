@@ -1,14 +1,23 @@
 //! Tests of what stands below or beside the engine, where no text given to a program can show it: clones and `==`,
-//! values that are read as a DSN, trace headers, losses that threads count and drain, and a queue of envelopes.
+//! values that are read as a DSN, trace headers, contexts of transactions, drafts of logs and metrics, sessions and
+//! their queue, losses that threads count and drain, and a queue of envelopes.
 #![tactic(auto)]
 
 #[cfg(test)]
+mod contexts;
+#[cfg(test)]
+mod logs;
+#[cfg(test)]
 mod losses;
+#[cfg(test)]
+mod metrics;
 #[cfg(test)]
 mod plain;
 #[cfg(test)]
 mod queueing;
 #[cfg(test)]
 mod records;
+#[cfg(test)]
+mod sessions;
 #[cfg(test)]
 mod texts;

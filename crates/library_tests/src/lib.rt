@@ -1,5 +1,5 @@
 //! Tests of what no text given to a program can show: boxed callbacks, builders and calls that no command makes, what a
-//! refused call hands back, and a stream that fails; and what a caller can promise by a law.
+//! refused call hands back, and a stream that fails.
 #![tactic(auto)]
 
 #[cfg(test)]
@@ -16,6 +16,7 @@ mod laws;
 mod metrics;
 #[cfg(test)]
 mod options;
-pub mod promises;
+#[cfg(test)]
+mod samplers;
 #[cfg(test)]
 mod streams;

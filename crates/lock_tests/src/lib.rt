@@ -1,10 +1,12 @@
 //! Tests of the lock with threads: what no contract says of it, that nothing is lost or sent twice, and what reaches a
-//! transport.
+//! transport; and each setter of a copy of a scope.
 #![tactic(auto)]
 
 #[cfg(test)]
 mod losses;
 #[cfg(test)]
 mod sending;
+#[cfg(test)]
+mod setters;
 #[cfg(test)]
 mod workshop;

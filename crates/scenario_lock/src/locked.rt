@@ -1,8 +1,10 @@
 //! An engine under its lock, which makes the calls of a scenario.
 ghost use Rattle.std.specs.Prelude.{◌≡◌, ◌∷◌, [], IfOk};
 
+use crate::guards::Guards;
 use crate::transport::{Mailbox, Post};
 use crate::words::Words;
+use scenario_run::TAG;
 use scenario_run::callbacks::{Callbacks, Handler};
 use scenario_run::caller::{CallReply, Caller, ScenarioCall};
 use sentry_base::protocol::{ClientKey, HubKey, Losses, Refusal, TransactionOrSpanKey};
@@ -18,11 +20,8 @@ use sentry_trace::headers::TraceHeadersIter;
 use std::alloc::{AllocError, Global};
 use std::sync::{Arc, Wait};
 
-/// The tag of the keys.
-const TAG: u64 = 0;
-
-/// At least as many as one call hands out.
-const ROOM: usize = 16;
+/// More envelopes than any call hands out: at most, a flush hands out two of sessions, one of logs and one of metrics.
+const ROOM: usize = 8;
 
 type LockedClient<R> = Client<Handler, Callbacks, Post<R>>;
 
@@ -34,6 +33,7 @@ pub struct Locked<R> {
     mailbox: Arc<Mailbox<R>>,
     // By the number of the client for which they were made.
     words: Table<Words>,
+    guards: Guards,
 }
 
 impl<R: Drop> Drop for Locked<R> {
@@ -44,6 +44,7 @@ impl<R: Drop> Drop for Locked<R> {
             core: _,
             mailbox: _,
             words: _,
+            guards: _,
         } = self;
     }
 }
@@ -65,6 +66,7 @@ impl<R: Wait + Copy + Drop> Locked<R> {
             core: SharedCore::new(alloc, TAG)?,
             mailbox,
             words: Table::new(alloc),
+            guards: Guards::new(alloc),
         })
     }
 
@@ -91,7 +93,8 @@ impl<R: Wait + Copy + Drop> Locked<R> {
         };
         let label = setup.label();
         self.words.insert(number, Words { label, recorder })?;
-        let client = Client::with_options(&self.rt, &self.core, setup, transport, now)?;
+        // It makes the client by `with_options`.
+        let client = Client::from_config(&self.rt, &self.core, setup, transport, now)?;
         Ok(client.key())
     }
 
@@ -219,12 +222,32 @@ impl<R: Wait + Copy + Drop> Locked<R> {
         }
     }
 
-    fn change_hub(&self, call: HubCall<Handler>) -> Result<CallReply, Refusal> {
-        match call {
-            HubCall::PushScope(hub) => {
-                let (_hub, depth) = self.core.push_scope(&self.rt, hub)?.into_parts();
-                Ok(Reply::Depth(depth))
+    // The guard gets its place before the call: after that nothing is refused.
+    fn push_scope(&mut self, hub: HubKey) -> Result<CallReply, Refusal> {
+        self.guards.reserve(hub)?;
+        let guard = self.core.push_scope(&self.rt, hub)?;
+        Ok(Reply::Depth(self.guards.keep(hub, guard)))
+    }
+
+    // By the guard of the top layer. No guard is of another depth, which the call as a value is then refused for.
+    fn pop_scope(&mut self, hub: HubKey, depth: usize, now: u64) -> Result<CallReply, Refusal> {
+        let Some(guard) = self.guards.take(hub, depth) else {
+            let call = HubCall::PopScope { hub, depth, now };
+            return self.core.call(&self.rt, Call::Hub(call));
+        };
+        match self.core.pop_scope(&self.rt, guard, now) {
+            Ok(()) => Ok(Reply::Done),
+            Err((refusal, guard)) => {
+                self.guards.keep(hub, guard);
+                Err(refusal)
             }
+        }
+    }
+
+    fn change_hub(&mut self, call: HubCall<Handler>) -> Result<CallReply, Refusal> {
+        match call {
+            HubCall::PushScope(hub) => self.push_scope(hub),
+            HubCall::PopScope { hub, depth, now } => self.pop_scope(hub, depth, now),
             HubCall::Configure { hub, edits, now } => {
                 let call = Call::Hub(HubCall::Configure { hub, edits, now });
                 self.core.call_all(&self.rt, list_of(self.alloc, call)?)?;
@@ -284,6 +307,7 @@ impl<R: Wait + Copy + Drop> Caller for Locked<R> {
         let sent = Items::from_vec(self.mailbox.take(self.alloc));
         Ok(Out { reply, sent })
     }
+
     // Those of the active span, or else those of the scope itself.
     fn headers_of_hub(&mut self, hub: HubKey) -> Result<TraceHeadersIter, Refusal> {
         match self.scope(hub)? {

@@ -2,6 +2,7 @@
 //! `SharedCore`, and the envelopes that are printed are those that the transports were handed.
 #![tactic(auto)]
 
+mod guards;
 mod locked;
 mod transport;
 mod words;

@@ -5,13 +5,13 @@ use std::alloc::{AllocError, Global};
 use std::sync::{Arc, Mutex, Wait};
 
 /// An envelope, and the client whose transport it was handed to.
-pub type Sent = (ClientKey, Envelope);
+pub type SentEnvelope = (ClientKey, Envelope);
 
 /// What transports were handed since it was last taken.
 #[derive(Drop)]
 pub struct Mailbox<R> {
     rt: R,
-    sent: Mutex<Vec<Sent>>,
+    sent: Mutex<Vec<SentEnvelope>>,
 }
 
 impl<R: Wait> Mailbox<R> {
@@ -29,13 +29,13 @@ impl<R: Wait> Mailbox<R> {
     }
 
     /// What it holds, in the order in which it came, which it then holds no more. It takes no memory.
-    pub fn take(&self, alloc: Global) -> Vec<Sent> {
+    pub fn take(&self, alloc: Global) -> Vec<SentEnvelope> {
         let mut sent = self.sent.lock(&self.rt);
         std::mem::replace(&mut *sent, Vec::new(alloc))
     }
 
     // There is room for it.
-    fn put(&self, sent: Sent) {
+    fn put(&self, sent: SentEnvelope) {
         drop(self.sent.lock(&self.rt).push(sent));
     }
 }

@@ -22,17 +22,11 @@ impl<E: Caller> Scenario<E> {
             ClientCommand::Options(client) => self.options(*client),
             ClientCommand::Dsn(client) => self.dsn_of_client(*client),
             ClientCommand::IsEnabled(client) => self.is_enabled(*client),
-            ClientCommand::Flush(client) => self.call_client(ClientCall::Flush(client_key(
-                *client,
-            ))),
+            ClientCommand::Flush(client) => self.flush(*client),
             ClientCommand::Tick(client) => self.tick(*client),
-            ClientCommand::Close(client) => self.call_client(ClientCall::Close(client_key(
-                *client,
-            ))),
+            ClientCommand::Close(client) => self.close(*client),
             ClientCommand::Clone(client) => self.clone_client(*client),
-            ClientCommand::Drop(client) => {
-                self.call_client(ClientCall::DropClient(client_key(*client)))
-            }
+            ClientCommand::Drop(client) => self.drop_client(*client),
             ClientCommand::Sample { millionths, draw } => self.sample(*millionths, *draw),
         }
     }
@@ -46,13 +40,12 @@ impl<E: Caller> Scenario<E> {
 
     // Makes a call that adds a client.
     fn add<'a>(&mut self, call: ClientCall<Handler, Callbacks>) -> Result<Answer<'a>, Failure> {
-        match self.ask(Call::Client(call))? {
-            CallReply::Client(key) => {
-                self.clients = key.number.saturating_add(1);
-                Ok(Answer::new(self.alloc, Reply::Nothing))
-            }
-            _other => Err(Failure::OtherReply),
-        }
+        let out = self.caller.apply(Call::Client(call))?;
+        let CallReply::Client(key) = &out.reply else {
+            return Err(Failure::OtherReply);
+        };
+        self.clients = key.number.saturating_add(1);
+        Ok(Answer::of_sent(out))
     }
 
     // A client has a label of its own.
@@ -96,10 +89,18 @@ impl<E: Caller> Scenario<E> {
         Ok(Answer::new(self.alloc, reply))
     }
 
+    fn flush<'a>(&mut self, client: u64) -> Result<Answer<'a>, Failure> {
+        self.call_client(ClientCall::Flush(client_key(client)))
+    }
+
     fn tick<'a>(&mut self, client: u64) -> Result<Answer<'a>, Failure> {
         let now = self.moment();
         let client = client_key(client);
         self.call_client(ClientCall::Tick { client, now })
+    }
+
+    fn close<'a>(&mut self, client: u64) -> Result<Answer<'a>, Failure> {
+        self.call_client(ClientCall::Close(client_key(client)))
     }
 
     // The original is noted before the call, so that what is out of memory has changed nothing that is seen; a client
@@ -110,6 +111,10 @@ impl<E: Caller> Scenario<E> {
         let now = self.moment();
         let client = client_key(client);
         self.add(ClientCall::CloneClient { client, now })
+    }
+
+    fn drop_client<'a>(&mut self, client: u64) -> Result<Answer<'a>, Failure> {
+        self.call_client(ClientCall::DropClient(client_key(client)))
     }
 
     fn sample<'a>(&mut self, millionths: u32, draw: Draw) -> Result<Answer<'a>, Failure> {

@@ -1,5 +1,5 @@
 //! What is done with the layers of hubs.
-use crate::answer::{Answer, Reply};
+use crate::answer::Answer;
 use crate::caller::{CallReply, Caller};
 use crate::fault::Failure;
 use crate::scenario::{Scenario, client_key, hub_key};
@@ -31,13 +31,14 @@ impl<E: Caller> Scenario<E> {
         if self.depths.get(hub).is_none() {
             self.depths.insert(hub, 0)?;
         }
-        match self.ask(Call::Hub(HubCall::PushScope(hub_key(hub))))? {
-            CallReply::Depth(depth) => {
-                self.set_depth(hub, depth);
-                Ok(Answer::new(self.alloc, Reply::Nothing))
-            }
-            _other => Err(Failure::OtherReply),
-        }
+        let out = self
+            .caller
+            .apply(Call::Hub(HubCall::PushScope(hub_key(hub))))?;
+        let CallReply::Depth(depth) = &out.reply else {
+            return Err(Failure::OtherReply);
+        };
+        self.set_depth(hub, *depth);
+        Ok(Answer::of_sent(out))
     }
 
     // The depth of the layer that is to be popped: the one that is given, or that of the top one.

@@ -34,3 +34,4 @@ mod transactions;
 
 pub use fault::ScenarioFault;
 pub use run::{run_scenario, run_scenario_by};
+pub use scenario::TAG;

@@ -86,7 +86,7 @@ pub fn run_scenario<R: BufRead, W: Write>(
     run_scenario_by(alloc, Engine::new(alloc, TAG), reader, writer)
 }
 
-/// The same by what makes the calls in place of an engine, and holds nothing yet. The tag of its keys is 0.
+/// The same by what makes the calls in place of an engine, and holds nothing yet. The tag of its keys is `TAG`.
 pub fn run_scenario_by<E: Caller, R: BufRead, W: Write>(
     alloc: Global,
     caller: E,

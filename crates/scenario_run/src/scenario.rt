@@ -9,7 +9,7 @@ use sentry_base::protocol::{ClientKey, Draw, Fresh, HubKey, Label, SpanId, Trace
 use sentry_plain::{Items, Table};
 use std::alloc::Global;
 
-/// The tag of the one engine, by which its keys are told.
+/// The tag of the keys of what makes the calls.
 pub const TAG: u64 = 0;
 
 const NANOSECONDS: u64 = 1_000_000_000;
