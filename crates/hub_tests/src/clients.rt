@@ -1,7 +1,6 @@
 //! Calls on clients.
-use crate::pairs::log;
 use crate::twins::Twins;
-use crate::workshop::{Collector, at, drops_events, event, fresh, options, scope};
+use crate::workshop::{Collector, at, drops_events, event, fresh, log, options, scope};
 use sentry_core::metrics::{IntoProtocolMetric, gauge};
 use sentry_core::protocol::{Draw, Event, Refusal, SampleRate};
 use sentry_core::{Boxed, BoxedTransport, Client, PlainOptions, Scope, SharedCore};

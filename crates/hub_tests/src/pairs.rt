@@ -1,9 +1,9 @@
 //! Calls that are made on an engine and on a value of the same key.
 use crate::twins::Twins;
-use crate::workshop::{at, fresh};
+use crate::workshop::{at, fresh, log};
 use sentry_core::engine::Out;
 use sentry_core::metrics::{IntoProtocolMetric, counter};
-use sentry_core::protocol::{Log, LogLevel, Refusal, SessionStatus};
+use sentry_core::protocol::{Refusal, SessionStatus};
 use sentry_core::{Client, Envelope, Hub, Level, ScopeEdit, ScopeGuard, Text, ThreadHub};
 use std::alloc::{AllocError, Global};
 use std::sync::Wait;
@@ -13,11 +13,6 @@ pub(crate) fn tag(alloc: Global, key: &str, value: &str) -> Result<Vec<ScopeEdit
     let key = Text::new(alloc, key)?;
     let value = Text::new(alloc, value)?;
     Ok(vec![in alloc; ScopeEdit::SetTag(key, value)]?)
-}
-
-/// A log of the second of a number.
-pub(crate) fn log(alloc: Global, number: u8) -> Result<Log, AllocError> {
-    Log::new(alloc, LogLevel::Info, "told", at(number))
 }
 
 impl Twins {

@@ -1,6 +1,5 @@
 //! Hubs in threads, and a worker.
-use crate::pairs::log;
-use crate::workshop::{at, fresh, id, options, scope};
+use crate::workshop::{at, fresh, id, log, options, scope};
 use sentry_core::protocol::{EnvelopeItem, Refusal};
 use sentry_core::{
     BoxedTransport, Client, Envelope, Hub, Items, Level, NoOpTransport, SendEnvelopes, SharedCore,

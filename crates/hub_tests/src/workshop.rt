@@ -1,5 +1,5 @@
 //! What the tests are made of: options, ids, events and a collecting transport.
-use sentry_core::protocol::{Draw, Event, Fresh, Log, Refusal, SpanId, TraceId, Uuid};
+use sentry_core::protocol::{Draw, Event, Fresh, Log, LogLevel, Refusal, SpanId, TraceId, Uuid};
 use sentry_core::{
     BoxedClock, BoxedEventCallback, BoxedLogCallback, ClientOptions, Clock, Envelope,
     EventCallback, Hub, Items, LogCallback, Scope, SendEnvelopes, ThreadHub, Transport,
@@ -46,6 +46,11 @@ impl Transport for Collector {
     fn flush(&self, _timeout: u64) -> bool {
         self.answer
     }
+}
+
+/// A log of the second of a number.
+pub(crate) fn log(alloc: Global, number: u8) -> Result<Log, AllocError> {
+    Log::new(alloc, LogLevel::Info, "told", at(number))
 }
 
 /// Options with a DSN and a release.
