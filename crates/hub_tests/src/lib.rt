@@ -3,15 +3,7 @@
 #![tactic(auto)]
 
 #[cfg(test)]
-mod batches;
-#[cfg(test)]
-mod clients;
-#[cfg(test)]
-mod current;
-#[cfg(test)]
 mod guards;
-#[cfg(test)]
-mod hubs;
 #[cfg(test)]
 mod integrations;
 #[cfg(test)]
@@ -21,15 +13,9 @@ mod pairs;
 #[cfg(test)]
 mod polls;
 #[cfg(test)]
-mod sessions;
-#[cfg(test)]
 mod sketch;
 #[cfg(test)]
-mod spans;
-#[cfg(test)]
 mod threads;
-#[cfg(test)]
-mod traces;
 #[cfg(test)]
 mod twins;
 #[cfg(test)]
