@@ -9,7 +9,7 @@ use std::alloc::{AllocError, Global};
 use std::sync::atomic::{AtomicU64, Ordering};
 use std::sync::{Arc, Mutex, Wait};
 use std::test::Fail;
-use std::thread::{Threads, join, yield_now};
+use std::thread::{Threads, map_vec, yield_now};
 
 /// How often a test looks at a word before it fails.
 const TURNS: u64 = 10_000_000;
@@ -55,11 +55,25 @@ fn client_with<R: Wait>(
     Client::with_options(rt, core, setup, Some(transport), at(1))
 }
 
-// Sends a hundred messages, with the ids of the numbers from this one on.
-fn send_hundred<R: Wait>(rt: &R, hub: &Hub, first: u8) -> Result<(), Refusal> {
+/// A hundred messages on a hub, with the ids of the numbers from the first on.
+#[derive(Drop)]
+struct Job {
+    first: u8,
+    hub: Hub,
+}
+
+fn send_hundred<R: Wait>(rt: &R, job: Job) -> Result<(), Refusal> {
     for offset in 0..100u8 {
-        let fresh = fresh(first.wrapping_add(offset));
-        drop(hub.capture_message(rt, "told", Level::Info, fresh)?);
+        let fresh = fresh(job.first.wrapping_add(offset));
+        drop(job.hub.capture_message(rt, "told", Level::Info, fresh)?);
+    }
+    Ok(())
+}
+
+// Each job in a thread, until all are done.
+fn send_in_threads<R: Threads + Wait + Sync>(rt: &R, jobs: Vec<Job>) -> Result<(), Refusal> {
+    for done in map_vec(rt, jobs, &|job: Job| send_hundred(rt, job))? {
+        done?;
     }
     Ok(())
 }
@@ -94,13 +108,17 @@ fn two_threads_hand_over_each_message_once(rt: HostRuntime) -> Result<(), Fail> 
     let client = client_with(&rt, &core, transport)?;
     let first = Hub::new(&rt, &core, Some(&client), scope(alloc))?;
     let second = Hub::new_from_top(&rt, &first)?;
-    let (one, other) = join(
-        &rt,
-        || send_hundred(&rt, &first, 1),
-        || send_hundred(&rt, &second, 101),
-    );
-    one?;
-    other?;
+    let jobs = vec![in alloc;
+        Job {
+            first: 1,
+            hub: first,
+        },
+        Job {
+            first: 101,
+            hub: second,
+        },
+    ]?;
+    send_in_threads(&rt, jobs)?;
     let envelopes = sink.take(alloc);
     assert_eq!(rt; envelopes.len(), 200);
     assert!(rt; ids(alloc, envelopes.as_slice())? == two_hundred_ids(alloc)?);

@@ -30,8 +30,8 @@ fn main(rt: HostRuntime) -> Result<()> {
     let transport: BoxedTransport = Box::new(alloc, Printer(rt))?;
     let (client, hub) = connect(&rt, alloc, transport)?;
     let ended = Arc::new(alloc, AtomicU64::new(0))?;
-    let clock = LoggingTicks::new(rt, hub, ended.clone()?);
-    let worker = Worker::start(rt, client.clone()?, clock)?;
+    let (copy, word) = (client.clone()?, ended.clone()?);
+    let worker = Worker::start(rt, copy, LoggingTicks::new(rt, hub, word))?;
     let moments = wait_for(&ended);
     worker.stop(&rt);
     println!(rt;
