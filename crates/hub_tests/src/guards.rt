@@ -1,6 +1,6 @@
 //! The hubs of a thread: guards, and closures under another hub.
 use crate::twins::Twins;
-use crate::workshop::{fresh, options, thread_of};
+use crate::workshop::{fresh, options, set_tag, thread_of};
 use sentry_core::protocol::{HubKey, Refusal};
 use sentry_core::{Hub, HubSwitchGuard, Level, ThreadHub};
 use std::alloc::{AllocError, Global};
@@ -57,11 +57,10 @@ fn thread_beside<R: Wait>(rt: &R, hub: &Hub) -> Result<ThreadHub, Refusal> {
 
 #[test]
 fn a_thread_beside_another_has_a_hub_of_its_own(rt: HostRuntime) -> Result<(), Fail> {
-    let alloc: Global = rt.alloc();
-    let mut twins = Twins::new(alloc)?;
-    let (client, hub) = twins.new_client_and_hub(&rt, options(alloc)?)?;
-    twins.set_tag(&rt, &hub, "a", "1")?;
-    let thread = thread_beside(&rt, &hub)?;
+    let mut twins = Twins::new(rt.alloc())?;
+    let (_client, beside) = twins.new_thread(&rt)?;
+    set_tag(&rt, &beside.current, "a", "1")?;
+    let thread = thread_beside(&rt, &beside.current)?;
     assert_eq!(rt;
         (thread.main.key().number, thread.current.key().number),
         (0, 1)
@@ -73,7 +72,6 @@ fn a_thread_beside_another_has_a_hub_of_its_own(rt: HostRuntime) -> Result<(), F
     );
     let sent = twins.sent_by_core()?;
     assert_eq!(rt; sent.as_str(), "event a=1");
-    drop(client);
     Ok(())
 }
 

@@ -95,9 +95,11 @@ fn the_first_integration_of_a_name_is_lent(rt: HostRuntime) -> Result<(), Fail> 
     let thread = thread_of(alloc, &hub)?;
     let options = client.options(&rt)?;
     let plain = &options.get().plain;
-    assert_eq!(rt; ask_hub(&rt, &hub, plain, "adds")?, 5);
-    assert_eq!(rt; ask_hub(&rt, &hub, plain, "none")?, 0);
-    assert_eq!(rt; ask_thread(&rt, &thread, plain, "adds")?, 5);
-    assert_eq!(rt; ask_thread(&rt, &thread, plain, "none")?, 0);
+    let found = ask_hub(&rt, &hub, plain, "adds")?;
+    let default = ask_hub(&rt, &hub, plain, "none")?;
+    assert_eq!(rt; (found, default), (5, 0));
+    let found = ask_thread(&rt, &thread, plain, "adds")?;
+    let default = ask_thread(&rt, &thread, plain, "none")?;
+    assert_eq!(rt; (found, default), (5, 0));
     Ok(())
 }

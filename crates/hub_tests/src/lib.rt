@@ -1,7 +1,12 @@
-//! Tests of hubs and clients as users name them: each call on one is also made on an engine, which must reply and send
-//! the same; and what no contract says of the hubs of a thread, of futures, of macros and of workers.
+//! Tests of what neither a contract nor a scenario shows of hubs as users name them: of the hubs of a thread, of the
+//! functions on its current hub, and of closures, futures, macros and workers. Functions on the current hub, logs and
+//! metrics are handed to an engine too, which must reply and send the same.
 #![tactic(auto)]
 
+#[cfg(test)]
+mod breadcrumbs;
+#[cfg(test)]
+mod current;
 #[cfg(test)]
 mod guards;
 #[cfg(test)]
@@ -9,11 +14,11 @@ mod integrations;
 #[cfg(test)]
 mod logs;
 #[cfg(test)]
-mod pairs;
-#[cfg(test)]
 mod polls;
 #[cfg(test)]
 mod sketch;
+#[cfg(test)]
+mod spans;
 #[cfg(test)]
 mod threads;
 #[cfg(test)]

@@ -1,8 +1,8 @@
 //! The macros for logs, and metrics that are captured on the current hub.
 use crate::twins::Twins;
-use crate::workshop::{at, options, thread_of};
-use sentry_core::metrics::{CaptureMetric, IntoProtocolMetric, counter};
-use sentry_core::protocol::{Log, LogAttribute, LogLevel, Refusal, Value};
+use crate::workshop::at;
+use sentry_core::metrics::{CaptureMetric, IntoProtocolMetric, counter, distribution, gauge};
+use sentry_core::protocol::{Log, LogAttribute, LogLevel, MetricDraft, Refusal, Value};
 use sentry_core::{
     Text, ThreadHub, logger_debug, logger_error, logger_fatal, logger_info, logger_log,
     logger_trace, logger_warn,
@@ -100,8 +100,7 @@ fn note_log(
 #[test]
 fn macros_make_logs(rt: HostRuntime) -> Result<(), Fail> {
     let mut twins = Twins::new(rt.alloc())?;
-    let (client, hub) = twins.new_client_and_hub(&rt, options(rt.alloc())?)?;
-    let thread = thread_of(rt.alloc(), &hub)?;
+    let (client, thread) = twins.new_thread(&rt)?;
     log_parameters(&rt, &mut twins, &thread)?;
     log_levels(&rt, &mut twins, &thread)?;
     twins.flush(&rt, &client)?;
@@ -109,10 +108,27 @@ fn macros_make_logs(rt: HostRuntime) -> Result<(), Fail> {
     Ok(())
 }
 
-fn count<R: Wait>(rt: &R, twins: &mut Twins, thread: &mut ThreadHub) -> Result<(), Refusal> {
+// Captures a counter, a gauge and a distribution, and hands the engine the same.
+fn measure<R: Wait>(rt: &R, twins: &mut Twins, thread: &mut ThreadHub) -> Result<(), Refusal> {
     let alloc = twins.alloc;
     let found = counter(alloc, "orders", 1)?.capture(rt, thread);
     let draft = counter(alloc, "orders", 1)?.into_draft();
+    note_metric(twins, thread, draft, found)?;
+    let found = gauge(alloc, "load", 2)?.capture(rt, thread);
+    let draft = gauge(alloc, "load", 2)?.into_draft();
+    note_metric(twins, thread, draft, found)?;
+    let found = distribution(alloc, "size", 3)?.capture(rt, thread);
+    let draft = distribution(alloc, "size", 3)?.into_draft();
+    note_metric(twins, thread, draft, found)
+}
+
+// Hands the engine a metric of the second of the thread's clock.
+fn note_metric(
+    twins: &mut Twins,
+    thread: &ThreadHub,
+    draft: MetricDraft,
+    found: Result<(), Refusal>,
+) -> Result<(), Refusal> {
     let hub = thread.current.key();
     let expected = twins.engine.capture_metric(hub, draft, at(60));
     Ok(twins.note(expected, found)?)
@@ -121,10 +137,9 @@ fn count<R: Wait>(rt: &R, twins: &mut Twins, thread: &mut ThreadHub) -> Result<(
 #[test]
 fn metrics_are_captured_on_the_current_hub(rt: HostRuntime) -> Result<(), Fail> {
     let mut twins = Twins::new(rt.alloc())?;
-    let (client, hub) = twins.new_client_and_hub(&rt, options(rt.alloc())?)?;
-    let mut thread = thread_of(rt.alloc(), &hub)?;
-    count(&rt, &mut twins, &mut thread)?;
+    let (client, mut thread) = twins.new_thread(&rt)?;
+    measure(&rt, &mut twins, &mut thread)?;
     twins.flush(&rt, &client)?;
-    assert_eq!(rt; twins.sent()?.as_str(), "1 metrics");
+    assert_eq!(rt; twins.sent()?.as_str(), "3 metrics");
     Ok(())
 }

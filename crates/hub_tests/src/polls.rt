@@ -1,13 +1,12 @@
 //! Futures that are bound to hubs.
 use crate::twins::Twins;
-use crate::workshop::{options, thread_of};
+use crate::workshop::set_tag;
 use futures::executor::block_on;
 use futures::task::{Context, Poll};
 use sentry_core::protocol::Refusal;
 use sentry_core::{
     BoxedClock, Generator, Hub, HubFuture, Level, SentryFutureExt, ThreadHub, capture_message,
 };
-use std::alloc::{AllocError, Global};
 use std::sync::Wait;
 use std::test::Fail;
 
@@ -31,21 +30,19 @@ impl<R: Wait + Drop> HubFuture<Hub, BoxedClock, Generator> for SendsTwice<R> {
     }
 }
 
-// A hub from the top of another one, which has the tag a=1, with the tag b=2 besides.
-fn tagged_hubs<R: Wait>(rt: &R, twins: &mut Twins) -> Result<(Hub, Hub), Refusal> {
-    let (_client, main) = twins.new_client_and_hub(rt, options(twins.alloc)?)?;
-    twins.set_tag(rt, &main, "a", "1")?;
-    let other = twins.new_from_top(rt, &main)?;
-    twins.set_tag(rt, &other, "b", "2")?;
-    Ok((main, other))
+// The hubs of a thread with the tag a=1, and a hub from the top of these with the tag b=2 besides.
+fn tagged_hubs<R: Wait>(rt: &R, twins: &mut Twins) -> Result<(ThreadHub, Hub), Refusal> {
+    let (_client, thread) = twins.new_thread(rt)?;
+    set_tag(rt, &thread.current, "a", "1")?;
+    let other = Hub::new_from_top(rt, &thread.current)?;
+    set_tag(rt, &other, "b", "2")?;
+    Ok((thread, other))
 }
 
 #[test]
 fn a_future_is_polled_under_its_hub(rt: HostRuntime) -> Result<(), Fail> {
-    let alloc: Global = rt.alloc();
-    let mut twins = Twins::new(alloc)?;
-    let (main, other) = tagged_hubs(&rt, &mut twins)?;
-    let mut thread = thread_of(alloc, &main)?;
+    let mut twins = Twins::new(rt.alloc())?;
+    let (mut thread, other) = tagged_hubs(&rt, &mut twins)?;
     let future = SendsTwice {
         rt,
         was_polled: false,

@@ -1,6 +1,6 @@
 //! What a transport was handed, as one line of text.
-use sentry_core::Envelope;
-use sentry_core::protocol::{ClientReport, EnvelopeItem, Event, SessionAggregates, SessionUpdate};
+use sentry_core::protocol::{EnvelopeItem, Event, Transaction};
+use sentry_core::{Envelope, Text, TextMap};
 use std::alloc::{AllocError, Global};
 
 /// The envelopes in order, between them a semicolon, and between their items a plus sign.
@@ -32,57 +32,51 @@ fn push_items(text: &mut String, items: &[EnvelopeItem]) -> Result<(), AllocErro
 fn push_item(text: &mut String, item: &EnvelopeItem) -> Result<(), AllocError> {
     match item {
         EnvelopeItem::Event(event) => push_event(text, event),
-        EnvelopeItem::SessionUpdate(update) => push_update(text, update),
-        EnvelopeItem::SessionAggregates(aggregates) => push_aggregates(text, aggregates),
-        EnvelopeItem::Transaction(transaction) => {
-            write!(text, "transaction of {} spans", transaction.spans.len())
-        }
-        EnvelopeItem::Attachment(_) => text.push_str("attachment"),
+        EnvelopeItem::SessionUpdate(update) => write!(text, "session {:?}", update.status),
+        EnvelopeItem::Transaction(transaction) => push_transaction(text, transaction),
         EnvelopeItem::Logs(logs) => write!(text, "{} logs", logs.len()),
         EnvelopeItem::Metrics(metrics) => write!(text, "{} metrics", metrics.len()),
-        EnvelopeItem::ClientReport(report) => push_report(text, report),
+        EnvelopeItem::SessionAggregates(_)
+        | EnvelopeItem::Attachment(_)
+        | EnvelopeItem::ClientReport(_) => text.push_str("another item"),
     }
 }
 
-// The tags, each after a blank.
+// The tags, and the second of each breadcrumb.
 fn push_event(text: &mut String, event: &Event) -> Result<(), AllocError> {
     text.push_str("event")?;
-    for (key, value) in event.tags.iter() {
+    push_tags(text, &event.tags)?;
+    for breadcrumb in event.breadcrumbs.as_slice() {
+        write!(text, " after {}", breadcrumb.timestamp / 1_000_000_000)?;
+    }
+    Ok(())
+}
+
+// The tags, each after a blank.
+fn push_tags(text: &mut String, tags: &TextMap<Text>) -> Result<(), AllocError> {
+    for (key, value) in tags.iter() {
         write!(text, " {}={}", key.as_str(), value.as_str())?;
     }
     Ok(())
 }
 
-// The status, the number of errors, and whether it is the first update.
-fn push_update(text: &mut String, update: &SessionUpdate) -> Result<(), AllocError> {
-    write!(
-        text,
-        "session {:?} {} {}",
-        update.status, update.errors, update.init
-    )
-}
-
-// For each user the numbers of those that exited, and of those with errors.
-fn push_aggregates(text: &mut String, aggregates: &SessionAggregates) -> Result<(), AllocError> {
-    text.push_str("sessions")?;
-    for item in aggregates.aggregates.as_slice() {
-        let user = match &item.distinct_id {
-            Some(user) => user.as_str(),
-            None => "-",
-        };
-        write!(text, " {user} {}/{}", item.exited, item.errored)?;
+// The second in which something ended, if it did.
+fn push_end(text: &mut String, end: Option<u64>) -> Result<(), AllocError> {
+    match end {
+        Some(end) => write!(text, " until {}", end / 1_000_000_000),
+        None => Ok(()),
     }
-    Ok(())
 }
 
-fn push_report(text: &mut String, report: &ClientReport) -> Result<(), AllocError> {
-    text.push_str("report")?;
-    for item in report.items.as_slice() {
-        write!(
-            text,
-            " {:?}/{:?} {}",
-            item.category, item.reason, item.quantity
-        )?;
+// The tags and the end of a transaction, and then those of each of its spans.
+fn push_transaction(text: &mut String, transaction: &Transaction) -> Result<(), AllocError> {
+    text.push_str("transaction")?;
+    push_tags(text, &transaction.tags)?;
+    push_end(text, transaction.timestamp)?;
+    for span in transaction.spans.as_slice() {
+        text.push_str(", span")?;
+        push_tags(text, &span.tags)?;
+        push_end(text, span.timestamp)?;
     }
     Ok(())
 }

@@ -1,9 +1,9 @@
 //! An engine, and a core under its lock, on which the same calls are made.
 use crate::sketch::sketch;
-use crate::workshop::{Collector, at, scope};
+use crate::workshop::{Collector, at, options, scope, thread_of};
 use sentry_core::engine::{Engine, Out};
 use sentry_core::protocol::Refusal;
-use sentry_core::{BoxedTransport, Client, ClientOptions, Envelope, Hub, SharedCore};
+use sentry_core::{BoxedTransport, Client, ClientOptions, Envelope, Hub, SharedCore, ThreadHub};
 use std::alloc::{AllocError, Global};
 use std::sync::{Arc, Wait};
 
@@ -39,26 +39,26 @@ impl Twins {
             alloc,
             engine: Engine::new(alloc, 5),
             core: SharedCore::new(alloc, 5)?,
-            sink: Arc::new(alloc, Collector::new(alloc, true))?,
+            sink: Arc::new(alloc, Collector::new(alloc))?,
             expected: Vec::new(alloc),
             are_same: true,
         })
     }
 
-    /// A share of the transport that collects.
+    // A share of the transport that collects.
     fn transport(&self) -> Result<BoxedTransport, AllocError> {
         let sink = self.sink.clone()?;
         let transport: BoxedTransport = Box::new(self.alloc, sink)?;
         Ok(transport)
     }
 
-    /// Notes whether two values are equal.
-    pub(crate) fn compare<A: PartialEq + Drop>(&mut self, expected: A, found: A) {
+    // Notes whether two values are equal.
+    fn compare<A: PartialEq + Drop>(&mut self, expected: A, found: A) {
         self.are_same = self.are_same && expected == found;
     }
 
-    /// The reply of the engine. Its envelopes are kept.
-    pub(crate) fn keep<A: Drop>(&mut self, out: Out<A>) -> Result<A, AllocError> {
+    // The reply of the engine. Its envelopes are kept.
+    fn keep<A: Drop>(&mut self, out: Out<A>) -> Result<A, AllocError> {
         let Out { reply, sent } = out;
         for (_, envelope) in sent.into_vec() {
             self.expected.push(envelope)?;
@@ -131,22 +131,21 @@ impl Twins {
         Ok(hub)
     }
 
-    /// A hub of a new client with these options.
-    pub(crate) fn new_client_and_hub<R: Wait>(
-        &mut self,
-        rt: &R,
-        options: ClientOptions,
-    ) -> Result<(Client, Hub), Refusal> {
-        let client = self.add_client(rt, options)?;
+    /// A client that samples all traces, and the hubs of a thread whose main and current hub has it.
+    pub(crate) fn new_thread<R: Wait>(&mut self, rt: &R) -> Result<(Client, ThreadHub), Refusal> {
+        let traced = options(self.alloc)?.traces_sample_rate(1_000_000)?;
+        let client = self.add_client(rt, traced)?;
         let hub = self.new_hub(rt, Some(&client))?;
-        Ok((client, hub))
+        let thread = thread_of(self.alloc, &hub)?;
+        Ok((client, thread))
     }
 
-    /// A hub from the top of another one.
-    pub(crate) fn new_from_top<R: Wait>(&mut self, rt: &R, hub: &Hub) -> Result<Hub, Refusal> {
-        let made = Hub::new_from_top(rt, hub)?;
-        let expected = self.engine.new_hub_from_top(hub.key());
-        self.note(expected, Ok(made.key()))?;
-        Ok(made)
+    /// Flushes a client, which the transport answers with true.
+    pub(crate) fn flush<R: Wait>(&mut self, rt: &R, client: &Client) -> Result<(), Refusal> {
+        let found = client.flush(rt, None)?;
+        let expected = self.engine.flush(client.key())?;
+        self.keep(expected)?;
+        self.compare(true, found);
+        Ok(())
     }
 }

@@ -1,25 +1,23 @@
-//! What the tests are made of: options, ids, events and a collecting transport.
+//! What the tests are made of: options, ids, events, edits, hubs of threads and a collecting transport.
 use sentry_core::protocol::{Draw, Event, Fresh, Log, LogLevel, Refusal, SpanId, TraceId, Uuid};
 use sentry_core::{
-    BoxedClock, BoxedEventCallback, BoxedLogCallback, ClientOptions, Clock, Envelope,
-    EventCallback, Hub, Items, LogCallback, Scope, SendEnvelopes, ThreadHub, Transport,
+    BoxedClock, ClientOptions, Clock, Envelope, Hub, Items, Scope, ScopeEdit, SendEnvelopes, Text,
+    ThreadHub, TransactionContext, Transport,
 };
 use std::alloc::{AllocError, Global};
-use std::sync::Mutex;
+use std::sync::{Mutex, Wait};
 
 /// Keeps what it is to send. Its lock is free whenever it is asked, since one thread makes the calls.
 #[derive(Drop)]
 pub(crate) struct Collector {
     kept: Mutex<SendEnvelopes>,
-    answer: bool,
 }
 
 impl Collector {
-    /// Holds nothing. `answer` is what it answers to a flush.
-    pub(crate) fn new(alloc: Global, answer: bool) -> Collector {
+    /// Holds nothing.
+    pub(crate) fn new(alloc: Global) -> Collector {
         Collector {
             kept: Mutex::new(SendEnvelopes::new(Items::new(alloc))),
-            answer,
         }
     }
 
@@ -41,10 +39,6 @@ impl Transport for Collector {
             let envelopes = &mut kept.envelopes;
             drop(envelopes.push(envelope));
         }
-    }
-
-    fn flush(&self, _timeout: u64) -> bool {
-        self.answer
     }
 }
 
@@ -89,6 +83,25 @@ pub(crate) fn event(alloc: Global, number: u8) -> Result<Event, AllocError> {
     Event::new(alloc, id(u64::from(number)), at(number))
 }
 
+/// The context of a transaction, with the ids of a number.
+pub(crate) fn context(alloc: Global, number: u8) -> Result<TransactionContext, AllocError> {
+    let trace_id = TraceId([number; 16]);
+    TransactionContext::new(alloc, "order", "http", trace_id, SpanId([number; 8]))
+}
+
+/// The edit that sets a tag.
+pub(crate) fn tag(alloc: Global, key: &str, value: &str) -> Result<Vec<ScopeEdit>, AllocError> {
+    let key = Text::new(alloc, key)?;
+    let value = Text::new(alloc, value)?;
+    Ok(vec![in alloc; ScopeEdit::SetTag(key, value)]?)
+}
+
+/// Sets a tag on the scope of a hub.
+pub(crate) fn set_tag<R: Wait>(rt: &R, hub: &Hub, key: &str, value: &str) -> Result<(), Refusal> {
+    let edits = tag(hub.core().allocator(), key, value)?;
+    hub.configure(rt, edits, at(1))
+}
+
 /// Stands at the second 60.
 #[derive(Drop)]
 struct Minute;
@@ -103,47 +116,4 @@ impl Clock for Minute {
 pub(crate) fn thread_of(alloc: Global, hub: &Hub) -> Result<ThreadHub, AllocError> {
     let clock: BoxedClock = Box::new(alloc, Minute)?;
     ThreadHub::new(hub.clone()?, clock, [3; 32])
-}
-
-/// Drops every event.
-#[derive(Drop)]
-struct DropsEvents;
-
-impl EventCallback for DropsEvents {
-    ghost use Rattle.std.specs.Prelude.{None};
-
-    ghost gives = { λ _ event. None };
-
-    fn call(&self, _event: Event) -> Result<Option<Event>, AllocError> {
-        Ok(None)
-    }
-}
-
-/// A callback that drops every event.
-pub(crate) fn drops_events(alloc: Global) -> Result<BoxedEventCallback, AllocError> {
-    let callback: BoxedEventCallback = Box::new(alloc, DropsEvents)?;
-    Ok(callback)
-}
-
-/// Drops every log, or none.
-#[derive(Drop)]
-struct DropsLogs(bool);
-
-impl LogCallback for DropsLogs {
-    ghost use Rattle.std.specs.Prelude.{Some, None, if◌then◌else◌};
-
-    ghost gives = { λ s log. if s.0 then None else Some log };
-
-    fn call(&self, log: Log) -> Result<Option<Log>, AllocError> {
-        if self.0 {
-            return Ok(None);
-        }
-        Ok(Some(log))
-    }
-}
-
-/// A callback that drops every log, or none.
-pub(crate) fn drops_logs(alloc: Global, drops: bool) -> Result<BoxedLogCallback, AllocError> {
-    let callback: BoxedLogCallback = Box::new(alloc, DropsLogs(drops))?;
-    Ok(callback)
 }
