@@ -1,6 +1,6 @@
 //! What a caller that keeps something beside an engine has to know of it.
-ghost use Rattle.std.specs.Prelude.{◌≡◌};
-ghost use Rattle.std.specs.Option.{option_map};
+ghost use Rattle.std.specs.Prelude.{◌≡◌, Some, None, if◌then◌else◌};
+ghost use Rattle.std.specs.Option.{option_map, option_and_then};
 ghost use Rattle.sentry_state.specs.Books.{has_book};
 ghost use Rattle.sentry_state.specs.Outcomes.{client_at};
 ghost use Rattle.sentry_state.specs.Worlds.{World, Stands};
@@ -37,10 +37,18 @@ impl<P: Drop, C: Callbacks> Engine<P, C> {
 
     /// How long a client may wait for its transport when it is closed, in nanoseconds, by its options; `None` if it
     /// isn't held, or sends nothing: it had no DSN when it was added, or no transport, or was closed.
-    pub fn shutdown_timeout(&self, client: ClientKey) -> Option<u64> {
+    pub fn shutdown_timeout(&self, client: ClientKey) -> Option<u64>
+        ensures { (world : World P C) → Stands self.now world →
+            result ≡ option_and_then
+                (λ held. if held.occupied then Some held.options.plain.shutdown_timeout else None)
+                (client_at world client) }
+    {
         match self.state.client_at(client) {
-            Some(held) if held.occupied => Some(held.options.get().plain.shutdown_timeout),
-            _ => None,
+            None => None,
+            Some(held) => match held.occupied {
+                true => Some(held.options.get().plain.shutdown_timeout),
+                false => None,
+            },
         }
     }
 }
