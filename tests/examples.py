@@ -14,11 +14,15 @@ FOLDER = os.path.join(TOP, "examples")
 PROGRAMS = ("scenario", "replay")
 # The program that plays the scenarios too, over the lock.
 LOCKED = "scenario_lock"
+# Its arguments: by which values it makes the calls on transactions and spans. Without one it is by their own types.
+OTHER_SPAN_CALLS = ("either", "lent")
+# The lines that start a transaction. Without one there is no call on a transaction or a span that is held.
+STARTS = (b"tx ", b"txsampled ", b"txat ", b"txfrom ", b"continue ")
 
 # What a run of a program gives: its exit status, and what it wrote.
 Run = namedtuple("Run", "status out err")
-# An example: a name, its program, the input, and the run that is wanted.
-Example = namedtuple("Example", "name program input wanted")
+# An example: a name, its program, the input, the run that is wanted, and the program's arguments.
+Example = namedtuple("Example", "name program input wanted arguments", defaults=((),))
 
 
 def program_path(name):
@@ -86,8 +90,16 @@ def find(names):
     return found
 
 
+def by_other_values(example):
+    """An example of scenario_lock with each of its arguments, if transactions start in it."""
+    if any(line.startswith(STARTS) for line in example.input.split(b"\n")):
+        for word in OTHER_SPAN_CALLS:
+            yield example._replace(name=f"{example.name}, {word}", arguments=(word,))
+
+
 def over_the_lock(found):
-    """The scenarios among the examples, without single bad lines, for the program that plays them over the lock."""
+    """The scenarios among the examples, without single bad lines, for the program that plays them over the lock; those
+    with transactions by each kind of values that it may use for these."""
     locked = [
         it._replace(
             name=f"{it.name} over the lock",
@@ -98,7 +110,7 @@ def over_the_lock(found):
         if it.program == "scenario" and ".bad " not in it.name
     ]
     stop_without_programs(locked)
-    return locked
+    return locked + [other for it in locked for other in by_other_values(it)]
 
 
 def around(line, at):

@@ -1,0 +1,172 @@
+//! Calls on clients.
+use crate::locked::{Locked, LockedClient};
+use crate::transport::Post;
+use crate::words::Words;
+use scenario_run::TAG;
+use scenario_run::callbacks::{Callbacks, Handler};
+use scenario_run::caller::CallReply;
+use sentry_base::protocol::{ClientKey, Losses, Refusal};
+use sentry_engine::call::{ClientCall, Reply};
+use sentry_lock::client::Client;
+use sentry_options::clientoptions::ClientOptions;
+use std::alloc::AllocError;
+use std::sync::Wait;
+
+impl<R: Wait + Copy + Drop> Locked<R> {
+    /// The client of a key, which need not be held.
+    pub(crate) fn client(&self, key: ClientKey) -> Result<LockedClient<R>, AllocError> {
+        self.core.client(key)
+    }
+
+    /// Makes a call that adds a client, drops one, or sends what waits.
+    pub(crate) fn change_client(
+        &mut self,
+        call: ClientCall<Handler, Callbacks>,
+    ) -> Result<CallReply, Refusal> {
+        match call {
+            ClientCall::AddClient {
+                options,
+                transport,
+                label,
+                now,
+            } => {
+                let options = options.into_inner();
+                Ok(Reply::Client(self.add_client(options, transport, label.number, now)?))
+            }
+            ClientCall::CloneClient { client, now } => {
+                let clone = self.client(client)?.clone_client(&self.rt, now)?;
+                Ok(Reply::Client(clone.key()))
+            }
+            ClientCall::DropClient(key) => {
+                self.client(key)?.drop_client(&self.rt)?;
+                Ok(Reply::Done)
+            }
+            ClientCall::Flush(key) => {
+                self.client(key)?.flush(&self.rt, None)?;
+                Ok(Reply::Done)
+            }
+            ClientCall::Close(key) => {
+                self.client(key)?.close(&self.rt, None)?;
+                Ok(Reply::Done)
+            }
+            ClientCall::Tick { client, now } => {
+                self.client(client)?.tick(&self.rt, now)?;
+                Ok(Reply::Done)
+            }
+            ClientCall::Absorb { label, losses } => self.absorb(label.number, losses.get()),
+            ClientCall::TakeReport(label) => self.take_report(label.number),
+            call => self.send_by_client(call),
+        }
+    }
+
+    // A call by which a client sends something.
+    fn send_by_client(&self, call: ClientCall<Handler, Callbacks>) -> Result<CallReply, Refusal> {
+        match call {
+            ClientCall::ClientCaptureEvent {
+                client,
+                event,
+                scope,
+                fresh,
+            } => {
+                let client = self.client(client)?;
+                let scope = scope.as_ref().map(|scope| scope.get());
+                let id = client.capture_event(&self.rt, event.into_inner(), scope, fresh)?;
+                Ok(Reply::Event(id))
+            }
+            ClientCall::SendEnvelope { client, envelope } => {
+                self.client(client)?.send_envelope(&self.rt, envelope)?;
+                Ok(Reply::Done)
+            }
+            ClientCall::ClientCaptureLog { client, log, scope } => {
+                let client = self.client(client)?;
+                client.capture_log(&self.rt, log.into_inner(), scope.get())?;
+                Ok(Reply::Done)
+            }
+            ClientCall::ClientCaptureMetric {
+                client,
+                draft,
+                scope,
+                now,
+            } => {
+                let client = self.client(client)?;
+                client.capture_metric(&self.rt, draft.into_inner(), scope.get(), now)?;
+                Ok(Reply::Done)
+            }
+            call => self.ask_client(call),
+        }
+    }
+
+    // A call that changes nothing but losses.
+    fn ask_client(&self, call: ClientCall<Handler, Callbacks>) -> Result<CallReply, Refusal> {
+        match call {
+            ClientCall::Options(key) => Ok(Reply::Options(self.client(key)?.options(&self.rt)?)),
+            ClientCall::Dsn(key) => Ok(Reply::Dsn(self.client(key)?.dsn(&self.rt)?)),
+            ClientCall::IsEnabled(key) => {
+                Ok(Reply::Decision(self.client(key)?.is_enabled(&self.rt)?))
+            }
+            ClientCall::PrepareEvent {
+                client,
+                event,
+                scope,
+                fresh,
+            } => {
+                let client = self.client(client)?;
+                let scope = scope.as_ref().map(|scope| scope.get());
+                let event = client.prepare_event(&self.rt, event.into_inner(), scope, fresh)?;
+                Ok(Reply::Prepared(event))
+            }
+            // It asks for no client, so that any will do.
+            ClientCall::SampleShouldSend { rate, draw } => {
+                let client = self.client(ClientKey {
+                    tag: TAG,
+                    number: 0,
+                })?;
+                Ok(Reply::Decision(client.sample_should_send(&self.rt, rate, draw)?))
+            }
+            // the calls of the two functions above
+            _other => Err(Refusal::Stale),
+        }
+    }
+
+    // The words get their place before the client is added: after that nothing is refused.
+    fn add_client(
+        &mut self,
+        options: ClientOptions<Callbacks>,
+        has_transport: bool,
+        number: u64,
+        now: u64,
+    ) -> Result<ClientKey, Refusal> {
+        let transport = match has_transport {
+            false => None,
+            true => Some(Post::new(ClientKey { tag: TAG, number }, self.mailbox.clone()?)),
+        };
+        let mut setup = self.core.client_setup(&self.rt, options)?;
+        let recorder = match setup.transport_options()? {
+            None => None,
+            Some(options) => options.client_report_recorder,
+        };
+        let label = setup.label();
+        self.words.insert(number, Words { label, recorder })?;
+        // It makes the client by `with_options`.
+        let client = Client::from_config(&self.rt, &self.core, setup, transport, now)?;
+        Ok(client.key())
+    }
+
+    // Records losses in the words of a client, and drains these.
+    fn absorb(&mut self, number: u64, losses: &Losses) -> Result<CallReply, Refusal> {
+        let Some(words) = self.words.get_mut(number) else {
+            return Err(Refusal::ForeignLosses);
+        };
+        let label = words.record(losses)?;
+        self.core.lock(&self.rt).core.drain_and_absorb(label)?;
+        Ok(Reply::Done)
+    }
+
+    fn take_report(&self, number: u64) -> Result<CallReply, Refusal> {
+        let Some(words) = self.words.get(number) else {
+            return Err(Refusal::ForeignLosses);
+        };
+        let report = self.core.lock(&self.rt).core.take_report(words.label)?;
+        Ok(Reply::Report(report))
+    }
+}

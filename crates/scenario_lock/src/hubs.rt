@@ -1,0 +1,193 @@
+//! Calls on hubs.
+use crate::locked::{Locked, LockedHub};
+use crate::threads::thread_of;
+use scenario_run::callbacks::Handler;
+use scenario_run::caller::CallReply;
+use sentry_base::protocol::{ClientKey, HubKey, Refusal, SessionStatus};
+use sentry_engine::call::{Call, HubCall, Reply};
+use sentry_engine::engine::ScopeGuard;
+use sentry_hub::hub::Hub;
+use sentry_plain::Boxed;
+use sentry_scope::scope::Scope;
+use std::sync::Wait;
+
+impl<R: Wait + Copy + Drop> Locked<R> {
+    /// Makes a call that adds a hub or gives one back, or that changes its client or its layers.
+    pub(crate) fn change_hub(&mut self, call: HubCall<Handler>) -> Result<CallReply, Refusal> {
+        match call {
+            HubCall::NewHub { client, scope } => self.new_hub(client, scope.into_inner()),
+            HubCall::NewHubFromTop(hub) => self.new_hub_from_top(hub),
+            HubCall::ReleaseHub { hub, now } => self.release(hub, now),
+            HubCall::BindClient { hub, client } => self.bind_client(hub, client),
+            HubCall::PushScope(hub) => self.push_scope(hub),
+            HubCall::PopScope { hub, depth, now } => self.pop_scope(hub, depth, now),
+            call => self.change_top(call),
+        }
+    }
+
+    // The hub gets its place before it is made: after that nothing is refused.
+    fn keep_hub(&mut self, hub: LockedHub<R>) -> CallReply {
+        let key = hub.key();
+        drop(self.hubs.push(hub));
+        Reply::Hub(key)
+    }
+
+    fn new_hub(
+        &mut self,
+        client: Option<ClientKey>,
+        scope: Scope<Handler>,
+    ) -> Result<CallReply, Refusal> {
+        self.hubs.reserve(1)?;
+        let client = match client {
+            None => None,
+            Some(key) => Some(self.client(key)?),
+        };
+        let hub = Hub::new(&self.rt, &self.core, client.as_ref(), scope)?;
+        Ok(self.keep_hub(hub))
+    }
+
+    fn new_hub_from_top(&mut self, other: HubKey) -> Result<CallReply, Refusal> {
+        self.hubs.reserve(1)?;
+        let hub = Hub::new_from_top(&self.rt, self.hub(other)?)?;
+        Ok(self.keep_hub(hub))
+    }
+
+    fn release(&self, hub: HubKey, now: u64) -> Result<CallReply, Refusal> {
+        let hub = self.hub(hub)?;
+        let mut thread = thread_of(hub, now)?;
+        hub.release(&self.rt, &mut thread)?;
+        Ok(Reply::Done)
+    }
+
+    fn bind_client(&self, hub: HubKey, client: Option<ClientKey>) -> Result<CallReply, Refusal> {
+        let client = match client {
+            None => None,
+            Some(key) => Some(self.client(key)?),
+        };
+        self.hub(hub)?.bind_client(&self.rt, client.as_ref())?;
+        Ok(Reply::Done)
+    }
+
+    // The guard gets its place before the call: after that nothing is refused.
+    fn push_scope(&mut self, hub: HubKey) -> Result<CallReply, Refusal> {
+        self.guards.reserve(hub)?;
+        let guard = self.hub(hub)?.push_scope(&self.rt)?;
+        Ok(Reply::Depth(self.guards.keep(hub, guard)))
+    }
+
+    // By the guard of the top layer. No guard is of another depth, which the call as a value is then refused for.
+    fn pop_scope(&mut self, hub: HubKey, depth: usize, now: u64) -> Result<CallReply, Refusal> {
+        let Some(guard) = self.guards.take(hub, depth) else {
+            let call = HubCall::PopScope { hub, depth, now };
+            return self.core.call(&self.rt, Call::Hub(call));
+        };
+        match self.pop(hub, guard, now) {
+            Ok(()) => Ok(Reply::Done),
+            Err((refusal, guard)) => {
+                self.guards.keep(hub, guard);
+                Err(refusal)
+            }
+        }
+    }
+
+    fn pop(&self, hub: HubKey, guard: ScopeGuard, now: u64) -> Result<(), (Refusal, ScopeGuard)> {
+        match self.hub(hub) {
+            Ok(hub) => hub.pop_scope(&self.rt, guard, now),
+            Err(refusal) => Err((refusal, guard)),
+        }
+    }
+
+    // A call that changes the top layer.
+    fn change_top(&self, call: HubCall<Handler>) -> Result<CallReply, Refusal> {
+        match call {
+            HubCall::Configure { hub, edits, now } => {
+                self.hub(hub)?.configure(&self.rt, edits.into_vec(), now)?;
+                Ok(Reply::Done)
+            }
+            HubCall::AddBreadcrumbs { hub, breadcrumbs } => {
+                self.hub(hub)?
+                    .add_breadcrumb(&self.rt, breadcrumbs.into_vec())?;
+                Ok(Reply::Done)
+            }
+            HubCall::StartSession { hub, fresh } => {
+                self.hub(hub)?.start_session(&self.rt, fresh)?;
+                Ok(Reply::Done)
+            }
+            HubCall::EndSessionWithStatus { hub, status, now } => {
+                self.end_session(hub, status, now)
+            }
+            call => self.capture(call),
+        }
+    }
+
+    fn end_session(
+        &self,
+        hub: HubKey,
+        status: SessionStatus,
+        now: u64,
+    ) -> Result<CallReply, Refusal> {
+        let hub = self.hub(hub)?;
+        match status {
+            SessionStatus::Exited => hub.end_session(&self.rt, now)?,
+            status => hub.end_session_with_status(&self.rt, status, now)?,
+        }
+        Ok(Reply::Done)
+    }
+
+    // A call that captures something.
+    fn capture(&self, call: HubCall<Handler>) -> Result<CallReply, Refusal> {
+        match call {
+            HubCall::CaptureEvent { hub, event, fresh } => {
+                let id = self
+                    .hub(hub)?
+                    .capture_event(&self.rt, event.into_inner(), fresh)?;
+                Ok(Reply::Event(id))
+            }
+            HubCall::CaptureMessage {
+                hub,
+                message,
+                level,
+                fresh,
+            } => {
+                let hub = self.hub(hub)?;
+                Ok(Reply::Event(hub.capture_message(&self.rt, message.as_str(), level, fresh)?))
+            }
+            HubCall::CaptureError { hub, links, fresh } => {
+                let id = self
+                    .hub(hub)?
+                    .capture_error(&self.rt, links.as_slice(), fresh)?;
+                Ok(Reply::Event(id))
+            }
+            HubCall::CaptureLog { hub, log } => {
+                self.hub(hub)?.capture_log(&self.rt, log.into_inner())?;
+                Ok(Reply::Done)
+            }
+            HubCall::CaptureMetric { hub, draft, now } => {
+                self.hub(hub)?
+                    .capture_metric(&self.rt, draft.into_inner(), now)?;
+                Ok(Reply::Done)
+            }
+            call => self.ask_hub(call),
+        }
+    }
+
+    // A call that changes nothing.
+    fn ask_hub(&self, call: HubCall<Handler>) -> Result<CallReply, Refusal> {
+        match call {
+            HubCall::LastEventId(hub) => {
+                Ok(Reply::LastEvent(self.hub(hub)?.last_event_id(&self.rt)?))
+            }
+            HubCall::Client(hub) => match self.hub(hub)?.client(&self.rt)? {
+                None => Ok(Reply::HubClient(None)),
+                Some(client) => Ok(Reply::HubClient(Some(client.key()))),
+            },
+            HubCall::IsActive(hub) => Ok(Reply::Decision(self.hub(hub)?.is_active(&self.rt)?)),
+            HubCall::Scope(hub) => {
+                let scope = self.hub(hub)?.scope(&self.rt)?;
+                Ok(Reply::Scope(Boxed::new(self.alloc, scope)?))
+            }
+            // the calls of the functions above
+            _other => Err(Refusal::Stale),
+        }
+    }
+}
