@@ -1,5 +1,6 @@
 // Preloaded into a program, refuses one of its requests for memory: the REFUSE-th since its start. At that moment it
 // writes a byte to the descriptor TELLS. A program that goes on for longer than SECONDS is stopped.
+#include <errno.h>
 #include <stdlib.h>
 #include <unistd.h>
 
@@ -17,7 +18,13 @@ __attribute__((constructor)) static void start(void) {
     left = number("REFUSE");
 }
 
-static int is_refused(void) { return left > 0 && --left == 0 && write((int)tells, "!", 1) == 1; }
+// The C library itself relies on errno where its request for the memory of a thread is refused.
+static int is_refused(void) {
+    if (left <= 0 || --left != 0 || write((int)tells, "!", 1) != 1)
+        return 0;
+    errno = ENOMEM;
+    return 1;
+}
 
 void *malloc(size_t size) { return is_refused() ? NULL : __libc_malloc(size); }
 
