@@ -40,8 +40,8 @@ impl<P: Drop, C: Callbacks> Engine<P, C> {
     pub fn shutdown_timeout(&self, client: ClientKey) -> Option<u64>
         ensures { (world : World P C) → Stands self.now world →
             result ≡ option_and_then
-                (λ held. if held.occupied then Some held.options.plain.shutdown_timeout else None)
-                (client_at world client) }
+            (λ held. if held.occupied then Some held.options.plain.shutdown_timeout else None)
+            (client_at world client) }
     {
         match self.state.client_at(client) {
             None => None,
