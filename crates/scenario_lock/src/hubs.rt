@@ -71,8 +71,12 @@ impl<R: Wait + Copy + Drop> Locked<R> {
     // The guard gets its place before the call: after that nothing is refused.
     fn push_scope(&mut self, hub: HubKey) -> Result<CallReply, Refusal> {
         self.guards.reserve(hub)?;
-        let guard = self.hub(hub)?.push_scope(&self.rt)?;
+        let guard = self.push(hub)?;
         Ok(Reply::Depth(self.guards.keep(hub, guard)))
+    }
+
+    fn push(&self, hub: HubKey) -> Result<ScopeGuard, Refusal> {
+        self.hub(hub)?.push_scope(&self.rt)
     }
 
     // By the guard of the top layer. No guard is of another depth, which the call as a value is then refused for.
@@ -182,12 +186,14 @@ impl<R: Wait + Copy + Drop> Locked<R> {
                 Some(client) => Ok(Reply::HubClient(Some(client.key()))),
             },
             HubCall::IsActive(hub) => Ok(Reply::Decision(self.hub(hub)?.is_active(&self.rt)?)),
-            HubCall::Scope(hub) => {
-                let scope = self.hub(hub)?.scope(&self.rt)?;
-                Ok(Reply::Scope(Boxed::new(self.alloc, scope)?))
-            }
+            HubCall::Scope(hub) => Ok(Reply::Scope(Boxed::new(self.alloc, self.scope(hub)?)?)),
             // the calls of the functions above
             _other => Err(Refusal::Stale),
         }
+    }
+
+    /// A copy of the top scope of a hub.
+    pub(crate) fn scope(&self, hub: HubKey) -> Result<Scope<Handler>, Refusal> {
+        self.hub(hub)?.scope(&self.rt)
     }
 }

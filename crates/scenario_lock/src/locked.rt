@@ -140,7 +140,7 @@ impl<R: Wait + Copy + Drop> Caller for Locked<R> {
 
     // Those of the active span, or else those of the scope itself.
     fn headers_of_hub(&mut self, hub: HubKey) -> Result<TraceHeadersIter, Refusal> {
-        let scope = self.hub(hub)?.scope(&self.rt)?;
+        let scope = self.scope(hub)?;
         self.headers_of_scope(&scope)
     }
 }
