@@ -182,7 +182,8 @@ fn captures_nothing<R: Wait>(rt: &R, thread: &mut ThreadHub) -> Result<bool, Ref
     let alloc = thread.current.core().allocator();
     let first = capture_event(rt, thread, event(alloc, 1)?)?;
     let second = capture_message(rt, thread, "boom", Level::Error)?;
-    let third = capture_error(rt, thread, [].as_slice())?;
+    let links = Vec::new(alloc);
+    let third = capture_error(rt, thread, links.as_slice())?;
     Ok(first.is_nil() && second.is_nil() && third.is_nil())
 }
 
