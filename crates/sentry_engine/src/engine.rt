@@ -22,9 +22,14 @@ use std::marker::Model;
 
 /// Holds clients, hubs and sessions by key, and decides what every call on them replies and hands out. `P` is the type
 /// of a scope's processors, `C` that of a client's callbacks. A refused call changes nothing. Contracts see its state.
-#[derive(Drop)]
 pub struct Engine<P, C> {
     state: State<P, C>,
+}
+
+impl<P: Drop, C: Drop> Drop for Engine<P, C> {
+    fn drop(self) {
+        let Engine { state: _ } = self;
+    }
 }
 
 impl<P, C> Model for Engine<P, C> {

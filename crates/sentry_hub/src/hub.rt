@@ -25,10 +25,15 @@ use std::sync::Wait;
 /// A hub, by its key and a share of the core that holds it. A clone of the value is the same hub. Contracts see the key.
 ///
 /// A hub is held until it is released: that the values of it are dropped does not release it.
-#[derive(Drop)]
 pub struct Hub<P, C, T> {
     core: SharedCore<P, C, T>,
     key: HubKey,
+}
+
+impl<P: Drop, C: Drop, T: Drop> Drop for Hub<P, C, T> {
+    fn drop(self) {
+        let Hub { core: _, key: _ } = self;
+    }
 }
 
 impl<P, C, T> Model for Hub<P, C, T> {

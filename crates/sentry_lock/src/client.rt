@@ -23,10 +23,15 @@ use std::sync::Wait;
 
 /// A client, by its key and a share of the core that holds it. A clone of the value is the same client; `clone_client`
 /// makes another one.
-#[derive(Drop)]
 pub struct Client<P, C, T> {
     core: SharedCore<P, C, T>,
     key: ClientKey,
+}
+
+impl<P: Drop, C: Drop, T: Drop> Drop for Client<P, C, T> {
+    fn drop(self) {
+        let Client { core: _, key: _ } = self;
+    }
 }
 
 impl<P: Drop, C: Drop, T: Drop> Clone for Client<P, C, T> {

@@ -11,10 +11,15 @@ use std::alloc::{AllocError, Global};
 
 /// A copy of a scope to read, which stays as it was, and the setters of a scope: each call of one is kept, so that all
 /// of them can be done later as one.
-#[derive(Drop)]
 pub struct ScopeEdits<P> {
     scope: Scope<P>,
     edits: Items<ScopeEdit<P>>,
+}
+
+impl<P: Drop> Drop for ScopeEdits<P> {
+    fn drop(self) {
+        let ScopeEdits { scope: _, edits: _ } = self;
+    }
 }
 
 impl<P: Drop> ScopeEdits<P> {

@@ -22,10 +22,15 @@ use std::sync::{Arc, Mutex, MutexGuard, Wait};
 /// Each call that can hand out envelopes first drains and absorbs the losses of each label that a held client names, in
 /// the order of the labels; then it makes the engine's call; then, without the lock, it hands the envelopes to their
 /// transports. What was absorbed stays so if the call is refused.
-#[derive(Drop)]
 pub struct SharedCore<P, C, T> {
     core: Arc<Mutex<UnderLock<P, C, T>>>,
     alloc: Global,
+}
+
+impl<P: Drop, C: Drop, T: Drop> Drop for SharedCore<P, C, T> {
+    fn drop(self) {
+        let SharedCore { core: _, alloc: _ } = self;
+    }
 }
 
 impl<P: Drop, C: Drop, T: Drop> Clone for SharedCore<P, C, T> {

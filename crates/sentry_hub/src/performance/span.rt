@@ -22,10 +22,15 @@ use std::sync::Wait;
 /// if their keys are. Contracts see the key.
 ///
 /// A span is held until it is discarded, also once it is finished.
-#[derive(Drop)]
 pub struct Span<P, C, T> {
     core: SharedCore<P, C, T>,
     key: SpanKey,
+}
+
+impl<P: Drop, C: Drop, T: Drop> Drop for Span<P, C, T> {
+    fn drop(self) {
+        let Span { core: _, key: _ } = self;
+    }
 }
 
 impl<P, C, T> Model for Span<P, C, T> {

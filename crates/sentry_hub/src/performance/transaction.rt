@@ -24,10 +24,15 @@ use std::sync::Wait;
 /// values are equal if their keys are. Contracts see the key.
 ///
 /// A transaction is held until it is discarded, also once it is finished.
-#[derive(Drop)]
 pub struct Transaction<P, C, T> {
     core: SharedCore<P, C, T>,
     key: TransactionKey,
+}
+
+impl<P: Drop, C: Drop, T: Drop> Drop for Transaction<P, C, T> {
+    fn drop(self) {
+        let Transaction { core: _, key: _ } = self;
+    }
 }
 
 impl<P, C, T> Model for Transaction<P, C, T> {
