@@ -70,7 +70,7 @@ class Sums:
     """The sums of edits and sources of a work tree."""
 
     def __init__(self, top=TOP):
-        self.top, self.of_crate = top, {}
+        self.top, self.of_crate, self.of_those_below = top, {}, {}
         self.stands_on = crates_in_order(top)[1]
 
     def crate(self, crate):
@@ -84,12 +84,21 @@ class Sums:
             self.of_crate[crate] = made.hexdigest()
         return self.of_crate[crate]
 
+    def below(self, crate):
+        """The sum of the sources of all crates below one."""
+        if crate not in self.of_those_below:
+            sums = [(it, self.crate(it)) for it in sorted(below([crate], self.stands_on))]
+            self.of_those_below[crate] = short_sum(sums)
+        return self.of_those_below[crate]
+
     def edit(self, path):
         """The two sums of an edit's line."""
         crate = crate_of(path)
-        own = repr((read(path), self.crate(crate)))
-        others = repr([(it, self.crate(it)) for it in sorted(below([crate], self.stands_on))])
-        return tuple(hashlib.sha256(it.encode()).hexdigest()[:10] for it in (own, others))
+        return short_sum((read(path), self.crate(crate))), self.below(crate)
+
+
+def short_sum(values):
+    return hashlib.sha256(repr(values).encode()).hexdigest()[:10]
 
 
 def lines_of(text):
