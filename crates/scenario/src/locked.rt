@@ -9,7 +9,7 @@ use sentry_base::protocol::{HubKey, Refusal, TransactionOrSpanKey};
 use sentry_engine::call::{Answer, Call, Reply};
 use sentry_engine::engine::Out;
 use sentry_hub::hub::Hub;
-use sentry_hub::performance::{Span, Transaction, TransactionOrSpan};
+use sentry_hub::performance::Transaction;
 use sentry_lock::client::Client;
 use sentry_lock::shared_core::SharedCore;
 use sentry_plain::{Items, Table};
@@ -27,10 +27,6 @@ pub(crate) type LockedClient<R> = Client<Handler, Callbacks, Post<R>>;
 pub(crate) type LockedHub<R> = Hub<Handler, Callbacks, Post<R>>;
 
 pub(crate) type LockedTransaction<R> = Transaction<Handler, Callbacks, Post<R>>;
-
-pub(crate) type LockedSpan<R> = Span<Handler, Callbacks, Post<R>>;
-
-pub(crate) type LockedTransactionOrSpan<R> = TransactionOrSpan<Handler, Callbacks, Post<R>>;
 
 /// How the calls on transactions and spans are made.
 #[derive(Clone, Copy)]

@@ -1,7 +1,5 @@
 //! Calls on transactions and spans.
-use crate::locked::{
-    Locked, LockedHub, LockedSpan, LockedTransaction, LockedTransactionOrSpan, SpanCalls,
-};
+use crate::locked::{Locked, LockedHub, LockedTransaction, SpanCalls};
 use crate::threads::thread_of;
 use sentry_base::protocol::{
     Fresh, Refusal, Request, SpanId, SpanKey, SpanStatus, TraceContext, TransactionKey,
@@ -15,36 +13,20 @@ use std::alloc::{AllocError, Global};
 use std::collections::btree_map::Iter;
 use std::sync::Wait;
 
-// The value by which a call on a transaction or a span is made.
-#[derive(Drop)]
-enum Named<R> {
-    Transaction(LockedTransaction<R>),
-    Span(LockedSpan<R>),
-    Either(LockedTransactionOrSpan<R>),
-}
-
-// Makes one call on it, which has the same name and arguments for all three types.
+// Makes one call on a transaction or a span by its own type, or by the one that is either. The call has the same name
+// and arguments for all three types.
 macro_rules! call {
-    ($named:expr, $value:ident => $call:expr) => {
-        match $named {
-            Named::Transaction($value) => $call,
-            Named::Span($value) => $call,
-            Named::Either($value) => $call,
+    ($lock:expr, $name:expr, $value:ident => $call:expr) => {{
+        let either = TransactionOrSpan::new(&$lock.core, $name)?;
+        match ($lock.span_calls, &either) {
+            (SpanCalls::Either, $value) => $call,
+            (_, TransactionOrSpan::Transaction($value)) => $call,
+            (_, TransactionOrSpan::Span($value)) => $call,
         }
-    };
+    }};
 }
 
 impl<R: Wait + Copy + Drop> Locked<R> {
-    // A transaction or a span by its own type, or by the one that is either.
-    fn named(&self, key: TransactionOrSpanKey) -> Result<Named<R>, AllocError> {
-        let value = TransactionOrSpan::new(&self.core, key)?;
-        match (self.span_calls, value) {
-            (SpanCalls::Either, value) => Ok(Named::Either(value)),
-            (_, TransactionOrSpan::Transaction(value)) => Ok(Named::Transaction(value)),
-            (_, TransactionOrSpan::Span(value)) => Ok(Named::Span(value)),
-        }
-    }
-
     /// Makes a call that starts a transaction, or one on a transaction or a span.
     pub(crate) fn call_span(&self, call: SpanCall) -> Result<SpanReply, Refusal> {
         match call {
@@ -113,7 +95,7 @@ impl<R: Wait + Copy + Drop> Locked<R> {
     ) -> Result<SpanReply, Refusal> {
         let (op, description) = (op.as_str(), description.as_str());
         let child = call!(
-            self.named(parent)?,
+            self, parent,
             value => value.start_child(&self.rt, op, description, fresh)
         )?;
         Ok(SpanReply::Span(child.key()))
@@ -129,7 +111,7 @@ impl<R: Wait + Copy + Drop> Locked<R> {
     ) -> Result<SpanReply, Refusal> {
         let (op, description) = (op.as_str(), description.as_str());
         let child = call!(
-            self.named(parent)?,
+            self, parent,
             value => value.start_child_with_details(&self.rt, op, description, id, start)
         )?;
         Ok(SpanReply::Span(child.key()))
@@ -142,7 +124,7 @@ impl<R: Wait + Copy + Drop> Locked<R> {
         moment: u64,
     ) -> Result<SpanReply, Refusal> {
         let mut thread = thread_of(hub, moment)?;
-        call!(self.named(name)?, value => value.finish(&self.rt, &mut thread))?;
+        call!(self, name, value => value.finish(&self.rt, &mut thread))?;
         Ok(SpanReply::Done)
     }
 
@@ -155,7 +137,7 @@ impl<R: Wait + Copy + Drop> Locked<R> {
     }
 
     fn discard(&self, name: TransactionOrSpanKey) -> Result<SpanReply, Refusal> {
-        call!(self.named(name)?, value => value.discard(&self.rt))?;
+        call!(self, name, value => value.discard(&self.rt))?;
         Ok(SpanReply::Done)
     }
 
@@ -178,9 +160,7 @@ impl<R: Wait + Copy + Drop> Locked<R> {
     fn set_data(&self, name: TransactionOrSpanKey, key: &Text, data: Value) -> Result<(), Refusal> {
         match self.span_calls {
             SpanCalls::Lent => self.set_lent_data(name, key, data),
-            _other => {
-                call!(self.named(name)?, value => value.set_data(&self.rt, key.as_str(), data))
-            }
+            _other => { call!(self, name, value => value.set_data(&self.rt, key.as_str(), data)) }
         }
     }
 
@@ -191,7 +171,8 @@ impl<R: Wait + Copy + Drop> Locked<R> {
         data: Value,
     ) -> Result<(), Refusal> {
         let key = key.as_str();
-        match TransactionOrSpan::new(&self.core, name)? {
+        let either = TransactionOrSpan::new(&self.core, name)?;
+        match &either {
             TransactionOrSpan::Transaction(transaction) => {
                 transaction.data(&self.rt, |lent| lent.set_data(key, data))
             }
@@ -206,7 +187,7 @@ impl<R: Wait + Copy + Drop> Locked<R> {
             SpanCalls::Lent => self.set_lent_tag(name, key, tag),
             _other => {
                 let (key, tag) = (key.as_str(), tag.as_str());
-                call!(self.named(name)?, value => value.set_tag(&self.rt, key, tag))
+                call!(self, name, value => value.set_tag(&self.rt, key, tag))
             }
         }
     }
@@ -218,7 +199,8 @@ impl<R: Wait + Copy + Drop> Locked<R> {
         tag: &Text,
     ) -> Result<(), Refusal> {
         let (key, tag) = (key.as_str(), tag.as_str());
-        match TransactionOrSpan::new(&self.core, name)? {
+        let either = TransactionOrSpan::new(&self.core, name)?;
+        match &either {
             TransactionOrSpan::Transaction(transaction) => {
                 transaction.data(&self.rt, |lent| lent.set_tag(key, tag))
             }
@@ -227,19 +209,19 @@ impl<R: Wait + Copy + Drop> Locked<R> {
     }
 
     fn set_status(&self, name: TransactionOrSpanKey, status: SpanStatus) -> Result<(), Refusal> {
-        call!(self.named(name)?, value => value.set_status(&self.rt, status))
+        call!(self, name, value => value.set_status(&self.rt, status))
     }
 
     fn set_op(&self, name: TransactionOrSpanKey, op: &Text) -> Result<(), Refusal> {
-        call!(self.named(name)?, value => value.set_op(&self.rt, op.as_str()))
+        call!(self, name, value => value.set_op(&self.rt, op.as_str()))
     }
 
     fn set_name(&self, name: TransactionOrSpanKey, text: &Text) -> Result<(), Refusal> {
-        call!(self.named(name)?, value => value.set_name(&self.rt, text.as_str()))
+        call!(self, name, value => value.set_name(&self.rt, text.as_str()))
     }
 
     fn set_request(&self, name: TransactionOrSpanKey, request: Request) -> Result<(), Refusal> {
-        call!(self.named(name)?, value => value.set_request(&self.rt, request))
+        call!(self, name, value => value.set_request(&self.rt, request))
     }
 
     // A call of a setter that transactions alone have.
@@ -267,8 +249,9 @@ impl<R: Wait + Copy + Drop> Locked<R> {
     }
 
     fn transaction(&self, key: TransactionKey) -> Result<LockedTransaction<R>, Refusal> {
-        match TransactionOrSpan::new(&self.core, TransactionOrSpanKey::Transaction(key))? {
-            TransactionOrSpan::Transaction(transaction) => Ok(transaction),
+        let either = TransactionOrSpan::new(&self.core, TransactionOrSpanKey::Transaction(key))?;
+        match &either {
+            TransactionOrSpan::Transaction(transaction) => Ok(transaction.clone()?),
             // No key of a transaction gives a span.
             TransactionOrSpan::Span(_) => Err(Refusal::Stale),
         }
@@ -290,15 +273,16 @@ impl<R: Wait + Copy + Drop> Locked<R> {
     }
 
     fn get_status(&self, name: TransactionOrSpanKey) -> Result<Option<SpanStatus>, Refusal> {
-        call!(self.named(name)?, value => value.get_status(&self.rt))
+        call!(self, name, value => value.get_status(&self.rt))
     }
 
     fn get_trace_context(&self, name: TransactionOrSpanKey) -> Result<TraceContext, Refusal> {
-        call!(self.named(name)?, value => value.get_trace_context(&self.rt))
+        call!(self, name, value => value.get_trace_context(&self.rt))
     }
 
     fn get_span_id(&self, key: SpanKey) -> Result<SpanId, Refusal> {
-        match TransactionOrSpan::new(&self.core, TransactionOrSpanKey::Span(key))? {
+        let either = TransactionOrSpan::new(&self.core, TransactionOrSpanKey::Span(key))?;
+        match &either {
             TransactionOrSpan::Span(span) => span.get_span_id(&self.rt),
             // No key of a span gives a transaction.
             TransactionOrSpan::Transaction(_) => Err(Refusal::Stale),
@@ -308,7 +292,8 @@ impl<R: Wait + Copy + Drop> Locked<R> {
     // What is either has no such call.
     fn data(&self, name: TransactionOrSpanKey) -> Result<ValueMap, Refusal> {
         let alloc = self.alloc;
-        match TransactionOrSpan::new(&self.core, name)? {
+        let either = TransactionOrSpan::new(&self.core, name)?;
+        match &either {
             TransactionOrSpan::Transaction(transaction) => {
                 transaction.data(&self.rt, |lent| copy_entries(alloc, lent.iter()))
             }
@@ -323,11 +308,11 @@ impl<R: Wait + Copy + Drop> Locked<R> {
         &self,
         name: TransactionOrSpanKey,
     ) -> Result<TraceHeadersIter, Refusal> {
-        call!(self.named(name)?, value => value.iter_headers(&self.rt))
+        call!(self, name, value => value.iter_headers(&self.rt))
     }
 
     fn is_sampled(&self, name: TransactionOrSpanKey) -> Result<bool, Refusal> {
-        call!(self.named(name)?, value => value.is_sampled(&self.rt))
+        call!(self, name, value => value.is_sampled(&self.rt))
     }
 
     // The call that continues a trace: no value has it.
