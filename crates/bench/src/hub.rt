@@ -32,11 +32,15 @@ pub fn make_on_hub<R: Wait>(
     turn: HubTurn,
     turns: u64,
 ) -> Result<u64, Refusal> {
-    let transport: BoxedTransport = Box::new(alloc, NoOpTransport).map_err(
-        |_| Refusal::OutOfMemory,
-    )?;
+    let Ok(transport) = Box::new(alloc, NoOpTransport) else {
+        return Err(Refusal::OutOfMemory);
+    };
+    let transport: BoxedTransport = transport;
     let hub = open_hub(rt, alloc, transport)?;
-    let clock: BoxedClock = Box::new(alloc, Steps(0)).map_err(|_| Refusal::OutOfMemory)?;
+    let Ok(clock) = Box::new(alloc, Steps(0)) else {
+        return Err(Refusal::OutOfMemory);
+    };
+    let clock: BoxedClock = clock;
     let mut thread = ThreadHub::new(hub, clock, [1; 32])?;
     prepare(rt, &mut thread, turn)?;
     make_turns(rt, &mut thread, turn, turns)

@@ -84,15 +84,16 @@ fn number_at(words: &[String], place: usize, otherwise: u64) -> Option<u64> {
 }
 
 impl Size {
-    /// The numbers after the name of the loop: of turns, and if it says so of threads, else one, and of drains, else none.
+    /// The numbers that stand after the names of the program and the loop: of turns, of threads, else one, and of drains,
+    /// else none.
     pub fn read(words: &[String]) -> Option<Size> {
-        if words.len() < 2 || words.len() > 4 {
+        if words.len() < 3 || words.len() > 5 {
             return None;
         }
         Some(Size {
-            turns: number_at(words, 1, 0)?,
-            threads: number_at(words, 2, 1)?,
-            drains: number_at(words, 3, 0)?,
+            turns: number_at(words, 2, 0)?,
+            threads: number_at(words, 3, 1)?,
+            drains: number_at(words, 4, 0)?,
         })
     }
 }

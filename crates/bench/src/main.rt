@@ -29,7 +29,7 @@ use std::{env, io};
 
 /// How often each loop runs where the arguments name none.
 const FEW: Size = Size {
-    turns: 1000,
+    turns: 200,
     threads: 2,
     drains: 10,
 };
@@ -83,17 +83,17 @@ fn run_all<R: Threads + Wait + Sync + Print + Copy + Drop>(rt: &R, alloc: Global
     Ok(())
 }
 
-/// Runs what the arguments ask for. Answers whether they are such as it takes.
+/// Runs what the words ask for, of which the first is the program's name. Answers whether they are such as it takes.
 fn run_asked<R: Threads + Wait + Sync + Print + Copy + Drop>(
     rt: &R,
     alloc: Global,
-    arguments: &[String],
+    words: &[String],
 ) -> Result<bool> {
-    let Some(name) = arguments.first() else {
+    let Some(name) = words.get(1) else {
         run_all(rt, alloc)?;
         return Ok(true);
     };
-    match (find_loop(name.as_str()), Size::read(arguments)) {
+    match (find_loop(name.as_str()), Size::read(words)) {
         (Some(named), Some(size)) => {
             run(rt, alloc, name.as_str(), named, size)?;
             Ok(true)
@@ -111,17 +111,17 @@ fn print_usage(rt: &impl Eprint) -> io::Result<()> {
     eprintln!(rt; "")
 }
 
-fn read_arguments(rt: &HostRuntime) -> Result<Vec<String>> {
-    let mut arguments = Vec::new(rt.alloc());
-    for word in env::args(rt)?.skip(1) {
-        arguments.push(word)?;
+fn read_words(rt: &HostRuntime) -> Result<Vec<String>> {
+    let mut words = Vec::new(rt.alloc());
+    for word in env::args(rt)? {
+        words.push(word)?;
     }
-    Ok(arguments)
+    Ok(words)
 }
 
 fn main(rt: HostRuntime) -> Result<ExitCode> {
-    let arguments = read_arguments(&rt)?;
-    if run_asked(&rt, rt.alloc(), arguments.as_slice())? {
+    let words = read_words(&rt)?;
+    if run_asked(&rt, rt.alloc(), words.as_slice())? {
         return Ok(ExitCode::SUCCESS);
     }
     print_usage(&rt)?;

@@ -41,9 +41,10 @@ fn make_jobs(main: &Hub, threads: u64) -> Result<Vec<Job>, AllocError> {
 // Sends so many messages on a hub of its own, and answers how many were sent.
 fn work<R: Wait>(rt: &R, job: Job, messages: u64) -> Result<u64, Refusal> {
     let Job { number, main } = job;
-    let clock: BoxedClock = Box::new(main.core().allocator(), Steps(0)).map_err(
-        |_| Refusal::OutOfMemory,
-    )?;
+    let Ok(clock) = Box::new(main.core().allocator(), Steps(0)) else {
+        return Err(Refusal::OutOfMemory);
+    };
+    let clock: BoxedClock = clock;
     let mut thread = ThreadHub::from_main(rt, main, clock, [number; 32])?;
     make_turns(rt, &mut thread, HubTurn::Message, messages)
 }
@@ -55,9 +56,10 @@ pub fn send_by_hubs<R: Threads + Wait + Sync>(
     messages: u64,
     threads: u64,
 ) -> Result<u64, Refusal> {
-    let transport: BoxedTransport = Box::new(alloc, NoOpTransport).map_err(
-        |_| Refusal::OutOfMemory,
-    )?;
+    let Ok(transport) = Box::new(alloc, NoOpTransport) else {
+        return Err(Refusal::OutOfMemory);
+    };
+    let transport: BoxedTransport = transport;
     let main = open_hub(rt, alloc, transport)?;
     let jobs = make_jobs(&main, threads)?;
     sum(map_vec(rt, jobs, &|job: Job| work(rt, job, messages))?)
