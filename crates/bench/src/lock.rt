@@ -1,39 +1,21 @@
-//! Messages by an engine alone, and by a client of one under its lock.
-use sentry_base::callbacks::{
-    BoxedBreadcrumbCallback, BoxedEventCallback, BoxedLogCallback, BoxedMetricCallback,
-};
-use sentry_base::protocol::{Draw, Event, Fresh, Label, Refusal, SpanId, TraceId, Uuid};
-use sentry_engine::engine::Engine;
+//! Messages by an engine alone, and by a client of one under its lock. Each is an event under a scope with a tag, and the
+//! transport drops the envelopes.
+use sentry_core::engine::Engine;
+use sentry_core::protocol::{Draw, Event, Fresh, Label, Refusal, SpanId, TraceId, Uuid};
+use sentry_core::{BoxedEventCallback, ClientCallbacks, ClientOptions, NoOpTransport, Scope, Text};
 use sentry_lock::client::Client;
 use sentry_lock::shared_core::SharedCore;
-use sentry_lock::transport::NoOpTransport;
-use sentry_options::clientoptions::{ClientCallbacks, ClientOptions};
-use sentry_options::integration::BoxedIntegration;
-use sentry_options::sampler::BoxedTracesSampler;
-use sentry_plain::Text;
-use sentry_scope::scope::Scope;
 use std::alloc::{AllocError, Global};
 use std::sync::Wait;
 
-type Callbacks = ClientCallbacks<
-    BoxedEventCallback,
-    BoxedIntegration,
-    BoxedBreadcrumbCallback,
-    BoxedLogCallback,
-    BoxedMetricCallback,
-    BoxedTracesSampler,
->;
+/// A client that calls its transport without a box.
+pub type LockedClient = Client<BoxedEventCallback, ClientCallbacks, NoOpTransport>;
 
-type EventScope = Scope<BoxedEventCallback>;
-
-/// The client of the loops.
-pub type LockedClient = Client<BoxedEventCallback, Callbacks, NoOpTransport>;
-
-fn options(alloc: Global) -> Result<ClientOptions<Callbacks>, Refusal> {
+fn options(alloc: Global) -> Result<ClientOptions, Refusal> {
     ClientOptions::new(alloc).dsn("https://public@sentry.invalid/1")
 }
 
-fn scope(alloc: Global) -> Result<EventScope, AllocError> {
+fn scope(alloc: Global) -> Result<Scope, AllocError> {
     let mut scope = Scope::new(alloc, TraceId([1; 16]), SpanId([2; 8]));
     scope.set_tag("os", "linux")?;
     Ok(scope)
@@ -57,16 +39,13 @@ fn message(alloc: Global, number: u64) -> Result<Event, AllocError> {
 
 // One more, if the id is that of an event that was sent.
 fn count_sent(sent: u64, id: Uuid) -> u64 {
-    if id.is_nil() {
-        return sent;
-    }
-    sent.wrapping_add(1)
+    sent.wrapping_add(u64::from(!id.is_nil()))
 }
 
 /// Sends so many messages by an engine, and answers how many were sent.
 pub fn send_by_engine(alloc: Global, messages: u64) -> Result<u64, Refusal> {
     let label = Label { tag: 0, number: 0 };
-    let mut engine: Engine<BoxedEventCallback, Callbacks> = Engine::new(alloc, 0);
+    let mut engine = Engine::new(alloc, 0);
     let client = engine.add_client(options(alloc)?, true, label, 0)?.reply;
     let scope = scope(alloc)?;
     let mut sent = 0u64;

@@ -1,6 +1,6 @@
 //! Recorders in threads of their own, and drains.
-use sentry_base::protocol::{CATEGORIES, Category, Label, LossSource, Losses, Reason, Refusal};
-use sentry_client_reports::client_reports::{Drainer, LossWords, Recorder, TransportLossReason};
+use sentry_core::client_report::{Drainer, LossWords, Recorder, TransportLossReason};
+use sentry_core::protocol::{CATEGORIES, Category, Label, LossSource, Losses, Reason, Refusal};
 use std::alloc::Global;
 use std::thread;
 use std::thread::Threads;
@@ -50,7 +50,7 @@ fn drain_many(drainer: &mut Drainer, drains: u64) -> Losses {
     sums
 }
 
-// Into which counters threads record.
+/// Into which counters threads record.
 #[derive(Clone, Copy)]
 pub enum Spread {
     /// All into one.
@@ -99,29 +99,29 @@ fn total(losses: &Losses) -> u64 {
     sum
 }
 
-/// The losses that were drained and what stood at the end; none where the words could not be closed.
-pub fn count_losses<R: Threads + Sync>(
+/// Records so many losses in each thread, while there are so many drains. Answers the losses that these found and what
+/// stood at the end, which is that of all threads.
+pub fn record<R: Threads + Sync>(
     rt: &R,
     alloc: Global,
-    threads: u64,
-    times: u64,
-    drains: u64,
     spread: Spread,
-) -> Result<Option<u64>, Refusal> {
+    losses: u64,
+    threads: u64,
+    drains: u64,
+) -> Result<u64, Refusal> {
     let (recorder, mut drainer) = LossWords::new(alloc, LABEL)?;
     let jobs = split_many(alloc, recorder, threads, spread)?;
     let lent = &mut drainer;
     let (recorded, mut sums) = thread::join(
         rt,
-        || thread::map_vec(rt, jobs, &|job: Job| record_many(job, times)),
+        || thread::map_vec(rt, jobs, &|job: Job| record_many(job, losses)),
         || drain_many(lent, drains),
     );
     let _ = recorded?;
-    let Ok(standing) = LossWords::close_drainer(drainer) else {
-        return Ok(None);
-    };
-    sums.add(&standing);
-    Ok(Some(total(&sums)))
+    if let Ok(standing) = LossWords::close_drainer(drainer) {
+        sums.add(&standing);
+    }
+    Ok(total(&sums))
 }
 
 /// The losses that so many drains of words without any find, which is none.

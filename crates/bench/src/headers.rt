@@ -1,6 +1,6 @@
 //! Trace headers that are read many times, and a plain scan of the same bytes.
-use sentry_base::protocol::OrganizationId;
-use sentry_trace::headers::TracePropagationContext;
+use sentry_core::TracePropagationContext;
+use sentry_core::protocol::OrganizationId;
 
 type Headers = [(&'static str, &'static str); 2];
 
@@ -29,8 +29,8 @@ const LISTS: [Headers; 2] = [
 ];
 
 /// How many of the calls find the organization.
-pub fn read(calls: u64) -> u32 {
-    let mut found = 0u32;
+pub fn read(calls: u64) -> u64 {
+    let mut found = 0u64;
     for call in 0..calls {
         let headers = if call % 2 == 0 { &LISTS[0] } else { &LISTS[1] };
         let read = TracePropagationContext::try_from_headers(headers.iter().copied());
@@ -49,8 +49,8 @@ fn names_organization(context: Option<TracePropagationContext>) -> bool {
 }
 
 /// In how many of the calls a scan of the same bytes finds one byte, which is another in each call.
-pub fn scan(calls: u64) -> u32 {
-    let mut found = 0u32;
+pub fn scan(calls: u64) -> u64 {
+    let mut found = 0u64;
     for call in 0..calls {
         let headers = if call % 2 == 0 { &LISTS[0] } else { &LISTS[1] };
         let wanted = (call & 0x7f) as u8;

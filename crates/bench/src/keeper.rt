@@ -1,7 +1,5 @@
-//! The inner transport and the clock of the loops.
-use sentry_base::protocol::Envelope;
-use sentry_clock::Clock;
-use sentry_lock::transport::Transport;
+//! A transport behind a queue.
+use sentry_core::{Envelope, Transport};
 use std::sync::{Mutex, Wait};
 
 /// Keeps the last envelope that it was to send.
@@ -30,18 +28,5 @@ impl<R: Wait + Drop> Transport for Keeper<R> {
     fn send_envelope(&self, envelope: Envelope) {
         let mut kept = self.kept.lock(&self.rt);
         *kept = Some(envelope);
-    }
-}
-
-/// Tells one moment more each time.
-#[derive(Drop)]
-pub struct Turns {
-    pub moment: u64,
-}
-
-impl Clock for Turns {
-    fn now(&mut self) -> u64 {
-        self.moment = self.moment.wrapping_add(1);
-        self.moment
     }
 }

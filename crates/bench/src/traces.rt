@@ -1,4 +1,4 @@
-//! Transactions that are sent with their children.
+//! A transaction that is sent with its children.
 use sentry_core::protocol::Refusal;
 use sentry_core::{ThreadHub, Transaction, TransactionContext, start_transaction};
 use std::sync::Wait;
@@ -29,26 +29,13 @@ fn add_child<R: Wait>(
     child.discard(rt)
 }
 
-// A transaction that is sent with ten children, and then given back.
-fn send_one<R: Wait>(rt: &R, thread: &mut ThreadHub) -> Result<(), Refusal> {
+/// Sends a transaction with ten children, and gives it back.
+pub fn send_transaction<R: Wait>(rt: &R, thread: &mut ThreadHub) -> Result<bool, Refusal> {
     let transaction = start(rt, thread)?;
     for _ in 0..10 {
         add_child(rt, thread, &transaction)?;
     }
     transaction.finish(rt, thread)?;
-    transaction.discard(rt)
-}
-
-/// Sends transactions with ten children each. Answers how many it sent.
-pub fn send_transactions<R: Wait>(
-    rt: &R,
-    thread: &mut ThreadHub,
-    turns: u64,
-) -> Result<u64, Refusal> {
-    let mut made = 0u64;
-    for _ in 0..turns {
-        send_one(rt, thread)?;
-        made = made.wrapping_add(1);
-    }
-    Ok(made)
+    transaction.discard(rt)?;
+    Ok(true)
 }
