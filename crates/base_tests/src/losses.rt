@@ -9,14 +9,14 @@ use std::thread::{join, map_vec};
 
 const LABEL: Label = Label { tag: 7, number: 3 };
 
-/// So many items of a category that are lost, without the items.
+/// The loss of so many items of a category, without the items.
 #[derive(Clone, Copy)]
-struct Lost {
+struct Loss {
     category: Category,
     quantity: u64,
 }
 
-impl LossSource for Lost {
+impl LossSource for Loss {
     ghost use Rattle.sentry_base.specs.Losses.{loss_of};
 
     ghost losses_under = { λ lost reason. loss_of lost.category reason lost.quantity };
@@ -26,12 +26,12 @@ impl LossSource for Lost {
     }
 }
 
-fn lost(category: Category, quantity: u64) -> Lost {
-    Lost { category, quantity }
+fn lost(category: Category, quantity: u64) -> Loss {
+    Loss { category, quantity }
 }
 
 /// Whether a drain finds just this, which is recorded before it.
-fn finds(recorder: &mut Recorder, drainer: &mut Drainer, lost: Lost) -> bool {
+fn finds(recorder: &mut Recorder, drainer: &mut Drainer, lost: Loss) -> bool {
     recorder.record_lost_data(&lost, TransportLossReason::NetworkError);
     let (label, losses) = drainer.drain().into_parts();
     label == LABEL && losses == lost.losses(Reason::NetworkError)

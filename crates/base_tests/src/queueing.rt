@@ -22,7 +22,7 @@ struct Watched {
     drainer: Drainer,
 }
 
-fn watched(alloc: Global, capacity: usize) -> Result<Watched, Refusal> {
+fn new_queue(alloc: Global, capacity: usize) -> Result<Watched, Refusal> {
     let (recorder, drainer) = LossWords::new(alloc, LABEL)?;
     let core = QueueCore::new(alloc, capacity, Some(recorder))?;
     Ok(Watched { core, drainer })
@@ -109,7 +109,7 @@ fn offer_what_is_not_limited(queue: &mut Watched, alloc: Global) -> [bool; 4] {
 fn a_queue_records_what_it_turns_away_and_takes_out(rt: HostRuntime) -> Result<(), Fail> {
     let alloc = rt.alloc();
     // a capacity of 0 counts as 1
-    let mut queue = watched(alloc, 0)?;
+    let mut queue = new_queue(alloc, 0)?;
     let overfilled = overfill(&mut queue, alloc);
     let limited = offer_under_a_limit(&mut queue, alloc);
     let not_limited = offer_what_is_not_limited(&mut queue, alloc);
