@@ -3,7 +3,7 @@ use sentry_base::protocol::LogLevel;
 use sentry_logger::log_draft::LogDraft;
 use sentry_logger::to_value::ToValue;
 use sentry_plain::{Text, Value};
-use std::alloc::Global;
+use std::alloc::{AllocError, Global};
 use std::test::Fail;
 
 /// Whether the attribute of a value is this one.
@@ -14,8 +14,21 @@ fn is_given<V: ToValue>(alloc: Global, value: &V, given: &Value) -> bool {
     }
 }
 
+/// Whether each type of texts gives its text, and a value itself.
+fn are_texts_given(alloc: Global) -> Result<bool, AllocError> {
+    let string = String::from_str(alloc, "seven")?;
+    let text = Text::new(alloc, "seven")?;
+    let value = Value::Text(text.clone()?);
+    Ok(
+        is_given(alloc, &"seven", &value)
+            & is_given(alloc, &string, &value)
+            & is_given(alloc, &text, &value)
+            & is_given(alloc, &value, &value),
+    )
+}
+
 #[test]
-fn numbers_are_values(rt: HostRuntime) -> Result<(), Fail> {
+fn numbers_and_texts_are_values(rt: HostRuntime) -> Result<(), Fail> {
     let alloc = rt.alloc();
     let (seven, minus) = (Value::Int(7), Value::Int(-7));
     let are_given = is_given(alloc, &7u8, &seven)
@@ -27,23 +40,9 @@ fn numbers_are_values(rt: HostRuntime) -> Result<(), Fail> {
         & is_given(alloc, &-7i16, &minus)
         & is_given(alloc, &-7i32, &minus)
         & is_given(alloc, &-7i64, &minus)
-        & is_given(alloc, &-7i128, &minus);
-    assert!(rt; are_given);
-    Ok(())
-}
-
-#[test]
-fn texts_are_values(rt: HostRuntime) -> Result<(), Fail> {
-    let alloc = rt.alloc();
-    let string = String::from_str(alloc, "seven")?;
-    let text = Text::new(alloc, "seven")?;
-    let value = Value::Text(Text::new(alloc, "seven")?);
-    let are_given = is_given(alloc, &"seven", &value)
-        & is_given(alloc, &string, &value)
-        & is_given(alloc, &text, &value)
-        & is_given(alloc, &value, &value)
+        & is_given(alloc, &-7i128, &minus)
         & is_given(alloc, &true, &Value::Bool(true));
-    assert!(rt; are_given);
+    assert!(rt; are_given & are_texts_given(alloc)?);
     Ok(())
 }
 
