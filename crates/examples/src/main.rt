@@ -1,56 +1,95 @@
-//! Records of the crate `log` become logs and breadcrumbs of a hub, and those of the level `Error` become events.
+//! Programs over the library, a module each. `examples NAME` runs one, and `examples` all of them.
 #![tactic(auto)]
 
-mod bridge;
+mod clocks;
+mod engine_start;
+mod log_bridge;
+mod middleware;
 mod printing;
-mod system;
+mod rate_limits;
+mod refused_ticks;
+mod release_health;
+mod setup;
+mod ticking_worker;
+mod web_shop;
 
 use anyhow::Result;
-use bridge::HubSink;
-use log::{Level, Log, Logged, debug, error, info, warn};
-use printing::Printer;
-use sentry_core::protocol::{SpanId, TraceId};
-use sentry_core::{
-    BoxedClock, BoxedTransport, Client, ClientOptions, Clock, Hub, Scope, SharedCore, ThreadHub,
-};
-use std::alloc::Global;
+use std::process::ExitCode;
 use std::sync::Wait;
-use system::{WallClock, draw_seed};
+use std::thread::Threads;
+use std::time::Clock;
+use std::{env, io};
 
-/// What the program does. It knows of a logger alone.
-fn print_orders<L: Log>(rt: &L) {
-    info!(rt; target: "orders", orders = 2; "the printer is on");
-    debug!(rt; target: "orders", "the printer is warm");
-    warn!(rt; target: "paper", sheets = 3, tray = "left"; "{} sheets are left", 3);
-    error!(rt; target: "paper", "no paper");
+#[derive(Clone, Copy)]
+enum Example {
+    EngineStart,
+    WebShop,
+    LogBridge,
+    Middleware,
+    ReleaseHealth,
+    TickingWorker,
+    RateLimits,
+    RefusedTicks,
 }
 
-/// A client with a transport, and a hub with that client.
-fn connect<R: Wait>(
-    rt: &R,
-    alloc: Global,
-    options: ClientOptions,
-    transport: BoxedTransport,
-    now: u64,
-) -> Result<(Client, Hub)> {
-    let core = SharedCore::new(alloc, 0)?;
-    let setup = core.client_setup(rt, options)?;
-    let client = Client::with_options(rt, &core, setup, Some(transport), now)?;
-    let scope = Scope::new(alloc, TraceId([1; 16]), SpanId([2; 8]));
-    let hub = Hub::new(rt, &core, Some(&client), scope)?;
-    Ok((client, hub))
+const EXAMPLES: [(&str, Example); 8] = [
+    ("engine_start", Example::EngineStart),
+    ("web_shop", Example::WebShop),
+    ("log_bridge", Example::LogBridge),
+    ("middleware", Example::Middleware),
+    ("release_health", Example::ReleaseHealth),
+    ("ticking_worker", Example::TickingWorker),
+    ("rate_limits", Example::RateLimits),
+    ("refused_ticks", Example::RefusedTicks),
+];
+
+fn find(word: &str) -> Option<Example> {
+    for (name, example) in EXAMPLES {
+        if name == word {
+            return Some(example);
+        }
+    }
+    None
 }
 
-fn main(rt: HostRuntime) -> Result<()> {
-    let alloc = rt.alloc();
-    let transport: BoxedTransport = Box::new(alloc, Printer(rt))?;
-    let options = ClientOptions::from_dsn(alloc, "https://public@sentry.invalid/1")?;
-    let mut clock = WallClock(rt);
-    let (client, hub) = connect(&rt, alloc, options, transport, clock.now())?;
-    let clock: BoxedClock = Box::new(alloc, clock)?;
-    let thread = ThreadHub::new(hub, clock, draw_seed(&rt)?)?;
-    let logged = Logged::new(rt, Level::Info, HubSink::new(rt, thread));
-    print_orders(&logged);
-    drop(client.flush(&rt, None)?);
+fn print_usage(rt: &impl Eprint) -> io::Result<()> {
+    eprintln!(rt; "examples: the argument is none, or one of")?;
+    for (name, _) in EXAMPLES {
+        eprintln!(rt; "  {name}")?;
+    }
     Ok(())
+}
+
+// `host` is the runtime by its own type, which what goes into a box holds. It can't wait: `rt` can.
+fn run_example<R: Wait + Threads + Print + Clock + Copy + Drop + Send + Sync + 'static>(
+    rt: R,
+    host: HostRuntime,
+    example: Example,
+) -> Result<()> {
+    match example {
+        Example::EngineStart => engine_start::run(&rt, host.alloc()),
+        Example::WebShop => web_shop::run(&rt, host.alloc()),
+        Example::LogBridge => log_bridge::run(rt, host),
+        Example::Middleware => middleware::run(&rt, host),
+        Example::ReleaseHealth => release_health::run(&rt, host),
+        Example::TickingWorker => ticking_worker::run(rt, host),
+        Example::RateLimits => rate_limits::run(rt, host),
+        Example::RefusedTicks => refused_ticks::run(rt, host),
+    }
+}
+
+fn main(rt: HostRuntime) -> Result<ExitCode> {
+    if let Some(word) = env::args(&rt)?.nth(1) {
+        let Some(example) = find(word.as_str()) else {
+            print_usage(&rt)?;
+            return Ok(ExitCode::from(2));
+        };
+        run_example(rt, rt, example)?;
+        return Ok(ExitCode::SUCCESS);
+    }
+    for (name, example) in EXAMPLES {
+        println!(rt; "== {name}")?;
+        run_example(rt, rt, example)?;
+    }
+    Ok(ExitCode::SUCCESS)
 }
