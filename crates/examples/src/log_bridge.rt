@@ -1,13 +1,44 @@
-//! A sink of the crate `log` that tells a hub what is logged.
+//! A sink of the crate `log` that tells a hub what is logged: records become logs and breadcrumbs of the hub, and those
+//! of the level `Error` become events.
+use crate::clocks::{WallClock, draw_seed};
+use crate::printing::Printer;
+use crate::setup::connect;
+use anyhow::Result;
 use log::kv::{Source, VisitSource};
 use log::span::Spans;
-use log::{Level, Log, Metadata, Record, kv};
+use log::{Level, Log, Logged, Metadata, Record, debug, error, info, kv, warn};
 use sentry_core::protocol::{self, LogAttribute, LogLevel, Refusal, Value};
-use sentry_core::{Breadcrumb, Clock, Text, TextMap, ThreadHub, add_breadcrumb, capture_message};
+use sentry_core::{
+    BoxedClock, BoxedTransport, Breadcrumb, ClientOptions, Clock, Text, TextMap, ThreadHub,
+    add_breadcrumb, capture_message,
+};
 use std::alloc::{AllocError, Global};
 use std::cell::RefCell;
 use std::fmt::Display;
 use std::sync::Wait;
+
+/// Runs the example, with the clock of the system and a random seed.
+pub fn run<R: Wait + Copy + Drop>(rt: R, host: HostRuntime) -> Result<()> {
+    let alloc = host.alloc();
+    let transport: BoxedTransport = Box::new(alloc, Printer(host))?;
+    let options = ClientOptions::from_dsn(alloc, "https://public@sentry.invalid/1")?;
+    let mut clock = WallClock(host);
+    let (client, hub) = connect(&rt, alloc, options, transport, clock.now())?;
+    let clock: BoxedClock = Box::new(alloc, clock)?;
+    let thread = ThreadHub::new(hub, clock, draw_seed(&host)?)?;
+    let logged = Logged::new(host, Level::Info, HubSink::new(rt, thread));
+    print_orders(&logged);
+    drop(client.flush(&rt, None)?);
+    Ok(())
+}
+
+// What the program does. It knows of a logger alone.
+fn print_orders<L: Log>(rt: &L) {
+    info!(rt; target: "orders", orders = 2; "the printer is on");
+    debug!(rt; target: "orders", "the printer is warm");
+    warn!(rt; target: "paper", sheets = 3, tray = "left"; "{} sheets are left", 3);
+    error!(rt; target: "paper", "no paper");
+}
 
 /// Tells the current hub of a thread what is logged. A logger can't fail: what a hub refuses is dropped, and so is what
 /// is logged while another record is told.

@@ -1,22 +1,71 @@
-//! What a server does with a request.
+//! A server's middleware: a hub for each request, a transaction that continues the trace of the request's headers, the
+//! errors of the request, and the status of its response.
+use crate::clocks::Steps;
+use crate::printing::Printer;
+use crate::setup::connect;
+use anyhow::Result;
 use sentry_core::protocol::{ErrorLink, Refusal, Request, SpanStatus, Value};
 use sentry_core::{
-    Hub, Text, TextMap, ThreadHub, Transaction, TransactionContext, TransactionOrSpan,
-    capture_error, configure_scope, start_transaction,
+    BoxedClock, BoxedTransport, ClientOptions, Hub, Text, TextMap, ThreadHub, Transaction,
+    TransactionContext, TransactionOrSpan, capture_error, configure_scope, start_transaction,
 };
 use std::alloc::{AllocError, Global};
 use std::sync::Wait;
 use thiserror::Error;
 
-/// A request, as it comes in.
-#[derive(Drop)]
-pub struct Incoming<'a> {
-    pub method: &'a str,
-    pub path: &'a str,
-    pub headers: &'a [(&'a str, &'a str)],
+/// The headers of a request that another service made.
+const CONTINUED: [(&str, &str); 2] = [
+    ("Host", "shop.invalid"),
+    (
+        "Sentry-Trace",
+        "09e04486820349518ac7b5d2adbf6ba5-9cf635fa5b870b3a-1",
+    ),
+];
+
+/// Runs the example.
+pub fn run<R: Wait>(rt: &R, host: HostRuntime) -> Result<()> {
+    let alloc = host.alloc();
+    let transport: BoxedTransport = Box::new(alloc, Printer(host))?;
+    let options = ClientOptions::from_dsn(
+        alloc,
+        "https://public@sentry.invalid/1",
+    )?.traces_sample_rate(1_000_000)?;
+    let (client, hub) = connect(rt, alloc, options, transport, 0)?;
+    let clock: BoxedClock = Box::new(alloc, Steps::of_seconds(1))?;
+    let mut thread = ThreadHub::new(hub, clock, [7; 32])?;
+    serve(rt, host, &mut thread)?;
+    drop(client.flush(rt, None)?);
+    Ok(())
 }
 
-/// Why the shop has no page.
+// Three requests, one after another.
+fn serve<R: Wait>(rt: &R, host: HostRuntime, thread: &mut ThreadHub) -> Result<()> {
+    let requests = [
+        ("/lamps", CONTINUED.as_slice()),
+        ("/chairs", [].as_slice()),
+        ("/tables", CONTINUED.as_slice()),
+    ];
+    for (path, headers) in requests {
+        let request = Incoming {
+            method: "GET",
+            path,
+            headers,
+        };
+        let status = answer_request(rt, host.alloc(), thread, &request)?;
+        println!(host; "GET {path}: {status}")?;
+    }
+    Ok(())
+}
+
+// A request, as it comes in.
+#[derive(Drop)]
+struct Incoming<'a> {
+    method: &'a str,
+    path: &'a str,
+    headers: &'a [(&'a str, &'a str)],
+}
+
+// Why the shop has no page.
 #[derive(Debug, Drop, Error)]
 enum ShopError {
     #[error("there are no chairs")]
@@ -43,9 +92,9 @@ fn status_of(page: &Result<&'static str, ShopError>) -> (u16, SpanStatus) {
     }
 }
 
-/// Answers a request under a hub of its own, which is made from the top of the thread's main hub. Answers the status of
-/// the response.
-pub fn answer_request<R: Wait>(
+// Answers a request under a hub of its own, which is made from the top of the thread's main hub. Answers the status of
+// the response.
+fn answer_request<R: Wait>(
     rt: &R,
     alloc: Global,
     thread: &mut ThreadHub,
