@@ -9,6 +9,7 @@ import re
 from compile_edits import FUNCTION, Round
 from edit_files import pairs_of, read
 
+ERROR = re.compile(r"^(src/\S+\.rt):(\d+):\d+: error", re.M)
 NOT_PROVED = re.compile(r"^note: (src/\S+\.rt):(\d+):\d+: (it is not proved .*)$", re.M)
 
 
@@ -55,3 +56,9 @@ def refused_of(crate, tried, said):
     if any(edit is None for edit, _, _ in found):
         return {}
     return {edit: f"{place}: {what}" for edit, what, place in reversed(found)}
+
+
+def bad_of(crate, tried, said):
+    """The edits of a round in whose functions the errors stand of a check that did not come to a proof."""
+    found = {tried.edit_at(os.path.join(crate, file), int(line)) for file, line in ERROR.findall(said)}
+    return [it for it in tried.edits if it in found]
