@@ -114,10 +114,12 @@ fn refusals<R: Wait, T: Transport + Drop>(
     core: &SharedCore<T>,
     label: Label,
 ) -> [Option<Refusal>; 3] {
+    let mut guard = core.lock(rt);
+    let core = &mut guard.core;
     [
-        core.lock(rt).core.drain_and_absorb(label).err(),
-        core.lock(rt).core.take_report(label).err(),
-        core.lock(rt).core.close_losses(label).err(),
+        core.drain_and_absorb(label).err(),
+        core.take_report(label).err(),
+        core.close_losses(label).err(),
     ]
 }
 

@@ -130,9 +130,11 @@ fn a_shutdown_is_a_flush_unless_written(rt: HostRuntime) -> Result<(), Fail> {
 }
 
 /// Whether options have a recorder, and what a share of a transport that is made with them answers to a flush.
-fn create(alloc: Global, options: TransportOptions) -> Result<(bool, bool), Refusal> {
+fn create(
+    factory: &Arc<NoOpTransport>,
+    options: TransportOptions,
+) -> Result<(bool, bool), Refusal> {
     let has_recorder = options.client_report_recorder.is_some();
-    let factory = Arc::new(alloc, NoOpTransport)?;
     let transport = factory.create_transport_with_options(options)?;
     Ok((has_recorder, transport.flush(1)))
 }
@@ -145,7 +147,8 @@ fn a_setup_gives_the_options_of_its_transport_once(rt: HostRuntime) -> Result<()
     let Some(made) = setup.transport_options()? else {
         panic!(rt; "no options")
     };
-    assert_eq!(rt; create(alloc, made)?, (true, true));
+    let factory = Arc::new(alloc, NoOpTransport)?;
+    assert_eq!(rt; create(&factory, made)?, (true, true));
     assert!(rt; setup.transport_options()?.is_none());
     let bare = Options::with_callbacks(alloc, Quiet { is_starving: false });
     assert!(rt; TransportOptions::try_from_client_options(&bare)?.is_none());
