@@ -9,15 +9,19 @@ import os
 import sys
 from collections import namedtuple
 
+from sources import printed_by_examples
+
 TOP = os.path.dirname(os.path.dirname(os.path.abspath(__file__)))
 FOLDER = os.path.join(TOP, "examples")
 PROGRAMS = ("scenario", "replay")
-# The program that plays the scenarios too, over the lock.
-LOCKED = "scenario_lock"
-# Its arguments: by which values it makes the calls on transactions and spans. Without one it is by their own types.
+# The argument with which `scenario` plays its input over the lock.
+LOCK = "lock"
+# Those with which it does so by other values where it makes the calls on transactions and spans.
 OTHER_SPAN_CALLS = ("either", "lent")
 # The lines that start a transaction. Without one there is no call on a transaction or a span that is held.
 STARTS = (b"tx ", b"txsampled ", b"txat ", b"txfrom ", b"continue ")
+# The program that runs a part of itself by its name.
+PARTS = "examples"
 
 # What a run of a program gives: its exit status, and what it wrote.
 Run = namedtuple("Run", "status out err")
@@ -26,8 +30,8 @@ Example = namedtuple("Example", "name program input wanted arguments", defaults=
 
 
 def program_path(name):
-    """Where the program is: where the environment says (SCENARIO, REPLAY, SCENARIO_LOCK), or where the gate leaves the
-    proved one."""
+    """Where the program is: where the environment says (SCENARIO, REPLAY, EXAMPLES), or where the gate leaves the proved
+    one."""
     return os.environ.get(name.upper()) or os.path.join(TOP, "crates", name, "out", name)
 
 
@@ -90,27 +94,30 @@ def find(names):
     return found
 
 
-def by_other_values(example):
-    """An example of scenario_lock with each of its arguments, if transactions start in it."""
-    if any(line.startswith(STARTS) for line in example.input.split(b"\n")):
-        for word in OTHER_SPAN_CALLS:
-            yield example._replace(name=f"{example.name}, {word}", arguments=(word,))
+def ways_over_the_lock(example):
+    """The arguments with which `scenario` plays the example over the lock: all of them if transactions start in it."""
+    has_spans = any(line.startswith(STARTS) for line in example.input.split(b"\n"))
+    return (LOCK, *OTHER_SPAN_CALLS) if has_spans else (LOCK,)
 
 
 def over_the_lock(found):
-    """The scenarios among the examples, without single bad lines, for the program that plays them over the lock; those
-    with transactions by each kind of values that it may use for these."""
-    locked = [
-        it._replace(
-            name=f"{it.name} over the lock",
-            program=LOCKED,
-            wanted=it.wanted._replace(err=it.wanted.err.replace(b"scenario: ", b"%s: " % LOCKED.encode())),
-        )
+    """The scenarios among the examples, without single bad lines, as `scenario` plays them over the lock."""
+    return [
+        it._replace(name=f"{it.name}, {word}", arguments=(word,))
         for it in found
         if it.program == "scenario" and ".bad " not in it.name
+        for word in ways_over_the_lock(it)
     ]
-    stop_without_programs(locked)
-    return locked + [other for it in locked for other in by_other_values(it)]
+
+
+def runs_by_name():
+    """A run of each part of the program `examples` by its name, which must print what the part of the file stdout has."""
+    found = [
+        Example(f"{PARTS} {name}", PARTS, b"", Run(0, printed.encode(), b""), (name,))
+        for name, printed in printed_by_examples().items()
+    ]
+    stop_without_programs(found)
+    return found
 
 
 def around(line, at):

@@ -1,0 +1,335 @@
+//! Calls on transactions and spans.
+use crate::locked::{Locked, LockedHub, LockedTransaction, SpanCalls};
+use crate::threads::thread_of;
+use sentry_base::protocol::{
+    Fresh, Refusal, Request, SpanId, SpanKey, SpanStatus, TraceContext, TransactionKey,
+    TransactionOrSpanKey, Value,
+};
+use sentry_engine::call::{Call, Reply, SpanCall, SpanReply};
+use sentry_hub::performance::TransactionOrSpan;
+use sentry_plain::{Text, ValueMap};
+use sentry_trace::headers::TraceHeadersIter;
+use std::alloc::{AllocError, Global};
+use std::collections::btree_map::Iter;
+use std::sync::Wait;
+
+// Makes one call on a transaction or a span by its own type, or by the one that is either. The call has the same name
+// and arguments for all three types.
+macro_rules! call {
+    ($lock:expr, $name:expr, $value:ident => $call:expr) => {{
+        let either = TransactionOrSpan::new(&$lock.core, $name)?;
+        match ($lock.span_calls, &either) {
+            (SpanCalls::Either, $value) => $call,
+            (_, TransactionOrSpan::Transaction($value)) => $call,
+            (_, TransactionOrSpan::Span($value)) => $call,
+        }
+    }};
+}
+
+impl<R: Wait + Copy + Drop> Locked<R> {
+    /// Makes a call that starts a transaction, or one on a transaction or a span.
+    pub(crate) fn call_span(&self, call: SpanCall) -> Result<SpanReply, Refusal> {
+        match call {
+            SpanCall::StartTransaction {
+                hub,
+                context,
+                fresh,
+            } => {
+                let hub = self.hub(hub)?;
+                let started = hub.start_transaction(&self.rt, context.into_inner(), fresh)?;
+                Ok(SpanReply::Transaction(started.key()))
+            }
+            SpanCall::StartTransactionWithTimestamp {
+                hub,
+                context,
+                start,
+                fresh,
+            } => {
+                let hub = self.hub(hub)?;
+                let context = context.into_inner();
+                let started = hub.start_transaction_with_timestamp(
+                    &self.rt, context, start, fresh,
+                )?;
+                Ok(SpanReply::Transaction(started.key()))
+            }
+            call => self.change_spans(call),
+        }
+    }
+
+    // A call that starts or ends a span, or ends a transaction.
+    fn change_spans(&self, call: SpanCall) -> Result<SpanReply, Refusal> {
+        match call {
+            SpanCall::StartChild {
+                parent,
+                op,
+                description,
+                fresh,
+            } => self.start_child(parent, &op, &description, fresh),
+            SpanCall::StartChildWithDetails {
+                parent,
+                op,
+                description,
+                id,
+                start,
+            } => self.start_child_with_details(parent, &op, &description, id, start),
+            SpanCall::FinishTransaction {
+                transaction,
+                hub,
+                moment,
+            } => {
+                let name = TransactionOrSpanKey::Transaction(transaction);
+                self.finish(name, self.hub(hub)?, moment)
+            }
+            SpanCall::FinishSpan { span, moment } => self.finish_span(span, moment),
+            SpanCall::Discard(name) => self.discard(name),
+            call => self.edit_span(call),
+        }
+    }
+
+    fn start_child(
+        &self,
+        parent: TransactionOrSpanKey,
+        op: &Text,
+        description: &Text,
+        fresh: Fresh,
+    ) -> Result<SpanReply, Refusal> {
+        let (op, description) = (op.as_str(), description.as_str());
+        let child = call!(
+            self, parent,
+            value => value.start_child(&self.rt, op, description, fresh)
+        )?;
+        Ok(SpanReply::Span(child.key()))
+    }
+
+    fn start_child_with_details(
+        &self,
+        parent: TransactionOrSpanKey,
+        op: &Text,
+        description: &Text,
+        id: SpanId,
+        start: u64,
+    ) -> Result<SpanReply, Refusal> {
+        let (op, description) = (op.as_str(), description.as_str());
+        let child = call!(
+            self, parent,
+            value => value.start_child_with_details(&self.rt, op, description, id, start)
+        )?;
+        Ok(SpanReply::Span(child.key()))
+    }
+
+    fn finish(
+        &self,
+        name: TransactionOrSpanKey,
+        hub: &LockedHub<R>,
+        moment: u64,
+    ) -> Result<SpanReply, Refusal> {
+        let mut thread = thread_of(hub, moment)?;
+        call!(self, name, value => value.finish(&self.rt, &mut thread))?;
+        Ok(SpanReply::Done)
+    }
+
+    // A span asks for no hub, so that any will do: there is one, since a transaction has started.
+    fn finish_span(&self, span: SpanKey, moment: u64) -> Result<SpanReply, Refusal> {
+        match self.hubs.first() {
+            Some(hub) => self.finish(TransactionOrSpanKey::Span(span), hub, moment),
+            None => Err(Refusal::Stale),
+        }
+    }
+
+    fn discard(&self, name: TransactionOrSpanKey) -> Result<SpanReply, Refusal> {
+        call!(self, name, value => value.discard(&self.rt))?;
+        Ok(SpanReply::Done)
+    }
+
+    // A call of a setter that transactions and spans have.
+    fn edit_span(&self, call: SpanCall) -> Result<SpanReply, Refusal> {
+        match call {
+            SpanCall::SetData { name, key, value } => self.set_data(name, &key, value)?,
+            SpanCall::SetTag { name, key, value } => self.set_tag(name, &key, &value)?,
+            SpanCall::SetStatus { name, status } => self.set_status(name, status)?,
+            SpanCall::SetOp { name, op } => self.set_op(name, &op)?,
+            SpanCall::SetName { name, text } => self.set_name(name, &text)?,
+            SpanCall::SetRequest { name, request } => {
+                self.set_request(name, request.into_inner())?
+            }
+            call => return self.edit_transaction(call),
+        }
+        Ok(SpanReply::Done)
+    }
+
+    fn set_data(&self, name: TransactionOrSpanKey, key: &Text, data: Value) -> Result<(), Refusal> {
+        match self.span_calls {
+            SpanCalls::Lent => self.set_lent_data(name, key, data),
+            _other => { call!(self, name, value => value.set_data(&self.rt, key.as_str(), data)) }
+        }
+    }
+
+    fn set_lent_data(
+        &self,
+        name: TransactionOrSpanKey,
+        key: &Text,
+        data: Value,
+    ) -> Result<(), Refusal> {
+        let key = key.as_str();
+        let either = TransactionOrSpan::new(&self.core, name)?;
+        match &either {
+            TransactionOrSpan::Transaction(transaction) => {
+                transaction.data(&self.rt, |lent| lent.set_data(key, data))
+            }
+            TransactionOrSpan::Span(span) => {
+                span.data(&self.rt, |lent| lent.set_data(key, data))
+            }
+        }
+    }
+
+    fn set_tag(&self, name: TransactionOrSpanKey, key: &Text, tag: &Text) -> Result<(), Refusal> {
+        match self.span_calls {
+            SpanCalls::Lent => self.set_lent_tag(name, key, tag),
+            _other => {
+                let (key, tag) = (key.as_str(), tag.as_str());
+                call!(self, name, value => value.set_tag(&self.rt, key, tag))
+            }
+        }
+    }
+
+    fn set_lent_tag(
+        &self,
+        name: TransactionOrSpanKey,
+        key: &Text,
+        tag: &Text,
+    ) -> Result<(), Refusal> {
+        let (key, tag) = (key.as_str(), tag.as_str());
+        let either = TransactionOrSpan::new(&self.core, name)?;
+        match &either {
+            TransactionOrSpan::Transaction(transaction) => {
+                transaction.data(&self.rt, |lent| lent.set_tag(key, tag))
+            }
+            TransactionOrSpan::Span(span) => span.data(&self.rt, |lent| lent.set_tag(key, tag)),
+        }
+    }
+
+    fn set_status(&self, name: TransactionOrSpanKey, status: SpanStatus) -> Result<(), Refusal> {
+        call!(self, name, value => value.set_status(&self.rt, status))
+    }
+
+    fn set_op(&self, name: TransactionOrSpanKey, op: &Text) -> Result<(), Refusal> {
+        call!(self, name, value => value.set_op(&self.rt, op.as_str()))
+    }
+
+    fn set_name(&self, name: TransactionOrSpanKey, text: &Text) -> Result<(), Refusal> {
+        call!(self, name, value => value.set_name(&self.rt, text.as_str()))
+    }
+
+    fn set_request(&self, name: TransactionOrSpanKey, request: Request) -> Result<(), Refusal> {
+        call!(self, name, value => value.set_request(&self.rt, request))
+    }
+
+    // A call of a setter that transactions alone have.
+    fn edit_transaction(&self, call: SpanCall) -> Result<SpanReply, Refusal> {
+        match call {
+            SpanCall::SetExtra {
+                transaction,
+                key,
+                value,
+            } => {
+                let transaction = self.transaction(transaction)?;
+                transaction.set_extra(&self.rt, key.as_str(), value)?;
+                Ok(SpanReply::Done)
+            }
+            SpanCall::SetOrigin {
+                transaction,
+                origin,
+            } => {
+                let transaction = self.transaction(transaction)?;
+                transaction.set_origin(&self.rt, origin.as_str())?;
+                Ok(SpanReply::Done)
+            }
+            call => self.ask_span(call),
+        }
+    }
+
+    fn transaction(&self, key: TransactionKey) -> Result<LockedTransaction<R>, Refusal> {
+        let either = TransactionOrSpan::new(&self.core, TransactionOrSpanKey::Transaction(key))?;
+        match &either {
+            TransactionOrSpan::Transaction(transaction) => Ok(transaction.clone()?),
+            // No key of a transaction gives a span.
+            TransactionOrSpan::Span(_) => Err(Refusal::Stale),
+        }
+    }
+
+    // A call that changes nothing.
+    fn ask_span(&self, call: SpanCall) -> Result<SpanReply, Refusal> {
+        match call {
+            SpanCall::GetStatus(name) => Ok(SpanReply::Status(self.get_status(name)?)),
+            SpanCall::GetTraceContext(name) => {
+                Ok(SpanReply::TraceContext(self.get_trace_context(name)?))
+            }
+            SpanCall::GetSpanId(span) => Ok(SpanReply::SpanId(self.get_span_id(span)?)),
+            SpanCall::Data(name) => Ok(SpanReply::Data(self.data(name)?)),
+            SpanCall::IterHeaders(name) => Ok(SpanReply::Headers(self.iter_headers(name)?)),
+            SpanCall::IsSampled(name) => Ok(SpanReply::Decision(self.is_sampled(name)?)),
+            call => self.call_as_value(call),
+        }
+    }
+
+    fn get_status(&self, name: TransactionOrSpanKey) -> Result<Option<SpanStatus>, Refusal> {
+        call!(self, name, value => value.get_status(&self.rt))
+    }
+
+    fn get_trace_context(&self, name: TransactionOrSpanKey) -> Result<TraceContext, Refusal> {
+        call!(self, name, value => value.get_trace_context(&self.rt))
+    }
+
+    fn get_span_id(&self, key: SpanKey) -> Result<SpanId, Refusal> {
+        let either = TransactionOrSpan::new(&self.core, TransactionOrSpanKey::Span(key))?;
+        match &either {
+            TransactionOrSpan::Span(span) => span.get_span_id(&self.rt),
+            // No key of a span gives a transaction.
+            TransactionOrSpan::Transaction(_) => Err(Refusal::Stale),
+        }
+    }
+
+    // What is either has no such call.
+    fn data(&self, name: TransactionOrSpanKey) -> Result<ValueMap, Refusal> {
+        let alloc = self.alloc;
+        let either = TransactionOrSpan::new(&self.core, name)?;
+        match &either {
+            TransactionOrSpan::Transaction(transaction) => {
+                transaction.data(&self.rt, |lent| copy_entries(alloc, lent.iter()))
+            }
+            TransactionOrSpan::Span(span) => {
+                span.data(&self.rt, |lent| copy_entries(alloc, lent.iter()))
+            }
+        }
+    }
+
+    /// The headers that pass on the trace of a transaction or a span.
+    pub(crate) fn iter_headers(
+        &self,
+        name: TransactionOrSpanKey,
+    ) -> Result<TraceHeadersIter, Refusal> {
+        call!(self, name, value => value.iter_headers(&self.rt))
+    }
+
+    fn is_sampled(&self, name: TransactionOrSpanKey) -> Result<bool, Refusal> {
+        call!(self, name, value => value.is_sampled(&self.rt))
+    }
+
+    // The call that continues a trace: no value has it.
+    fn call_as_value(&self, call: SpanCall) -> Result<SpanReply, Refusal> {
+        match self.core.call(&self.rt, Call::Span(call))? {
+            Reply::Span(reply) => Ok(reply),
+            // No call on spans replies otherwise.
+            _other => Err(Refusal::Stale),
+        }
+    }
+}
+
+// A map of these entries.
+fn copy_entries(alloc: Global, entries: Iter<'_, String, Value>) -> Result<ValueMap, AllocError> {
+    let mut map = ValueMap::new(alloc);
+    for (key, value) in entries {
+        map.insert(Text::new(alloc, key.as_str())?, value.clone()?)?;
+    }
+    Ok(map)
+}
