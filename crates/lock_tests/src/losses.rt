@@ -43,8 +43,12 @@ fn lose_and_let_go<R: Wait, T: Transport + Drop>(
 #[test]
 fn words_stay_open_while_a_recorder_is_held(rt: HostRuntime) -> Result<(), Fail> {
     let alloc: Global = rt.alloc();
-    let mut held: Held<Arc<Notebook<HostRuntime>>> =
-        Held::new(&rt, alloc, options(alloc, false)?, None)?;
+    let mut held: Held<Arc<Notebook<HostRuntime>>> = Held::new(
+        &rt,
+        alloc,
+        options(alloc, false)?,
+        None,
+    )?;
     let found = lose_while_held(&rt, &mut held)?;
     assert!(rt; found == (false, [0, 1, 1]));
     // a second time nothing is left to end

@@ -66,8 +66,8 @@ fn send_in_two_threads<R: Threads + Wait + Sync, T: Transport + Drop + Send + Sy
 /// Whether these are the numbers from 1 to 200, each of them once, in any order.
 fn is_each_once(numbers: &[u128]) -> bool {
     let mut all = numbers.len() == 200;
-    for number in 1..201 {
-        all &= numbers.contains(&number);
+    for number in 1..201u64 {
+        all &= numbers.contains(&u128::from(number));
     }
     all
 }
