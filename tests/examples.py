@@ -9,6 +9,8 @@ import os
 import sys
 from collections import namedtuple
 
+from sources import printed_by_examples
+
 TOP = os.path.dirname(os.path.dirname(os.path.abspath(__file__)))
 FOLDER = os.path.join(TOP, "examples")
 PROGRAMS = ("scenario", "replay")
@@ -18,6 +20,8 @@ LOCK = "lock"
 OTHER_SPAN_CALLS = ("either", "lent")
 # The lines that start a transaction. Without one there is no call on a transaction or a span that is held.
 STARTS = (b"tx ", b"txsampled ", b"txat ", b"txfrom ", b"continue ")
+# The program that runs a part of itself by its name.
+PARTS = "examples"
 
 # What a run of a program gives: its exit status, and what it wrote.
 Run = namedtuple("Run", "status out err")
@@ -26,7 +30,8 @@ Example = namedtuple("Example", "name program input wanted arguments", defaults=
 
 
 def program_path(name):
-    """Where the program is: where the environment says (SCENARIO, REPLAY), or where the gate leaves the proved one."""
+    """Where the program is: where the environment says (SCENARIO, REPLAY, EXAMPLES), or where the gate leaves the proved
+    one."""
     return os.environ.get(name.upper()) or os.path.join(TOP, "crates", name, "out", name)
 
 
@@ -109,6 +114,16 @@ def over_the_lock(found):
         if it.program == "scenario" and ".bad " not in it.name
         for word in ways_over_the_lock(it)
     ]
+
+
+def runs_by_name():
+    """A run of each part of the program `examples` by its name, which must print what the part of the file stdout has."""
+    found = [
+        Example(f"{PARTS} {name}", PARTS, b"", Run(0, printed.encode(), b""), (name,))
+        for name, printed in printed_by_examples().items()
+    ]
+    stop_without_programs(found)
+    return found
 
 
 def around(line, at):

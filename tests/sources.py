@@ -34,6 +34,12 @@ def read(*path):
         return file.read()
 
 
+def printed_by_examples():
+    """What each example of crates/examples prints, by its name: its part of the file stdout."""
+    parts = re.split(r"^== (\w+)\n", read("crates", "examples", "stdout"), flags=re.M)
+    return dict(zip(parts[1::2], parts[2::2]))
+
+
 def sources():
     """The text of each source file of the repository."""
     for file in sorted(glob.glob(os.path.join(CRATES, "*", "src", "**", "*.rt"), recursive=True)):

@@ -6,6 +6,8 @@
 #[cfg(test)]
 mod contexts;
 #[cfg(test)]
+mod items;
+#[cfg(test)]
 mod logs;
 #[cfg(test)]
 mod losses;

@@ -1,150 +1,65 @@
 //! Losses: calls succeed with enough memory, a drain finds what was recorded before it, and threads lose nothing.
-ghost use Rattle.std.specs.Prelude.{◌≡◌};
-
-use sentry_base::protocol::{
-    Attachment, CATEGORIES, Category, ClientReport, ClientReportItem, Envelope, EnvelopeItem,
-    Event, Label, Log, LogLevel, LossSource, Losses, Reason, Refusal, Uuid, loss_index,
-};
+use sentry_base::protocol::{CATEGORIES, Category, Label, LossSource, Losses, Reason, Refusal};
 use sentry_client_reports::client_reports::{
-    CountedDrainer, Drainer, LossBook, LossWords, Recorder, TransportLossReason,
+    CountedDrainer, Drainer, LossWords, Recorder, TransportLossReason,
 };
-use sentry_plain::{Items, Text};
-use std::alloc::{AllocError, Global};
+use std::alloc::Global;
 use std::test::Fail;
 use std::thread::{join, map_vec};
 
 const LABEL: Label = Label { tag: 7, number: 3 };
 
-// A report of one loss, which stands for lost data of any category.
-fn report(
-    alloc: Global,
+/// The loss of so many items of a category, without the items.
+#[derive(Clone, Copy)]
+struct Loss {
     category: Category,
-    reason: Reason,
     quantity: u64,
-) -> Result<ClientReport, AllocError> {
-    let mut items = Items::new(alloc);
-    items.push(ClientReportItem {
-        category,
-        reason,
-        quantity,
-    })?;
-    Ok(ClientReport { items })
 }
 
-fn event(alloc: Global) -> Result<EnvelopeItem, AllocError> {
-    Ok(EnvelopeItem::Event(Event::new(alloc, Uuid::nil(), 0)?))
+impl LossSource for Loss {
+    ghost use Rattle.sentry_base.specs.Losses.{loss_of};
+
+    ghost losses_under = { λ lost reason. loss_of lost.category reason lost.quantity };
+
+    fn losses(&self, reason: Reason) -> Losses {
+        Losses::of(self.category, reason, self.quantity)
+    }
 }
 
-fn attachment(alloc: Global) -> Result<EnvelopeItem, AllocError> {
-    Ok(EnvelopeItem::Attachment(Attachment {
-        filename: Text::new(alloc, "log.txt")?,
-        buffer: Items::new(alloc),
-        content_type: None,
-    }))
+fn lost(category: Category, quantity: u64) -> Loss {
+    Loss { category, quantity }
 }
 
-fn lost_spans(alloc: Global) -> Result<EnvelopeItem, AllocError> {
-    let spans = report(alloc, Category::Span, Reason::QueueOverflow, 3)?;
-    Ok(EnvelopeItem::ClientReport(spans))
-}
-
-fn lost_envelope(alloc: Global) -> Result<Envelope, AllocError> {
-    let mut envelope = Envelope::new(alloc);
-    envelope.add_item(event(alloc)?)?;
-    envelope.add_item(attachment(alloc)?)?;
-    envelope.add_item(lost_spans(alloc)?)?;
-    Ok(envelope)
-}
-
-#[test]
-fn a_lost_envelope_counts_each_of_its_items(rt: HostRuntime) -> Result<(), Fail> {
-    let alloc: Global = rt.alloc();
-    let envelope = lost_envelope(alloc)?;
-    let (mut recorder, mut drainer) = LossWords::new(alloc, LABEL)?;
-    recorder.record_lost_data(&envelope, TransportLossReason::QueueOverflow);
+/// Whether a drain finds just this, which is recorded before it.
+fn finds(recorder: &mut Recorder, drainer: &mut Drainer, lost: Loss) -> bool {
+    recorder.record_lost_data(&lost, TransportLossReason::NetworkError);
     let (label, losses) = drainer.drain().into_parts();
-    assert!(rt; label == LABEL);
-    let mut expected = Losses::none().quantities;
-    expected[8] = 1;
-    expected[26] = 3;
-    expected[44] = 1;
-    assert!(rt; losses.quantities == expected);
-    assert!(rt; drainer.drain().into_parts().1 == Losses::none());
-    Ok(())
+    label == LABEL && losses == lost.losses(Reason::NetworkError)
 }
 
-fn five_logs(alloc: Global) -> Result<Items<Log>, AllocError> {
-    let mut logs = Items::new(alloc);
-    for moment in 0..5 {
-        logs.push(Log::new(alloc, LogLevel::Info, "n", moment)?)?;
-    }
-    Ok(logs)
-}
-
-/// What a drain finds after one loss.
-fn drained_after<L: LossSource>(alloc: Global, lost: &L) -> Result<Losses, Refusal> {
-    let (mut recorder, mut drainer) = LossWords::new(alloc, LABEL)?;
-    recorder.record_lost_data(lost, TransportLossReason::NetworkError);
-    let (_, losses) = drainer.drain().into_parts();
-    Ok(losses)
-}
-
-/// What a drain finds in a category after five losses there, and what it finds in all others.
-fn drained_of_five(alloc: Global, category: Category) -> Result<(u64, Losses), Refusal> {
-    let five = report(alloc, category, Reason::NetworkError, 5)?;
-    let mut losses = drained_after(alloc, &five)?;
-    let index = loss_index(category, Reason::NetworkError);
-    let found = losses.quantities[index];
-    losses.quantities[index] = 0;
-    Ok((found, losses))
-}
-
-#[test]
-fn a_drain_finds_five_losses_in_each_category(rt: HostRuntime) -> Result<(), Fail> {
+/// Whether drains find five losses in each category, one after the other.
+fn finds_each(recorder: &mut Recorder, drainer: &mut Drainer) -> bool {
+    let mut all = true;
     for category in 0..CATEGORIES {
-        let found = drained_of_five(rt.alloc(), Category::at(category))?;
-        assert!(rt; found == (5, Losses::none()));
+        all &= finds(recorder, drainer, lost(Category::at(category), 5));
     }
-    Ok(())
+    all
 }
 
 #[test]
-fn a_drain_finds_a_batch_of_five_logs(rt: HostRuntime) -> Result<(), Fail> {
-    let logs = five_logs(rt.alloc())?;
-    let losses = drained_after(rt.alloc(), &logs)?;
-    assert!(rt; losses == Losses::of(Category::LogItem, Reason::NetworkError, 5));
-    Ok(())
-}
-
-#[test]
-fn a_drain_takes_what_was_recorded_since_the_last(rt: HostRuntime) -> Result<(), Fail> {
-    let alloc: Global = rt.alloc();
-    let most = report(alloc, Category::Error, Reason::SendError, u64::MAX)?;
-    let two = report(alloc, Category::Error, Reason::SendError, 2)?;
-    let (mut recorder, mut drainer) = LossWords::new(alloc, LABEL)?;
-    recorder.record_lost_data(&two, TransportLossReason::SendError);
-    let (_, losses) = drainer.drain().into_parts();
-    assert!(rt; losses == Losses::of(Category::Error, Reason::SendError, 2));
+fn a_drain_finds_what_was_recorded_since_the_last(rt: HostRuntime) -> Result<(), Fail> {
+    let (mut recorder, mut drainer) = LossWords::new(rt.alloc(), LABEL)?;
+    let finds_five = finds_each(&mut recorder, &mut drainer);
     // a counter counts modulo 2^64
-    recorder.record_lost_data(&most, TransportLossReason::SendError);
-    recorder.record_lost_data(&two, TransportLossReason::SendError);
-    let (_, losses) = drainer.drain().into_parts();
-    assert!(rt; losses == Losses::of(Category::Error, Reason::SendError, 1));
+    let most = lost(Category::Error, u64::MAX);
+    recorder.record_lost_data(&most, TransportLossReason::NetworkError);
+    recorder.record_lost_data(&lost(Category::Error, 1), TransportLossReason::NetworkError);
+    let finds_one = finds(&mut recorder, &mut drainer, lost(Category::Error, 1));
+    assert!(rt; finds_five && finds_one);
     Ok(())
 }
 
-fn record_many(mut recorder: Recorder, lost: &ClientReport, times: u64) -> Recorder
-    ensures { result.words ≡ recorder.words }
-{
-    for _ in 0..times {
-        recorder.record_lost_data(lost, TransportLossReason::NetworkError);
-    }
-    recorder
-}
-
-fn drain_many(mut drainer: Drainer, times: u64) -> (Drainer, Losses)
-    ensures { result.0.words ≡ drainer.words }
-{
+fn drain_many(mut drainer: Drainer, times: u64) -> (Drainer, Losses) {
     let mut sums = Losses::none();
     for _ in 0..times {
         let (_label, losses) = drainer.drain().into_parts();
@@ -153,113 +68,83 @@ fn drain_many(mut drainer: Drainer, times: u64) -> (Drainer, Losses)
     (drainer, sums)
 }
 
-#[test]
-fn nothing_is_lost_between_two_threads(rt: HostRuntime) -> Result<(), Fail> {
-    let alloc: Global = rt.alloc();
-    let lost = report(alloc, Category::Error, Reason::NetworkError, 1)?;
-    let (recorder, drainer) = LossWords::new(alloc, LABEL)?;
-    let (recorder, (drainer, mut sums)) = join(
-        &rt,
-        move || -> Recorder
-            ensures { result.words ≡ recorder.words }
-        { record_many(recorder, &lost, 10000) },
-        move || -> (Drainer, Losses)
-            ensures { result.0.words ≡ drainer.words }
-        { drain_many(drainer, 1000) },
-    );
-    let Ok(standing) = LossWords::close(recorder, drainer) else {
-        panic!(rt; "not closed")
-    };
-    sums.add(&standing);
-    assert!(rt; sums == Losses::of(Category::Error, Reason::NetworkError, 10000));
-    Ok(())
-}
-
-/// The losses of one thread.
+/// What one thread records: so many single losses of a category.
 #[derive(Drop)]
 struct Job {
     recorder: Recorder,
-    lost: ClientReport,
+    category: Category,
+    times: u64,
 }
 
 fn record_job(job: Job) {
-    let Job { mut recorder, lost } = job;
-    for _ in 0..1000 {
-        recorder.record_lost_data(&lost, TransportLossReason::NetworkError);
+    let Job {
+        mut recorder,
+        category,
+        times,
+    } = job;
+    for _ in 0..times {
+        recorder.record_lost_data(&lost(category, 1), TransportLossReason::NetworkError);
     }
 }
 
-fn job_of(alloc: Global, recorder: Recorder, category: Category) -> Result<Job, AllocError> {
-    let lost = report(alloc, category, Reason::NetworkError, 1)?;
-    Ok(Job { recorder, lost })
-}
-
-/// Four jobs that record in four categories, with recorders that are split from one.
-fn four_jobs(alloc: Global, recorder: Recorder) -> Result<Vec<Job>, Fail> {
-    let (first, rest) = recorder.split().map_err(|(refusal, _)| refusal)?;
-    let (second, rest) = rest.split().map_err(|(refusal, _)| refusal)?;
-    let (third, fourth) = rest.split().map_err(|(refusal, _)| refusal)?;
+/// A job for each number of losses, in categories of their own, with recorders that are split from one.
+fn jobs(alloc: Global, recorder: Recorder, quantities: &[u64]) -> Result<Vec<Job>, Fail> {
     let mut jobs = Vec::new(alloc);
-    jobs.push(job_of(alloc, first, Category::Error)?)?;
-    jobs.push(job_of(alloc, second, Category::Transaction)?)?;
-    jobs.push(job_of(alloc, third, Category::LogItem)?)?;
-    jobs.push(job_of(alloc, fourth, Category::Metric)?)?;
+    let mut rest = recorder;
+    for (place, times) in quantities.iter().enumerate() {
+        let (recorder, other) = rest.split().map_err(|(refusal, _)| refusal)?;
+        let category = Category::at(place % CATEGORIES);
+        jobs.push(Job {
+            recorder,
+            category,
+            times: *times,
+        })?;
+        rest = other;
+    }
     Ok(jobs)
 }
 
-fn four_thousand() -> Losses {
-    let mut expected = Losses::of(Category::Error, Reason::NetworkError, 1000);
-    expected.add(&Losses::of(Category::Transaction, Reason::NetworkError, 1000));
-    expected.add(&Losses::of(Category::LogItem, Reason::NetworkError, 1000));
-    expected.add(&Losses::of(Category::Metric, Reason::NetworkError, 1000));
-    expected
+/// The losses that those jobs record.
+fn recorded(quantities: &[u64]) -> Losses {
+    let mut sums = Losses::none();
+    for (place, quantity) in quantities.iter().enumerate() {
+        let category = Category::at(place % CATEGORIES);
+        sums.add(&Losses::of(category, Reason::NetworkError, *quantity));
+    }
+    sums
 }
 
 #[test]
-fn nothing_is_lost_between_four_recorders_and_a_drainer(rt: HostRuntime) -> Result<(), Fail> {
+fn nothing_is_lost_between_five_recorders_and_a_drainer(rt: HostRuntime) -> Result<(), Fail> {
     let alloc: Global = rt.alloc();
+    let quantities = [10000, 1000, 1000, 1000, 1000].as_slice();
     let (recorder, drainer) = LossWords::new(alloc, LABEL)?;
-    let jobs = four_jobs(alloc, recorder)?;
-    let (recorded, (drainer, mut sums)) = join(
+    let jobs = jobs(alloc, recorder, quantities)?;
+    let (done, (drainer, mut sums)) = join(
         &rt,
         || map_vec(&rt, jobs, &|job: Job| record_job(job)),
         move || drain_many(drainer, 20000),
     );
-    recorded?;
+    done?;
     let Ok(standing) = LossWords::close_drainer(drainer) else {
         panic!(rt; "not closed")
     };
     sums.add(&standing);
-    assert!(rt; sums == four_thousand());
-    Ok(())
-}
-
-#[test]
-fn words_close_with_what_was_recorded(rt: HostRuntime) -> Result<(), Fail> {
-    let alloc: Global = rt.alloc();
-    let five = report(alloc, Category::Session, Reason::SendError, 5)?;
-    let (mut recorder, drainer) = LossWords::new(alloc, LABEL)?;
-    recorder.record_lost_data(&five, TransportLossReason::SendError);
-    let Ok(standing) = LossWords::close(recorder, drainer) else {
-        panic!(rt; "not closed")
-    };
-    assert!(rt; standing == Losses::of(Category::Session, Reason::SendError, 5));
+    assert!(rt; sums == recorded(quantities));
     Ok(())
 }
 
 #[test]
 fn a_counted_drainer_knows_what_it_took(rt: HostRuntime) -> Result<(), Fail> {
-    let alloc: Global = rt.alloc();
-    let two = report(alloc, Category::Span, Reason::SendError, 2)?;
-    let (mut recorder, drainer) = LossWords::new(alloc, LABEL)?;
+    let two = lost(Category::Span, 2);
+    let (mut recorder, drainer) = LossWords::new(rt.alloc(), LABEL)?;
     let mut counted = CountedDrainer::new(drainer);
     recorder.record_lost_data(&two, TransportLossReason::SendError);
     let (_, losses) = counted.drain().into_parts();
     recorder.record_lost_data(&two, TransportLossReason::SendError);
     let (_, more) = counted.drain().into_parts();
-    assert!(rt;
-        losses == more && *counted.taken() == Losses::of(Category::Span, Reason::SendError, 4)
-    );
+    let four = lost(Category::Span, 4).losses(Reason::SendError);
+    assert!(rt; losses == more && *counted.taken() == four);
     recorder.record_lost_data(&two, TransportLossReason::SendError);
     let Err(counted) = counted.close() else {
         panic!(rt; "closed beside a recorder")
@@ -268,21 +153,20 @@ fn a_counted_drainer_knows_what_it_took(rt: HostRuntime) -> Result<(), Fail> {
     let Ok(standing) = counted.close() else {
         panic!(rt; "not closed")
     };
-    assert!(rt; standing == Losses::of(Category::Span, Reason::SendError, 2));
+    assert!(rt; standing == two.losses(Reason::SendError));
     Ok(())
 }
 
 #[test]
 fn words_close_once_no_other_part_is_left(rt: HostRuntime) -> Result<(), Fail> {
-    let alloc: Global = rt.alloc();
-    let lost = report(alloc, Category::Error, Reason::SendError, 1)?;
-    let (recorder, drainer) = LossWords::new(alloc, LABEL)?;
+    let one = lost(Category::Error, 1);
+    let (recorder, drainer) = LossWords::new(rt.alloc(), LABEL)?;
     let Ok((recorder, mut other)) = recorder.split() else {
         panic!(rt; "no second recorder")
     };
-    other.record_lost_data(&lost, TransportLossReason::SendError);
+    other.record_lost_data(&one, TransportLossReason::SendError);
     let Err((mut recorder, drainer)) = LossWords::close(recorder, drainer) else {
-        panic!(rt; "closed beside a recorder")
+        panic!(rt; "closed beside a second recorder")
     };
     recorder.join(other);
     let Err(drainer) = LossWords::close_drainer(drainer) else {
@@ -292,26 +176,9 @@ fn words_close_once_no_other_part_is_left(rt: HostRuntime) -> Result<(), Fail> {
         panic!(rt; "no second drainer")
     };
     drainer.join(second);
-    drop(recorder);
-    let Ok(standing) = LossWords::close_drainer(drainer) else {
+    let Ok(standing) = LossWords::close(recorder, drainer) else {
         panic!(rt; "not closed")
     };
-    assert!(rt; standing == Losses::of(Category::Error, Reason::SendError, 1));
-    Ok(())
-}
-
-#[test]
-fn a_report_lists_what_is_pending(rt: HostRuntime) -> Result<(), Fail> {
-    let alloc: Global = rt.alloc();
-    let mut book = LossBook::new();
-    assert!(rt; book.take_report(alloc)?.is_none());
-    book.absorb(&Losses::of(Category::Error, Reason::QueueOverflow, u64::MAX));
-    book.record(&Losses::of(Category::Error, Reason::QueueOverflow, 2));
-    let expected = report(alloc, Category::Error, Reason::QueueOverflow, 1)?;
-    assert!(rt; book.take_report(alloc)? == Some(expected));
-    assert!(rt; book.take_report(alloc)?.is_none());
-    // 2 and 2^64 - 1 wrap to 1
-    assert!(rt; book.recorded().quantities[8] == 2 && book.absorbed().quantities[8] == u64::MAX);
-    assert!(rt; book.reported().quantities[8] == 1);
+    assert!(rt; standing == one.losses(Reason::SendError));
     Ok(())
 }

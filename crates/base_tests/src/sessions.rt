@@ -1,4 +1,4 @@
-//! A session and a queue of sessions by themselves: an engine makes their calls in halves.
+//! A session and a queue of sessions by themselves: an engine makes the calls of a queue in halves.
 use sentry_base::protocol::{ClientKey, Uuid};
 use sentry_options::clientoptions::{PlainOptions, SessionMode};
 use sentry_plain::Text;
@@ -14,13 +14,6 @@ fn session(alloc: Global) -> Result<Option<Session>, AllocError> {
     Session::from_stack(alloc, client, &options, None, Uuid::nil(), 5)
 }
 
-/// Whether a session has an update, and whether it has one once that is handed out.
-fn updates(session: &mut Session) -> Result<(bool, bool), AllocError> {
-    let first = session.create_envelope_item()?;
-    let second = session.create_envelope_item()?;
-    Ok((first.is_some(), second.is_some()))
-}
-
 /// How many envelopes a queue hands out as it is given a session, then as all is taken, and then once more.
 fn queued(alloc: Global, session: &Session) -> Result<[usize; 3], AllocError> {
     let mut queue = SessionQueue::new(alloc, SessionMode::Application);
@@ -32,14 +25,10 @@ fn queued(alloc: Global, session: &Session) -> Result<[usize; 3], AllocError> {
 
 #[test]
 fn a_session_waits_in_a_queue(rt: HostRuntime) -> Result<(), Fail> {
-    let alloc = rt.alloc();
-    let Some(mut session) = session(alloc)? else {
+    let Some(session) = session(rt.alloc())? else {
         panic!(rt; "there is no session")
     };
-    assert_eq!(rt; updates(&mut session)?, (true, false));
-    session.close(None, 9);
-    let mut copy = session.clone()?;
-    assert_eq!(rt; updates(&mut copy)?, (true, false));
-    assert_eq!(rt; queued(alloc, &session)?, [0, 1, 0]);
+    let envelopes = queued(rt.alloc(), &session)?;
+    assert!(rt; envelopes == [0, 1, 0]);
     Ok(())
 }

@@ -5,8 +5,12 @@
 #[cfg(test)]
 mod losses;
 #[cfg(test)]
+mod quiet;
+#[cfg(test)]
 mod sending;
 #[cfg(test)]
 mod setters;
+#[cfg(test)]
+mod threads;
 #[cfg(test)]
 mod workshop;

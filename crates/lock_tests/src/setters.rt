@@ -1,31 +1,13 @@
 //! The setters of a copy of a scope.
-use crate::workshop::scope;
-use sentry_base::callbacks::{BoxedEventCallback, EventCallback};
-use sentry_base::protocol::{
-    Attachment, Context, Event, Level, SpanId, TraceId, User, Value, ValueMap,
-};
+use crate::quiet::Passes;
+use sentry_base::protocol::{Attachment, Context, Level, SpanId, TraceId, User, Value, ValueMap};
 use sentry_lock::scope_edits::ScopeEdits;
 use sentry_plain::{Items, Text};
+use sentry_scope::scope::Scope;
 use std::alloc::{AllocError, Global};
 use std::test::Fail;
 
-type Edits = ScopeEdits<BoxedEventCallback>;
-
-// Passes every event on.
-#[derive(Drop)]
-struct Passes;
-
-impl EventCallback for Passes {
-    ghost use Rattle.std.specs.Prelude.{Some};
-
-    ghost gives = { λ _ event. Some event };
-
-    fn call(&self, event: Event) -> Result<Option<Event>, AllocError> {
-        Ok(Some(event))
-    }
-}
-
-// A file without content.
+/// A file without content.
 fn attachment(alloc: Global) -> Result<Attachment, AllocError> {
     Ok(Attachment {
         filename: Text::new(alloc, "log.txt")?,
@@ -34,50 +16,39 @@ fn attachment(alloc: Global) -> Result<Attachment, AllocError> {
     })
 }
 
-// Nine setters, each of a part of its own.
-fn set_all(alloc: Global, edits: &mut Edits) -> Result<(), AllocError> {
-    edits.set_level(Some(Level::Error))?;
-    edits.set_fingerprint(Some(&["till", "drawer"]))?;
-    edits.set_transaction(Some("sell"))?;
-    edits.set_user(Some(User::new(alloc)))?;
-    edits.set_tag("till", "3")?;
-    edits.set_extra("lamps", Value::Int(2))?;
-    edits.set_context("shop", Context::Other(ValueMap::new(alloc)))?;
-    edits.add_attachment(attachment(alloc)?)?;
-    edits.set_span(None)
+/// Whether ten setters, each of a part of its own, have memory enough.
+fn set_all(alloc: Global, edits: &mut ScopeEdits<Passes>, file: Attachment) -> bool {
+    edits.set_level(Some(Level::Error)).is_ok()
+        & edits.set_fingerprint(Some(&["till", "drawer"])).is_ok()
+        & edits.set_transaction(Some("sell")).is_ok()
+        & edits.set_user(Some(User::new(alloc))).is_ok()
+        & edits.set_tag("till", "3").is_ok()
+        & edits.set_extra("lamps", Value::Int(2)).is_ok()
+        & edits
+            .set_context("shop", Context::Other(ValueMap::new(alloc)))
+            .is_ok()
+        & edits.add_attachment(file).is_ok()
+        & edits.add_event_processor(Passes).is_ok()
+        & edits.set_span(None).is_ok()
 }
 
-// Six that take parts away, or all of them.
-fn remove_all(edits: &mut Edits) -> Result<(), AllocError> {
-    edits.remove_tag("till")?;
-    edits.remove_extra("lamps")?;
-    edits.remove_context("shop")?;
-    edits.clear_breadcrumbs()?;
-    edits.clear_attachments()?;
-    edits.clear(TraceId([5; 16]), SpanId([6; 8]))
-}
-
-// How many edits there are, and whether there is a user once they are done.
-fn count_and_do(alloc: Global, edits: Edits) -> Result<(usize, bool), AllocError> {
-    let edits = edits.into_edits();
-    let count = edits.len();
-    let mut changed = scope(alloc);
-    changed.edit_all(edits.into_vec())?;
-    Ok((count, changed.user().is_some()))
+/// The same of six that take parts away, or all of them.
+fn remove_all(edits: &mut ScopeEdits<Passes>) -> bool {
+    edits.remove_tag("till").is_ok()
+        & edits.remove_extra("lamps").is_ok()
+        & edits.remove_context("shop").is_ok()
+        & edits.clear_breadcrumbs().is_ok()
+        & edits.clear_attachments().is_ok()
+        & edits.clear(TraceId([5; 16]), SpanId([6; 8])).is_ok()
 }
 
 #[test]
 fn each_setter_is_an_edit(rt: HostRuntime) -> Result<(), Fail> {
     let alloc: Global = rt.alloc();
-    let mut edits = ScopeEdits::new(alloc, scope(alloc));
-    set_all(alloc, &mut edits)?;
-    let processor: BoxedEventCallback = Box::new(alloc, Passes)?;
-    edits.add_event_processor(processor)?;
-    assert!(rt; edits.user().is_none());
-    assert_eq!(rt; count_and_do(alloc, edits)?, (10, true));
-    let mut edits = ScopeEdits::new(alloc, scope(alloc));
-    set_all(alloc, &mut edits)?;
-    remove_all(&mut edits)?;
-    assert_eq!(rt; count_and_do(alloc, edits)?, (15, false));
+    let file = attachment(alloc)?;
+    let mut edits = ScopeEdits::new(alloc, Scope::new(alloc, TraceId([1; 16]), SpanId([2; 8])));
+    let are_done = set_all(alloc, &mut edits, file) & remove_all(&mut edits);
+    assert!(rt; are_done && edits.user().is_none());
+    assert_eq!(rt; edits.into_edits().len(), 16);
     Ok(())
 }

@@ -1,183 +1,174 @@
-//! What the tests are made of: a collecting transport, clients, and events.
+//! What the tests are made of: a transport that takes notes, clients, events and losses.
 
-use sentry_base::callbacks::{
-    BoxedBreadcrumbCallback, BoxedEventCallback, BoxedLogCallback, BoxedMetricCallback,
-};
+use crate::quiet::{Passes, Quiet};
 use sentry_base::protocol::{
-    Category, ClientReport, ClientReportItem, Draw, Envelope, EnvelopeItem, Event, Fresh, Label,
+    Category, ClientReport, Draw, Envelope, EnvelopeItem, Event, Fresh, Label, LossSource, Losses,
     Reason, Refusal, SpanId, TraceId, Uuid,
 };
-use sentry_lock::client::{Client as GenericClient, ClientSetup as GenericSetup};
+use sentry_client_reports::client_reports::{Recorder, TransportLossReason};
+use sentry_lock::client::Client as GenericClient;
 use sentry_lock::shared_core::SharedCore as GenericCore;
 use sentry_lock::transport::Transport;
-use sentry_options::clientoptions::ClientOptions as GenericOptions;
-use sentry_options::integration::BoxedIntegration;
-use sentry_options::sampler::BoxedTracesSampler;
-use sentry_plain::Items;
-use sentry_scope::scope::Scope as GenericScope;
+use sentry_options::clientoptions::ClientOptions;
 use std::alloc::{AllocError, Global};
-use std::sync::{Arc, Mutex, Wait};
+use std::sync::{Mutex, Wait};
 
-pub(crate) type Callbacks = sentry_options::clientoptions::ClientCallbacks<
-    BoxedEventCallback,
-    BoxedIntegration,
-    BoxedBreadcrumbCallback,
-    BoxedLogCallback,
-    BoxedMetricCallback,
-    BoxedTracesSampler,
->;
+pub(crate) type Options = ClientOptions<Quiet>;
 
-pub(crate) type Options = GenericOptions<Callbacks>;
+pub(crate) type SharedCore<T> = GenericCore<Passes, Quiet, T>;
 
-pub(crate) type Scope = GenericScope<BoxedEventCallback>;
+pub(crate) type Client<T> = GenericClient<Passes, Quiet, T>;
 
-pub(crate) type SharedCore<T> = GenericCore<BoxedEventCallback, Callbacks, T>;
+/// What a transport was asked to do so far.
+pub(crate) struct Notes {
+    /// The ids of the envelopes that have one, in order.
+    pub(crate) ids: Vec<u128>,
+    /// How many errors their reports say were lost in the network.
+    pub(crate) errors_told: u64,
+    /// The timeouts of the flushes.
+    pub(crate) flushes: Vec<u64>,
+    /// The timeouts of the shutdowns.
+    pub(crate) shutdowns: Vec<u64>,
+}
 
-pub(crate) type Client<T> = GenericClient<BoxedEventCallback, Callbacks, T>;
+impl Drop for Notes {
+    fn drop(self) {
+        let Notes {
+            ids: _,
+            errors_told: _,
+            flushes: _,
+            shutdowns: _,
+        } = self;
+    }
+}
 
-pub(crate) type ClientSetup = GenericSetup<Callbacks>;
+impl Notes {
+    pub(crate) fn new(alloc: Global) -> Notes {
+        Notes {
+            ids: Vec::new(alloc),
+            errors_told: 0,
+            flushes: Vec::new(alloc),
+            shutdowns: Vec::new(alloc),
+        }
+    }
 
-/// Keeps what it is to send, and what it was asked to wait.
+    fn note(&mut self, envelope: &Envelope) {
+        if let Some(id) = envelope.header.event_id {
+            drop(self.ids.push(id.as_u128()));
+        }
+        for item in envelope.items.as_slice() {
+            if let EnvelopeItem::ClientReport(report) = item {
+                self.errors_told = self.errors_told.wrapping_add(errors_in(report));
+            }
+        }
+    }
+}
+
+/// Takes notes, and gives one answer to each flush and shutdown.
 #[derive(Drop)]
-pub(crate) struct Collector<R: Wait + Drop> {
+pub(crate) struct Notebook<R: Wait + Drop> {
     rt: R,
-    envelopes: Mutex<Vec<Envelope>>,
-    flushes: Mutex<Vec<u64>>,
-    shutdowns: Mutex<Vec<u64>>,
+    notes: Mutex<Notes>,
     answer: bool,
 }
 
-impl<R: Wait + Drop> Collector<R> {
-    pub(crate) fn new(rt: R, alloc: Global, answer: bool) -> Collector<R> {
-        Collector {
+impl<R: Wait + Drop> Notebook<R> {
+    pub(crate) fn new(rt: R, alloc: Global, answer: bool) -> Notebook<R> {
+        Notebook {
             rt,
-            envelopes: Mutex::new(Vec::new(alloc)),
-            flushes: Mutex::new(Vec::new(alloc)),
-            shutdowns: Mutex::new(Vec::new(alloc)),
+            notes: Mutex::new(Notes::new(alloc)),
             answer,
         }
     }
 
-    /// The envelopes so far, which are then forgotten.
-    pub(crate) fn take(&self, alloc: Global) -> Vec<Envelope> {
-        let mut envelopes = self.envelopes.lock(&self.rt);
-        std::mem::replace(&mut *envelopes, Vec::new(alloc))
-    }
-
-    /// The timeouts of the flushes so far, which are then forgotten.
-    pub(crate) fn take_flushes(&self, alloc: Global) -> Vec<u64> {
-        let mut timeouts = self.flushes.lock(&self.rt);
-        std::mem::replace(&mut *timeouts, Vec::new(alloc))
-    }
-
-    /// The same of the shutdowns.
-    pub(crate) fn take_shutdowns(&self, alloc: Global) -> Vec<u64> {
-        let mut timeouts = self.shutdowns.lock(&self.rt);
-        std::mem::replace(&mut *timeouts, Vec::new(alloc))
+    /// The notes so far, which are then forgotten.
+    pub(crate) fn take(&self, alloc: Global) -> Notes {
+        let mut notes = self.notes.lock(&self.rt);
+        std::mem::replace(&mut *notes, Notes::new(alloc))
     }
 }
 
-impl<R: Wait + Drop> Transport for Collector<R> {
+impl<R: Wait + Drop> Transport for Notebook<R> {
     fn send_envelope(&self, envelope: Envelope) {
-        drop(self.envelopes.lock(&self.rt).push(envelope));
+        self.notes.lock(&self.rt).note(&envelope);
     }
 
     fn flush(&self, timeout: u64) -> bool {
-        drop(self.flushes.lock(&self.rt).push(timeout));
+        drop(self.notes.lock(&self.rt).flushes.push(timeout));
         self.answer
     }
 
     fn shutdown(&self, timeout: u64) -> bool {
-        drop(self.shutdowns.lock(&self.rt).push(timeout));
+        drop(self.notes.lock(&self.rt).shutdowns.push(timeout));
         self.answer
     }
 }
 
-/// Keeps the ids of the events that it is to send. The prover finds by itself that threads may share it, which it does
-/// not find of a lock around envelopes.
-#[derive(Drop)]
-pub(crate) struct IdCollector<R: Wait + Drop> {
-    rt: R,
-    ids: Mutex<Vec<u128>>,
-}
-
-impl<R: Wait + Drop> IdCollector<R> {
-    pub(crate) fn new(rt: R, alloc: Global) -> IdCollector<R> {
-        IdCollector {
-            rt,
-            ids: Mutex::new(Vec::new(alloc)),
-        }
-    }
-
-    /// The ids so far, which are then forgotten.
-    pub(crate) fn take(&self, alloc: Global) -> Vec<u128> {
-        let mut ids = self.ids.lock(&self.rt);
-        std::mem::replace(&mut *ids, Vec::new(alloc))
-    }
-}
-
-impl<R: Wait + Drop> Transport for IdCollector<R> {
-    fn send_envelope(&self, envelope: Envelope) {
-        if let Some(id) = envelope.header.event_id {
-            drop(self.ids.lock(&self.rt).push(id.as_u128()));
-        }
-    }
-}
-
 /// Options with a DSN.
-pub(crate) fn options(alloc: Global) -> Result<Options, Refusal> {
-    Options::new(alloc).dsn("https://key@sentry.example.com/42")
+pub(crate) fn options(alloc: Global, is_starving: bool) -> Result<Options, Refusal> {
+    ClientOptions::with_callbacks(alloc, Quiet { is_starving }).dsn(
+        "https://key@sentry.example.com/42",
+    )
 }
 
-/// A client with a DSN and a transport, and the setup's recorder left in its words.
-pub(crate) fn client_with<R: Wait, T: Transport + Drop>(
+/// A client with these options, its label, and the recorder of its transport. `Stale`: the options have no DSN.
+pub(crate) fn client_of<R: Wait, T: Transport + Drop>(
     rt: &R,
     core: &SharedCore<T>,
-    transport: T,
-) -> Result<Client<T>, Refusal> {
-    let setup = core.client_setup(rt, options(core.allocator())?)?;
-    Client::with_options(rt, core, setup, Some(transport), 0)
-}
-
-pub(crate) fn scope(alloc: Global) -> Scope {
-    Scope::new(alloc, TraceId([1; 16]), SpanId([2; 8]))
-}
-
-/// An id from a number: different numbers give different ids.
-pub(crate) fn id(number: u64) -> Uuid {
-    Uuid::from_u128(u128::from(number))
+    options: Options,
+    transport: Option<T>,
+) -> Result<(Client<T>, Label, Recorder), Refusal> {
+    let mut setup = core.client_setup(rt, options)?;
+    let label = setup.label();
+    let recorder = match setup.transport_options()? {
+        Some(made) => made.client_report_recorder,
+        None => None,
+    };
+    let client = Client::with_options(rt, core, setup, transport, 0)?;
+    match recorder {
+        Some(recorder) => Ok((client, label, recorder)),
+        None => Err(Refusal::Stale),
+    }
 }
 
 /// The ids and the moment of a call, from a number.
-pub(crate) fn fresh(number: u64) -> Result<Fresh, Refusal> {
-    let draw = Draw::new(0).ok_or(Refusal::InvalidRate)?;
-    Ok(Fresh {
+pub(crate) fn fresh(number: u64) -> Fresh {
+    Fresh {
         now: number,
-        uuid: id(number),
+        uuid: Uuid::nil(),
         trace_id: TraceId([3; 16]),
         span_id: SpanId([4; 8]),
-        draw,
-    })
+        draw: Draw::new(0).unwrap(),
+    }
 }
 
-/// An event with the id of a number.
+/// An event with the id of a number: different numbers give different ids.
 pub(crate) fn event(alloc: Global, number: u64) -> Result<Event, AllocError> {
-    Event::new(alloc, id(number), number)
+    Event::new(alloc, Uuid::from_u128(u128::from(number)), number)
 }
 
-/// A report of one lost error, which stands for a lost error.
-pub(crate) fn lost_error(alloc: Global) -> Result<ClientReport, AllocError> {
-    let mut items = Items::new(alloc);
-    items.push(ClientReportItem {
-        category: Category::Error,
-        reason: Reason::NetworkError,
-        quantity: 1,
-    })?;
-    Ok(ClientReport { items })
+/// The loss of an error, without the error.
+#[derive(Clone, Copy)]
+struct LostError;
+
+impl LossSource for LostError {
+    ghost use Rattle.sentry_base.specs.Losses.{loss_of};
+    ghost use Rattle.sentry_base.specs.declared.protocol.losses.Category.TheVariants as of_category;
+
+    ghost losses_under = { λ _ reason. loss_of of_category.Error reason 1 };
+
+    fn losses(&self, reason: Reason) -> Losses {
+        Losses::of(Category::Error, reason, 1)
+    }
+}
+
+/// Records that an error was lost in the network.
+pub(crate) fn lose_error(recorder: &mut Recorder) {
+    recorder.record_lost_data(&LostError, TransportLossReason::NetworkError);
 }
 
 /// How many errors a report says were lost in the network.
-pub(crate) fn errors_in(report: &ClientReport) -> u64 {
+fn errors_in(report: &ClientReport) -> u64 {
     let mut errors = 0u64;
     for item in report.items.as_slice() {
         if item.category == Category::Error && item.reason == Reason::NetworkError {
@@ -187,15 +178,14 @@ pub(crate) fn errors_in(report: &ClientReport) -> u64 {
     errors
 }
 
-/// The same in all reports of the envelopes.
-pub(crate) fn errors_told(envelopes: &[Envelope]) -> u64 {
-    let mut errors = 0u64;
-    for envelope in envelopes {
-        for item in envelope.items.as_slice() {
-            if let EnvelopeItem::ClientReport(report) = item {
-                errors = errors.wrapping_add(errors_in(report));
-            }
-        }
+/// How many errors stay pending under a label, which then count as reported.
+pub(crate) fn pending<R: Wait, T: Transport + Drop>(
+    rt: &R,
+    client: &Client<T>,
+    label: Label,
+) -> Result<u64, Refusal> {
+    match client.core().lock(rt).core.take_report(label)? {
+        None => Ok(0),
+        Some(report) => Ok(errors_in(&report)),
     }
-    errors
 }

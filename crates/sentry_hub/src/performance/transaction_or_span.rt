@@ -19,18 +19,10 @@ use std::alloc::AllocError;
 use std::sync::Wait;
 
 /// A transaction or a span. Values are equal if their keys are.
+#[derive(Drop)]
 pub enum TransactionOrSpan<P, C, T> {
     Transaction(Transaction<P, C, T>),
     Span(Span<P, C, T>),
-}
-
-impl<P: Drop, C: Drop, T: Drop> Drop for TransactionOrSpan<P, C, T> {
-    fn drop(self) {
-        match self {
-            TransactionOrSpan::Transaction(_) => {}
-            TransactionOrSpan::Span(_) => {}
-        }
-    }
 }
 
 impl<P, C, T> From<Transaction<P, C, T>> for TransactionOrSpan<P, C, T> {

@@ -6,6 +6,7 @@ ghost use Rattle.sentry_queueing.specs.QueueHistories.{is_limited_by};
 use crate::queueing::limits::Limits;
 use sentry_base::protocol::{Envelope, EnvelopeItem};
 use sentry_plain::Items;
+use std::mem;
 
 // The items that are not limited, in place of all. It takes no memory.
 fn other_items(limits: &Limits, items: Items<EnvelopeItem>, now: u64) -> Items<EnvelopeItem>
@@ -20,9 +21,9 @@ fn other_items(limits: &Limits, items: Items<EnvelopeItem>, now: u64) -> Items<E
 pub(crate) fn without_limited(limits: &Limits, envelope: Envelope, now: u64) -> Envelope
     ensures { result ≡ without_limited (is_limited_by limits.now.until now) envelope }
 {
-    let Envelope { header, items } = envelope;
-    Envelope {
-        header,
-        items: other_items(limits, items, now),
-    }
+    let mut envelope = envelope;
+    let nothing = Items::new(envelope.items.allocator());
+    let items = mem::replace(&mut envelope.items, nothing);
+    envelope.items = other_items(limits, items, now);
+    envelope
 }

@@ -1,0 +1,57 @@
+"""Edits of a crate that are tried in one check: each changes the body of another function.
+
+A body is proved by the contracts of what it calls and not by their bodies, so no edit of a round can have the function of
+another one refused. Where that isn't plain from what the prover says, the edits are tried one by one.
+"""
+import os
+import re
+
+from compile_edits import FUNCTION, Round
+from edit_files import pairs_of, read
+
+NOT_PROVED = re.compile(r"^note: (src/\S+\.rt):(\d+):\d+: (it is not proved .*)$", re.M)
+
+
+def is_in_body(text, old):
+    """Whether a text stands in the body of a function. The files are in rt fmt's layout, so a body ends at a line of one
+    brace, indented as the function is."""
+    at = text.find(old)
+    heads = [it for it in FUNCTION.finditer(text, 0, at) if "const fn" not in it[0]]
+    if not heads:
+        return False
+    indent = re.match(" *", heads[-1][0])[0]
+    opens = re.compile(rf"^{indent}(?:\S.*)?\{{$", re.M).search(text, heads[-1].start())
+    closes = re.compile(rf"^{indent}\}}$", re.M).search(text, heads[-1].start())
+    return bool(opens and closes) and opens.end() <= at and at + len(old) <= closes.start()
+
+
+def changes_bodies(edit):
+    """Whether all that an edit changes stands in bodies."""
+    texts, crate = {}, os.path.dirname(os.path.dirname(edit))
+    for file, old, new in pairs_of(edit):
+        text = texts.get(file) or read(os.path.join(crate, file))
+        if not is_in_body(text, old):
+            return False
+        texts[file] = text.replace(old, new)
+    return True
+
+
+def rounds_of(edits, size):
+    """The edits in rounds of at most so many. One that changes more than bodies stands alone."""
+    rounds, alone = [], []
+    for edit in edits:
+        if not changes_bodies(edit):
+            alone.append(edit)
+        elif not any(len(it.edits) < size and it.takes(edit) for it in rounds):
+            rounds.append(Round())
+            rounds[-1].takes(edit)
+    return [it.edits for it in rounds] + [[it] for it in alone]
+
+
+def refused_of(crate, tried, said):
+    """Of the edits of a round, by what a check said that did not prove the crate: those in whose function something is not
+    proved, with the first such thing. None are told if something isn't that stands in no edit's function."""
+    found = [(tried.edit_at(os.path.join(crate, file), int(line)), what, f"{file}:{line}") for file, line, what in NOT_PROVED.findall(said)]
+    if any(edit is None for edit, _, _ in found):
+        return {}
+    return {edit: f"{place}: {what}" for edit, what, place in reversed(found)}
