@@ -30,8 +30,8 @@ fn starve<R: Wait>(rt: &R, hub: &Hub) -> Result<(), Refusal> {
     hub.add_breadcrumb_with(rt, || -> Result<Breadcrumb, AllocError> { Err(AllocError) })
 }
 
-// Sends a message after the breadcrumbs, and has a closure refused its memory while the hub has a client, and when it has
-// none any more.
+// Sends a message after the breadcrumbs. Then it has a closure refused its memory, while the hub has a client, and when
+// it has none any more.
 fn leave_trail<R: Wait>(
     rt: &R,
     thread: &mut ThreadHub,

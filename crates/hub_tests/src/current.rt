@@ -8,6 +8,7 @@ use sentry_core::{
     end_session_with_status, last_event_id, start_session, start_transaction,
     start_transaction_with_timestamp, with_scope,
 };
+use sentry_thread_hub::thread_hub::ThreadHub as GenericThread;
 use std::alloc::{AllocError, Global};
 use std::sync::Wait;
 use std::test::Fail;
@@ -91,8 +92,8 @@ fn trace<R: Wait>(rt: &R, thread: &mut ThreadHub) -> Result<(bool, bool), Refusa
     Ok((is_first, is_second))
 }
 
-// What the calls answer: the ids of an event, a message and an error, the id of the last event, that of a message under a
-// scope of its own, and that of one whose scope is out of memory.
+// What the calls answer: the ids of an event, a message and an error, the id of the last event, that of a message under
+// a scope of its own, and that of one whose scope is out of memory.
 type Ids = ([Uuid; 3], Option<Uuid>, Uuid, Result<Uuid, Refusal>);
 
 // The calls that send events. After them stands the scope of before.
@@ -122,8 +123,7 @@ fn act<R: Wait>(rt: &R, thread: &mut ThreadHub) -> Result<(Ids, Findings), Refus
 
 // The first ids that a thread draws.
 fn draw_ids() -> Result<[Uuid; 9], AllocError> {
-    let mut thread: sentry_thread_hub::thread_hub::ThreadHub<(), Minute, Generator> =
-        sentry_thread_hub::thread_hub::ThreadHub::new((), Minute, SEED)?;
+    let mut thread: GenericThread<(), Minute, Generator> = GenericThread::new((), Minute, SEED)?;
     let mut ids = [Uuid::nil(); 9];
     for id in ids.iter_mut() {
         *id = thread.fresh().uuid;
@@ -131,28 +131,28 @@ fn draw_ids() -> Result<[Uuid; 9], AllocError> {
     Ok(ids)
 }
 
-// Each call but the first draws the id of what it sends: an event comes with an id of its own. What an active hub sends,
-// given the ids that are drawn.
-fn what_is_sent(alloc: Global, drawn: &[Uuid; 9]) -> Result<String, AllocError> {
+// What an active hub sends, given the ids that are drawn, as a text. The event comes with an id of its own, so that the
+// first one is drawn in vain.
+fn what_is_sent(alloc: Global, drawn: [Uuid; 9]) -> Result<String, AllocError> {
     let [_, boom, odd, within, later, exited, crashed, order, earlier] = drawn;
-    format!(in alloc;
-        "; event 1 Info at 1 a=1 after 2 after 3\
-        ; event {} Warning at 60 boom a=1 after 2 after 3\
-        ; event {} Error at 60 Odd a=1 after 2 after 3\
-        ; event {} Info at 60 within a=1 b=2 after 2 after 3\
-        ; event {} Info at 60 later a=1 after 2 after 3\
-        ; transaction {} since 60 until 60 a=1\
-        ; transaction {} since 2 until 60 a=1\
-        ; session {} Exited since 60 for 0+ session {} Crashed since 60 for 0",
-        boom.as_u128(),
-        odd.as_u128(),
-        within.as_u128(),
-        later.as_u128(),
-        order.as_u128(),
-        earlier.as_u128(),
-        exited.as_u128(),
-        crashed.as_u128()
-    )
+    let mut text = String::from_str(alloc, "; event 1 Info at 1 a=1 after 2 after 3")?;
+    for (before, id, after) in [
+        ("; event", boom, "Warning at 60 boom a=1 after 2 after 3"),
+        ("; event", odd, "Error at 60 Odd a=1 after 2 after 3"),
+        (
+            "; event",
+            within,
+            "Info at 60 within a=1 b=2 after 2 after 3",
+        ),
+        ("; event", later, "Info at 60 later a=1 after 2 after 3"),
+        ("; transaction", order, "since 60 until 60 a=1"),
+        ("; transaction", earlier, "since 2 until 60 a=1"),
+        ("; session", exited, "Exited since 60 for 0"),
+        ("+ session", crashed, "Crashed since 60 for 0"),
+    ] {
+        write!(text, "{before} {} {after}", id.as_u128())?;
+    }
+    Ok(text)
 }
 
 #[test]
@@ -163,7 +163,7 @@ fn functions_act_on_the_current_hub(rt: HostRuntime) -> Result<(), Fail> {
     let refused = Err(Refusal::OutOfMemory);
     assert_eq!(rt; ids, ([id(1), boom, odd], Some(odd), within, refused));
     assert_eq!(rt; findings, (true, (true, true), (true, true)));
-    assert_eq!(rt; sent.as_str(), what_is_sent(rt.alloc(), &drawn)?.as_str());
+    assert_eq!(rt; sent.as_str(), what_is_sent(rt.alloc(), drawn)?.as_str());
     Ok(())
 }
 

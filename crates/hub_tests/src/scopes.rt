@@ -15,7 +15,8 @@ fn send_within<R: Wait>(rt: &R, hub: &Hub) -> Result<Uuid, Refusal> {
     )?
 }
 
-// Sends messages under a scope of its own and after it. Answers whether the scope had no tags, before each of two is set.
+// Sends messages under a scope of its own and after it. Answers whether the hub's scope had no tags, before each of two
+// is set.
 fn send_both<R: Wait>(rt: &R, thread: &mut ThreadHub) -> Result<(bool, bool), Refusal> {
     let hub = &thread.current;
     let first = set_tag(rt, hub, "a", "1")?;

@@ -112,8 +112,8 @@ pub(crate) fn boxed_minute(alloc: Global) -> Result<BoxedClock, AllocError> {
 /// What a thread draws from.
 pub(crate) const SEED: [u8; 32] = [3; 32];
 
-/// What this answers when it is done on the hubs of a thread, and what is sent then, as a text. Main and current hub are
-/// the hub 0, whose client is flushed at the end.
+/// What this answers when it is done on the hubs of a thread, and what is sent then, as a text. The main and current hub
+/// is the hub 0, whose client is flushed at the end.
 pub(crate) fn play<R: Wait, A: Drop, F: FnOnce(&R, &mut ThreadHub) -> Result<A, Refusal> + Drop>(
     rt: &R,
     alloc: Global,
