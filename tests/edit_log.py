@@ -5,6 +5,7 @@ sum is of the edit and the sources of its crate, the second of the sources of al
 text if both are as now. Where only the second differs, the edit is to be tried again only if what the crate cites of
 those below has changed.
 """
+import fcntl
 import glob
 import hashlib
 import os
@@ -121,13 +122,19 @@ def read_log(top=TOP):
 
 def write_line(key, tried, top=TOP):
     """Writes an edit's line in place of its older one, and leaves out the lines of edits that no longer stand."""
-    log = read_log(top)[0] | {key: tried}
-    here = {key_of(it) for it in edits_to_try(top)}
-    lines = [" ".join(filter(None, (it, *log[it]))) for it in sorted(log) if it in here]
-    with tempfile.NamedTemporaryFile("w", encoding="utf-8", dir=f"{top}/tools", delete=False) as file:
-        file.write(HEAD + "".join(f"{it}\n" for it in lines))
-    os.chmod(file.name, 0o644)
-    os.replace(file.name, f"{top}/{LOG}")
+    folder = os.open(f"{top}/tools", os.O_RDONLY)
+    try:
+        # (another run may write too)
+        fcntl.flock(folder, fcntl.LOCK_EX)
+        log = read_log(top)[0] | {key: tried}
+        here = {key_of(it) for it in edits_to_try(top)}
+        lines = [" ".join(filter(None, (it, *log[it]))) for it in sorted(log) if it in here]
+        with tempfile.NamedTemporaryFile("w", encoding="utf-8", dir=f"{top}/tools", delete=False) as file:
+            file.write(HEAD + "".join(f"{it}\n" for it in lines))
+        os.chmod(file.name, 0o644)
+        os.replace(file.name, f"{top}/{LOG}")
+    finally:
+        os.close(folder)
 
 
 def ages(paths, top=TOP):

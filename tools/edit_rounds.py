@@ -9,6 +9,8 @@ import re
 from compile_edits import FUNCTION, Round
 from edit_files import pairs_of, read
 
+ERROR = re.compile(r"^(src/\S+\.rt):(\d+):\d+: error", re.M)
+UNPROVED = re.compile(r"^fn (\S+): (?!proved$)", re.M)
 NOT_PROVED = re.compile(r"^note: (src/\S+\.rt):(\d+):\d+: (it is not proved .*)$", re.M)
 
 
@@ -48,10 +50,36 @@ def rounds_of(edits, size):
     return [it.edits for it in rounds] + [[it] for it in alone]
 
 
+def edit_at(crate, tried, file, line):
+    """The edit of a round in whose function a line stands, or an attribute above that function."""
+    path = os.path.join(crate, file)
+    lines = (tried.texts.get(path) or "").splitlines(True)
+    if line <= len(lines) and lines[line - 1].lstrip(" ").startswith("#"):
+        head = FUNCTION.search("".join(lines), sum(map(len, lines[:line])))
+        line = "".join(lines).count("\n", 0, head.start()) + 1 if head else line
+    return tried.edit_at(path, line)
+
+
+def names_of(edit):
+    """The names of the functions that an edit changes."""
+    made = Round()
+    made.takes(edit)
+    return {re.search(r"fn (\w+)", head)[1] for _, (head, _) in made.of_function}
+
+
 def refused_of(crate, tried, said):
     """Of the edits of a round, by what a check said that did not prove the crate: those in whose function something is not
-    proved, with the first such thing. None are told if something isn't that stands in no edit's function."""
-    found = [(tried.edit_at(os.path.join(crate, file), int(line)), what, f"{file}:{line}") for file, line, what in NOT_PROVED.findall(said)]
-    if any(edit is None for edit, _, _ in found):
-        return {}
-    return {edit: f"{place}: {what}" for edit, what, place in reversed(found)}
+    proved, with the first such thing. None are told if there is another function that is not proved."""
+    refused = {}
+    for file, line, what in NOT_PROVED.findall(said):
+        refused.setdefault(edit_at(crate, tried, file, int(line)), f"{file}:{line}: {what}")
+    failed = {name.rpartition("::")[2] for name in UNPROVED.findall(said)}
+    names = [names_of(it) for it in refused if it]
+    is_plain = None not in refused and failed <= set().union(*names) and all(failed & it for it in names)
+    return refused if is_plain else {}
+
+
+def bad_of(crate, tried, said):
+    """The edits of a round in whose functions the errors stand of a check that did not come to a proof."""
+    found = {edit_at(crate, tried, file, int(line)) for file, line in ERROR.findall(said)}
+    return [it for it in tried.edits if it in found]
