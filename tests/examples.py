@@ -77,7 +77,7 @@ def stop_without_programs(found):
         sys.exit(1)
 
 
-def find(names):
+def listed(names):
     """The examples, by name; those with these names alone, if there are any."""
     endings = [f".{program}{kind}" for program in PROGRAMS for kind in ("", ".bad")]
     inputs = sorted(path for end in endings for path in glob.glob(os.path.join(FOLDER, "*" + end)))
@@ -90,6 +90,12 @@ def find(names):
     unknown = sorted(set(names) - {it.name.partition(".")[0] for it in found})
     if unknown:
         sys.exit(f"examples/: there is no example {', '.join(unknown)}")
+    return found
+
+
+def find(names):
+    """The same, where their programs are there."""
+    found = listed(names)
     stop_without_programs(found)
     return found
 

@@ -1,6 +1,6 @@
 //! Tests of what stands below or beside the engine, where no text given to a program can show it: clones and `==`,
-//! values that are read as a DSN, trace headers, contexts of transactions, drafts of logs and metrics, sessions and
-//! their queue, losses that threads count and drain, and a queue of envelopes.
+//! values that are read as a DSN, options, contexts of transactions, drafts of logs and metrics, a queue of sessions,
+//! losses that threads count and drain, and a queue of envelopes.
 #![tactic(auto)]
 
 #[cfg(test)]
@@ -13,6 +13,8 @@ mod logs;
 mod losses;
 #[cfg(test)]
 mod metrics;
+#[cfg(test)]
+mod options;
 #[cfg(test)]
 mod plain;
 #[cfg(test)]

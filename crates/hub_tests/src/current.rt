@@ -1,214 +1,47 @@
-//! The functions on the current hub of a thread, and scopes that closures configure.
-use crate::breadcrumbs::{breadcrumb, two_breadcrumbs};
-use crate::twins::Twins;
-use crate::workshop::{at, context, event, fresh, id, tag, thread_of};
-use sentry_core::protocol::{ErrorLink, Refusal, SessionStatus, Uuid};
+//! The functions on the current hub of a thread.
+use crate::breadcrumbs::two_breadcrumbs;
+use crate::workshop::{Minute, SEED, at, fresh, id, play};
+use sentry_core::protocol::{ErrorLink, Event, Refusal, SessionStatus, SpanId, TraceId, Uuid};
 use sentry_core::{
-    Client, Hub, Level, ThreadHub, Transaction, add_breadcrumb, capture_error, capture_event,
-    capture_message, configure_scope, end_session, end_session_with_status, last_event_id,
-    start_session, start_transaction, start_transaction_with_timestamp, with_scope,
+    Generator, Hub, Level, ThreadHub, Transaction, TransactionContext, add_breadcrumb,
+    capture_error, capture_event, capture_message, configure_scope, end_session,
+    end_session_with_status, last_event_id, start_session, start_transaction,
+    start_transaction_with_timestamp, with_scope,
 };
-use std::alloc::AllocError;
+use sentry_thread_hub::thread_hub::ThreadHub as GenericThread;
+use std::alloc::{AllocError, Global};
 use std::sync::Wait;
 use std::test::Fail;
 
-// Adds two breadcrumbs and sets a tag.
-fn prepare<R: Wait>(rt: &R, twins: &mut Twins, thread: &mut ThreadHub) -> Result<(), Refusal> {
-    let alloc = twins.alloc;
-    let hub = thread.current.key();
-    let found = add_breadcrumb(rt, thread, two_breadcrumbs(alloc)?);
-    let copy = two_breadcrumbs(alloc)?;
-    let expected = twins.engine.add_breadcrumbs(hub, copy);
-    twins.note(expected, found)?;
-    let found = configure_scope(rt, thread, |edits| edits.set_tag("a", "1"));
-    let edits = tag(alloc, "a", "1")?;
-    let expected = twins.engine.configure(hub, edits, at(60));
-    Ok(twins.note(expected, found)?)
-}
-
-// Captures an event and a message. `same` draws what the thread draws.
-fn capture<R: Wait>(
-    rt: &R,
-    twins: &mut Twins,
-    thread: &mut ThreadHub,
-    same: &mut ThreadHub,
-) -> Result<(), Refusal> {
-    let alloc = twins.alloc;
-    let hub = thread.current.key();
-    let found = capture_event(rt, thread, event(alloc, 1)?);
-    let copy = event(alloc, 1)?;
-    let expected = twins.engine.capture_event(hub, copy, same.fresh());
-    twins.note(expected, found)?;
-    let found = capture_message(rt, thread, "boom", Level::Error);
-    let expected = twins
-        .engine
-        .capture_message(hub, "boom", Level::Error, same.fresh());
-    Ok(twins.note(expected, found)?)
-}
-
-// Captures an error, and asks for its id.
-fn capture_failure<R: Wait>(
-    rt: &R,
-    twins: &mut Twins,
-    thread: &mut ThreadHub,
-    same: &mut ThreadHub,
-) -> Result<(), Refusal> {
-    let hub = thread.current.key();
-    let links = [ErrorLink::new(twins.alloc, "Odd", "it is odd")?];
-    let found = capture_error(rt, thread, links.as_slice());
-    let expected = twins
-        .engine
-        .capture_error(hub, links.as_slice(), same.fresh());
-    twins.note(expected, found)?;
-    let found = last_event_id(rt, thread);
-    let expected = twins.engine.last_event_id(hub);
-    Ok(twins.note(expected, found)?)
-}
-
-// Starts and ends two sessions.
-fn hold_sessions<R: Wait>(
-    rt: &R,
-    twins: &mut Twins,
-    thread: &mut ThreadHub,
-    same: &mut ThreadHub,
-) -> Result<(), Refusal> {
-    let hub = thread.current.key();
-    let found = start_session(rt, thread);
-    let expected = twins.engine.start_session(hub, same.fresh());
-    twins.note(expected, found)?;
-    let found = end_session(rt, thread);
-    let exited = SessionStatus::Exited;
-    let expected = twins.engine.end_session_with_status(hub, exited, at(60));
-    twins.note(expected, found)?;
-    let found = start_session(rt, thread);
-    let expected = twins.engine.start_session(hub, same.fresh());
-    twins.note(expected, found)?;
-    let crashed = SessionStatus::Crashed;
-    let found = end_session_with_status(rt, thread, crashed);
-    let expected = twins.engine.end_session_with_status(hub, crashed, at(60));
-    Ok(twins.note(expected, found)?)
-}
-
-// Finishes a transaction at the second 60 of the thread's clock.
-fn finish<R: Wait>(
-    rt: &R,
-    twins: &mut Twins,
-    thread: &mut ThreadHub,
-    transaction: &Transaction,
-) -> Result<(), Refusal> {
-    let hub = thread.current.key();
-    let found = transaction.finish(rt, thread);
-    let expected = twins
-        .engine
-        .finish_transaction(transaction.key(), hub, at(60));
-    Ok(twins.note(expected, found)?)
-}
-
-// A transaction that starts now.
-fn trace<R: Wait>(
-    rt: &R,
-    twins: &mut Twins,
-    thread: &mut ThreadHub,
-    same: &mut ThreadHub,
-) -> Result<(), Refusal> {
-    let hub = thread.current.key();
-    let found = start_transaction(rt, thread, context(twins.alloc, 1)?)?;
-    let copy = context(twins.alloc, 1)?;
-    let expected = twins.engine.start_transaction(hub, copy, same.fresh());
-    twins.note(expected, Ok(found.key()))?;
-    finish(rt, twins, thread, &found)
-}
-
-// A transaction that started at the second 2.
-fn trace_since<R: Wait>(
-    rt: &R,
-    twins: &mut Twins,
-    thread: &mut ThreadHub,
-    same: &mut ThreadHub,
-) -> Result<(), Refusal> {
-    let hub = thread.current.key();
-    let made = context(twins.alloc, 2)?;
-    let found = start_transaction_with_timestamp(rt, thread, made, at(2))?;
-    let copy = context(twins.alloc, 2)?;
-    let expected = twins
-        .engine
-        .start_transaction_with_timestamp(hub, copy, at(2), same.fresh());
-    twins.note(expected, Ok(found.key()))?;
-    finish(rt, twins, thread, &found)
-}
-
-// Calls the functions on the current hub, and flushes the client.
-fn act<R: Wait>(
-    rt: &R,
-    twins: &mut Twins,
-    thread: &mut ThreadHub,
-    client: &Client,
-) -> Result<(), Refusal> {
-    let mut same = thread_of(twins.alloc, &thread.current)?;
-    prepare(rt, twins, thread)?;
-    capture(rt, twins, thread, &mut same)?;
-    capture_failure(rt, twins, thread, &mut same)?;
-    hold_sessions(rt, twins, thread, &mut same)?;
-    trace(rt, twins, thread, &mut same)?;
-    trace_since(rt, twins, thread, &mut same)?;
-    twins.flush(rt, client)
-}
-
-#[test]
-fn functions_act_on_the_current_hub(rt: HostRuntime) -> Result<(), Fail> {
-    let mut twins = Twins::new(rt.alloc())?;
-    let (client, mut thread) = twins.new_thread(&rt)?;
-    act(&rt, &mut twins, &mut thread, &client)?;
-    let sent = twins.sent()?;
-    let expected =
-        "event a=1 after 2 after 3; event a=1 after 2 after 3; event a=1 after 2 after 3; \
-        transaction a=1 until 60; transaction a=1 until 60; session Exited + session Crashed";
-    assert_eq!(rt; sent.as_str(), expected);
-    Ok(())
-}
-
-// The hubs of a thread whose client sent a message and is closed.
-fn closed_thread<R: Wait>(rt: &R, twins: &mut Twins) -> Result<ThreadHub, Refusal> {
-    let (client, thread) = twins.new_thread(rt)?;
-    thread
-        .current
-        .capture_message(rt, "last", Level::Info, fresh(9))?;
-    client.close(rt, None)?;
-    Ok(thread)
-}
-
-// Whether an event, a message and an error that are captured on the current hub all have the nil id.
-fn captures_nothing<R: Wait>(rt: &R, thread: &mut ThreadHub) -> Result<bool, Refusal> {
-    let alloc = thread.current.core().allocator();
-    let first = capture_event(rt, thread, event(alloc, 1)?)?;
-    let second = capture_message(rt, thread, "boom", Level::Error)?;
-    let links = Vec::new(alloc);
-    let third = capture_error(rt, thread, links.as_slice())?;
-    Ok(first.is_nil() && second.is_nil() && third.is_nil())
-}
-
-// Adds a breadcrumb, starts and ends a session, and sets a tag by a closure that answers true: whether that isn't the
-// answer, and the scope has neither tags nor breadcrumbs.
-fn changes_nothing<R: Wait>(rt: &R, thread: &mut ThreadHub) -> Result<bool, Refusal> {
-    let alloc = thread.current.core().allocator();
-    add_breadcrumb(rt, thread, breadcrumb(alloc, 1)?)?;
-    start_session(rt, thread)?;
-    end_session(rt, thread)?;
-    let ran = configure_scope(rt, thread, |edits| {
+// Adds breadcrumbs, and sets a tag by a closure that answers true.
+fn prepare<R: Wait>(rt: &R, thread: &mut ThreadHub) -> Result<bool, Refusal> {
+    let breadcrumbs = two_breadcrumbs(thread.current.core().allocator())?;
+    add_breadcrumb(rt, thread, breadcrumbs)?;
+    configure_scope(rt, thread, |edits| {
         edits.set_tag("a", "1")?;
         Ok(true)
-    })?;
-    let scope = thread.current.scope(rt)?;
-    Ok(!ran && scope.tags.get().is_none() && scope.breadcrumbs.get().is_none())
+    })
 }
 
-// Whether neither of two transactions that start on the current hub is sampled.
-fn samples_nothing<R: Wait>(rt: &R, thread: &mut ThreadHub) -> Result<bool, Refusal> {
+// Whether the scope has tags and breadcrumbs, and whether it has some of these.
+fn ask_scope<R: Wait>(rt: &R, hub: &Hub) -> Result<(bool, bool), Refusal> {
+    let scope = hub.scope(rt)?;
+    let (has_tags, has_trail) = (
+        scope.tags.get().is_some(),
+        scope.breadcrumbs.get().is_some(),
+    );
+    Ok((has_tags && has_trail, has_tags || has_trail))
+}
+
+// Captures an event, a message and an error.
+fn capture<R: Wait>(rt: &R, thread: &mut ThreadHub) -> Result<[Uuid; 3], Refusal> {
     let alloc = thread.current.core().allocator();
-    let first = start_transaction(rt, thread, context(alloc, 1)?)?.is_sampled(rt)?;
-    let made = context(alloc, 2)?;
-    let second = start_transaction_with_timestamp(rt, thread, made, at(2))?.is_sampled(rt)?;
-    Ok(!first && !second)
+    let event = Event::new(alloc, id(1), at(1))?;
+    let first = capture_event(rt, thread, event)?;
+    let second = capture_message(rt, thread, "boom", Level::Warning)?;
+    let links = [ErrorLink::new(alloc, "Odd", "it is odd")?];
+    let third = capture_error(rt, thread, links.as_slice())?;
+    Ok([first, second, third])
 }
 
 // Sends a message under a scope with a tag more, whose closure may be out of memory.
@@ -226,70 +59,131 @@ fn send_within<R: Wait>(rt: &R, thread: &mut ThreadHub, has_memory: bool) -> Res
     )?
 }
 
+// Starts and ends two sessions.
+fn hold_sessions<R: Wait>(rt: &R, thread: &mut ThreadHub) -> Result<(), Refusal> {
+    start_session(rt, thread)?;
+    end_session(rt, thread)?;
+    start_session(rt, thread)?;
+    end_session_with_status(rt, thread, SessionStatus::Crashed)
+}
+
+// The context of a transaction.
+fn context(alloc: Global) -> Result<TransactionContext, AllocError> {
+    TransactionContext::new(alloc, "order", "http", TraceId([1; 16]), SpanId([2; 8]))
+}
+
+// Finishes a transaction. Answers whether it is sampled.
+fn finish<R: Wait>(
+    rt: &R,
+    thread: &mut ThreadHub,
+    transaction: &Transaction,
+) -> Result<bool, Refusal> {
+    transaction.finish(rt, thread)?;
+    transaction.is_sampled(rt)
+}
+
+// Finishes a transaction that starts now, and one since the second 2. Answers which are sampled.
+fn trace<R: Wait>(rt: &R, thread: &mut ThreadHub) -> Result<(bool, bool), Refusal> {
+    let alloc = thread.current.core().allocator();
+    let transaction = start_transaction(rt, thread, context(alloc)?)?;
+    let is_first = finish(rt, thread, &transaction)?;
+    let transaction = start_transaction_with_timestamp(rt, thread, context(alloc)?, at(2))?;
+    let is_second = finish(rt, thread, &transaction)?;
+    Ok((is_first, is_second))
+}
+
+// What the calls answer: the ids of an event, a message and an error, the id of the last event, that of a message under
+// a scope of its own, and that of one whose scope is out of memory.
+type Ids = ([Uuid; 3], Option<Uuid>, Uuid, Result<Uuid, Refusal>);
+
+// The calls that send events. After them stands the scope of before.
+fn send_events<R: Wait>(rt: &R, thread: &mut ThreadHub) -> Result<Ids, Refusal> {
+    let captured = capture(rt, thread)?;
+    let last = last_event_id(rt, thread)?;
+    let within = send_within(rt, thread, true)?;
+    let refused = send_within(rt, thread, false);
+    capture_message(rt, thread, "later", Level::Info)?;
+    Ok((captured, last, within, refused))
+}
+
+// What else the calls answer: that of the closure, what there is of tags and breadcrumbs, and which transactions are
+// sampled.
+type Findings = (bool, (bool, bool), (bool, bool));
+
+// Makes all calls. The hub is given back, which no layer hinders.
+fn act<R: Wait>(rt: &R, thread: &mut ThreadHub) -> Result<(Ids, Findings), Refusal> {
+    let ran = prepare(rt, thread)?;
+    let set = ask_scope(rt, &thread.current)?;
+    let ids = send_events(rt, thread)?;
+    hold_sessions(rt, thread)?;
+    let sampled = trace(rt, thread)?;
+    Hub::current(thread)?.release(rt, thread)?;
+    Ok((ids, (ran, set, sampled)))
+}
+
+// The first ids that a thread draws.
+fn draw_ids() -> Result<[Uuid; 9], AllocError> {
+    let mut thread: GenericThread<(), Minute, Generator> = GenericThread::new((), Minute, SEED)?;
+    let mut ids = [Uuid::nil(); 9];
+    for id in ids.iter_mut() {
+        *id = thread.fresh().uuid;
+    }
+    Ok(ids)
+}
+
+// What an active hub sends, given the ids that are drawn, as a text. The event comes with an id of its own, so that the
+// first one is drawn in vain.
+fn what_is_sent(alloc: Global, drawn: [Uuid; 9]) -> Result<String, AllocError> {
+    let [_, boom, odd, within, later, exited, crashed, order, earlier] = drawn;
+    let mut text = String::from_str(alloc, "; event 1 Info at 1 a=1 after 2 after 3")?;
+    for (before, id, after) in [
+        ("; event", boom, "Warning at 60 boom a=1 after 2 after 3"),
+        ("; event", odd, "Error at 60 Odd a=1 after 2 after 3"),
+        (
+            "; event",
+            within,
+            "Info at 60 within a=1 b=2 after 2 after 3",
+        ),
+        ("; event", later, "Info at 60 later a=1 after 2 after 3"),
+        ("; transaction", order, "since 60 until 60 a=1"),
+        ("; transaction", earlier, "since 2 until 60 a=1"),
+        ("; session", exited, "Exited since 60 for 0"),
+        ("+ session", crashed, "Crashed since 60 for 0"),
+    ] {
+        write!(text, "{before} {} {after}", id.as_u128())?;
+    }
+    Ok(text)
+}
+
+#[test]
+fn functions_act_on_the_current_hub(rt: HostRuntime) -> Result<(), Fail> {
+    let ((ids, findings), sent) = play(&rt, rt.alloc(), act)?;
+    let drawn = draw_ids()?;
+    let [_, boom, odd, within, ..] = drawn;
+    let refused = Err(Refusal::OutOfMemory);
+    assert_eq!(rt; ids, ([id(1), boom, odd], Some(odd), within, refused));
+    assert_eq!(rt; findings, (true, (true, true), (true, true)));
+    assert_eq!(rt; sent.as_str(), what_is_sent(rt.alloc(), drawn)?.as_str());
+    Ok(())
+}
+
+// Sends a message, closes the client, and makes all calls.
+fn act_closed<R: Wait>(rt: &R, thread: &mut ThreadHub) -> Result<(Ids, Findings), Refusal> {
+    let hub = &thread.current;
+    hub.capture_message(rt, "last", Level::Info, fresh(9))?;
+    if let Some(client) = hub.client(rt)? {
+        client.close(rt, None)?;
+    }
+    act(rt, thread)
+}
+
 #[test]
 fn functions_do_nothing_where_the_client_is_closed(rt: HostRuntime) -> Result<(), Fail> {
-    let mut twins = Twins::new(rt.alloc())?;
-    let mut thread = closed_thread(&rt, &mut twins)?;
-    let is_silent = captures_nothing(&rt, &mut thread)?;
-    let is_unchanged = changes_nothing(&rt, &mut thread)?;
-    let is_unsampled = samples_nothing(&rt, &mut thread)?;
-    assert!(rt; is_silent && is_unchanged && is_unsampled);
-    // the callback runs all the same, without a layer
-    let within = send_within(&rt, &mut thread, false)?;
-    let last = last_event_id(&rt, &thread)?;
-    assert_eq!(rt; (within, last), (Uuid::nil(), Some(id(9))));
-    let sent = twins.sent_by_core()?;
-    assert_eq!(rt; sent.as_str(), "event");
-    Ok(())
-}
-
-// Sends a message under a scope with a tag, fails to enter another scope, and sends a message after it. Gives the hub
-// back, which no layer hinders. Answers why the second scope was refused.
-fn leave_scopes<R: Wait>(rt: &R, thread: &mut ThreadHub) -> Result<Option<Refusal>, Refusal> {
-    send_within(rt, thread, true)?;
-    let refused = send_within(rt, thread, false);
-    capture_message(rt, thread, "after", Level::Info)?;
-    Hub::current(thread)?.release(rt, thread)?;
-    Ok(refused.err())
-}
-
-#[test]
-fn a_scope_of_its_own_is_left_again(rt: HostRuntime) -> Result<(), Fail> {
-    let mut twins = Twins::new(rt.alloc())?;
-    let (_client, mut thread) = twins.new_thread(&rt)?;
-    assert_eq!(rt; leave_scopes(&rt, &mut thread)?, Some(Refusal::OutOfMemory));
-    let sent = twins.sent_by_core()?;
-    assert_eq!(rt; sent.as_str(), "event b=2; event");
-    Ok(())
-}
-
-// Sets a tag by a closure, which answers whether the copy that it is lent has no user.
-fn configure_by_closure<R: Wait>(rt: &R, hub: &Hub) -> Result<bool, Refusal> {
-    hub.configure_scope(rt, at(1), |edits| {
-        edits.set_tag("a", "1")?;
-        Ok(edits.user().is_none())
-    })
-}
-
-// Sends a message by a closure, under a scope with a tag more.
-fn send_by_closure<R: Wait>(rt: &R, hub: &Hub) -> Result<Uuid, Refusal> {
-    hub.with_scope(
-        rt,
-        at(1),
-        |edits| edits.set_tag("b", "2"),
-        || hub.capture_message(rt, "within", Level::Info, fresh(1)),
-    )?
-}
-
-#[test]
-fn scopes_are_configured_by_closures(rt: HostRuntime) -> Result<(), Fail> {
-    let mut twins = Twins::new(rt.alloc())?;
-    let (_client, thread) = twins.new_thread(&rt)?;
-    let hub = &thread.current;
-    assert!(rt; configure_by_closure(&rt, hub)?);
-    send_by_closure(&rt, hub)?;
-    hub.capture_message(&rt, "after", Level::Info, fresh(2))?;
-    let sent = twins.sent_by_core()?;
-    assert_eq!(rt; sent.as_str(), "event a=1 b=2; event a=1");
+    let ((ids, findings), sent) = play(&rt, rt.alloc(), act_closed)?;
+    let nil = Uuid::nil();
+    // both callbacks of scopes run, without a layer
+    assert_eq!(rt; ids, ([nil; 3], Some(id(9)), nil, Ok(nil)));
+    assert_eq!(rt; findings, (false, (false, false), (false, false)));
+    assert_eq!(rt; sent.as_str(), "; event 9 Info at 9 last");
     Ok(())
 }

@@ -1,10 +1,7 @@
 //! Integrations that are lent to closures.
-use crate::workshop::{event, options, scope, thread_of};
+use crate::workshop::{id, play};
 use sentry_core::protocol::{Event, Refusal};
-use sentry_core::{
-    BoxedIntegration, BoxedTransport, Client, ClientOptions, Hub, Integration, NoOpTransport,
-    PlainOptions, SharedCore, ThreadHub, with_integration,
-};
+use sentry_core::{BoxedIntegration, Integration, PlainOptions, ThreadHub, with_integration};
 use std::alloc::{AllocError, Global};
 use std::sync::Wait;
 use std::test::Fail;
@@ -40,66 +37,47 @@ impl Integration for Adds {
     }
 }
 
-fn boxed_adds(alloc: Global, number: u64) -> Result<BoxedIntegration, AllocError> {
+/// An integration of the name `adds`, which adds so many nanoseconds.
+pub(crate) fn boxed_adds(alloc: Global, number: u64) -> Result<BoxedIntegration, AllocError> {
     let integration: BoxedIntegration = Box::new(alloc, Adds(number))?;
     Ok(integration)
 }
 
-// The options of a client with two integrations of one name.
-fn of_one_name(alloc: Global) -> Result<ClientOptions, Refusal> {
-    let first = boxed_adds(alloc, 5)?;
-    let second = boxed_adds(alloc, 7)?;
-    options(alloc)?
-        .add_integration(first)?
-        .add_integration(second)
-}
-
-// What an integration adds to the moment of an event, which is 0.
-fn add_by(integration: &BoxedIntegration, event: Event, plain: &PlainOptions) -> u64 {
-    match integration.process_event(event, plain) {
-        Ok(Some(event)) => event.timestamp,
-        _ => 0,
+// What an integration adds to the moment 0.
+fn add_by(integration: &BoxedIntegration, alloc: Global) -> Result<u64, AllocError> {
+    let event = Event::new(alloc, id(1), 0)?;
+    match integration.process_event(event, &PlainOptions::new(alloc))? {
+        Some(event) => Ok(event.timestamp),
+        None => Ok(0),
     }
 }
 
-// What the integration of a name adds that the hub lends; 0 without one.
-fn ask_hub<R: Wait>(rt: &R, hub: &Hub, plain: &PlainOptions, name: &str) -> Result<u64, Refusal> {
-    let event = event(hub.core().allocator(), 0)?;
-    hub.with_integration(rt, name, |integration| add_by(integration, event, plain))
-}
-
-// The same of the current hub of a thread.
-fn ask_thread<R: Wait>(
-    rt: &R,
-    thread: &ThreadHub,
-    plain: &PlainOptions,
-    name: &str,
-) -> Result<u64, Refusal> {
-    let event = event(thread.current.core().allocator(), 0)?;
-    with_integration(
+// What the integration of a name adds that the current hub lends, and the one that the function on it lends. Each is 0
+// where the closure doesn't run.
+fn add_by_name<R: Wait>(rt: &R, thread: &ThreadHub, name: &str) -> Result<(u64, u64), Refusal> {
+    let hub = &thread.current;
+    let alloc = hub.core().allocator();
+    let first = hub.with_integration(rt, name, |lent| add_by(lent, alloc).unwrap_or(0))?;
+    let second = with_integration(
         rt,
         thread,
         name,
-        |integration, _hub| add_by(integration, event, plain),
-    )
+        |lent, _hub| add_by(lent, alloc).unwrap_or(0),
+    )?;
+    Ok((first, second))
+}
+
+// Asks for a name that two integrations have, and for one that none has.
+fn ask<R: Wait>(rt: &R, thread: &mut ThreadHub) -> Result<[(u64, u64); 2], Refusal> {
+    Ok([
+        add_by_name(rt, thread, "adds")?,
+        add_by_name(rt, thread, "none")?,
+    ])
 }
 
 #[test]
 fn the_first_integration_of_a_name_is_lent(rt: HostRuntime) -> Result<(), Fail> {
-    let alloc: Global = rt.alloc();
-    let core = SharedCore::new(alloc, 1)?;
-    let setup = core.client_setup(&rt, of_one_name(alloc)?)?;
-    let transport: BoxedTransport = Box::new(alloc, NoOpTransport)?;
-    let client = Client::with_options(&rt, &core, setup, Some(transport), 0)?;
-    let hub = Hub::new(&rt, &core, Some(&client), scope(alloc))?;
-    let thread = thread_of(alloc, &hub)?;
-    let options = client.options(&rt)?;
-    let plain = &options.get().plain;
-    let found = ask_hub(&rt, &hub, plain, "adds")?;
-    let default = ask_hub(&rt, &hub, plain, "none")?;
-    assert_eq!(rt; (found, default), (5, 0));
-    let found = ask_thread(&rt, &thread, plain, "adds")?;
-    let default = ask_thread(&rt, &thread, plain, "none")?;
-    assert_eq!(rt; (found, default), (5, 0));
+    let (added, _sent) = play(&rt, rt.alloc(), ask)?;
+    assert_eq!(rt; added, [(5, 5), (0, 0)]);
     Ok(())
 }

@@ -1,59 +1,12 @@
 //! Hubs in threads, and a worker.
-use crate::workshop::{at, fresh, id, log, options, scope};
-use sentry_core::protocol::{EnvelopeItem, Refusal};
-use sentry_core::{
-    BoxedTransport, Client, Envelope, Hub, Items, Level, NoOpTransport, SendEnvelopes, SharedCore,
-    TickClock, Transport, Worker,
-};
+use crate::workshop::{LOOKS, Sink, add_client, add_hub, at, fresh, new_sink};
+use sentry_core::protocol::Refusal;
+use sentry_core::{Client, Envelope, Hub, Level, SharedCore, TickClock, Worker};
 use std::alloc::{AllocError, Global};
 use std::sync::atomic::{AtomicU64, Ordering};
-use std::sync::{Arc, Mutex, Wait};
+use std::sync::{Arc, Wait};
 use std::test::Fail;
 use std::thread::{Threads, map_vec, yield_now};
-
-/// How often a test looks at a word before it fails.
-const TURNS: u64 = 10_000_000;
-
-/// Keeps what it is to send, from any thread.
-#[derive(Drop)]
-struct Collector<R: Wait + Drop> {
-    rt: R,
-    kept: Mutex<SendEnvelopes>,
-}
-
-impl<R: Wait + Drop> Collector<R> {
-    fn new(rt: R, alloc: Global) -> Collector<R> {
-        Collector {
-            rt,
-            kept: Mutex::new(SendEnvelopes::new(Items::new(alloc))),
-        }
-    }
-
-    // The envelopes so far, which are then forgotten.
-    fn take(&self, alloc: Global) -> Vec<Envelope> {
-        let mut kept = self.kept.lock(&self.rt);
-        let envelopes = &mut kept.envelopes;
-        std::mem::replace(envelopes, Items::new(alloc)).into_vec()
-    }
-}
-
-impl<R: Wait + Drop> Transport for Collector<R> {
-    fn send_envelope(&self, envelope: Envelope) {
-        let mut kept = self.kept.lock(&self.rt);
-        let envelopes = &mut kept.envelopes;
-        drop(envelopes.push(envelope));
-    }
-}
-
-// A client that sends by this transport, from the first second on.
-fn client_with<R: Wait>(
-    rt: &R,
-    core: &SharedCore,
-    transport: BoxedTransport,
-) -> Result<Client, Refusal> {
-    let setup = core.client_setup(rt, options(core.allocator())?)?;
-    Client::with_options(rt, core, setup, Some(transport), at(1))
-}
 
 /// A hundred messages on a hub, with the ids of the numbers from the first on.
 #[derive(Drop)]
@@ -78,80 +31,54 @@ fn send_in_threads<R: Threads + Wait + Sync>(rt: &R, jobs: Vec<Job>) -> Result<(
     Ok(())
 }
 
-// The ids of the events in the envelopes, from the smallest on.
-fn ids(alloc: Global, envelopes: &[Envelope]) -> Result<Vec<u128>, AllocError> {
-    let mut ids = Vec::new(alloc);
-    for envelope in envelopes {
-        if let Some(id) = envelope.header.event_id {
-            ids.push(id.as_u128())?;
-        }
-    }
-    ids.sort()?;
-    Ok(ids)
+// The messages 1 to 100 on a hub, and the messages 101 to 200 on another.
+fn make_jobs(alloc: Global, hub: Hub, other: Hub) -> Result<Vec<Job>, AllocError> {
+    Ok(vec![in alloc;
+        Job { first: 1, hub },
+        Job {
+            first: 101,
+            hub: other
+        },
+    ]?)
 }
 
-// The ids of the numbers from 1 to 200.
-fn two_hundred_ids(alloc: Global) -> Result<Vec<u128>, AllocError> {
-    let mut ids = Vec::new(alloc);
-    for number in 1..201u64 {
-        ids.push(id(number).as_u128())?;
+// Sends these messages on a hub and on one from its top.
+fn send_two_hundred<R: Threads + Wait + Sync>(
+    rt: &R,
+    core: &SharedCore,
+    sink: &Sink,
+) -> Result<(), Refusal> {
+    let (_client, hub) = add_hub(rt, core, sink)?;
+    let other = Hub::new_from_top(rt, &hub)?;
+    send_in_threads(rt, make_jobs(core.allocator(), hub, other)?)
+}
+
+// Whether each id from 1 to 200 is that of an envelope.
+fn has_each_id(envelopes: &[Envelope]) -> bool {
+    let mut is_seen = [false; 256];
+    for envelope in envelopes {
+        if let Some(id) = envelope.header.event_id {
+            let number = u8::try_from(id.as_u128()).unwrap_or(0);
+            is_seen[usize::from(number)] = true;
+        }
     }
-    Ok(ids)
+    !is_seen[1..201].contains(&false)
 }
 
 #[test]
 fn two_threads_hand_over_each_message_once(rt: HostRuntime) -> Result<(), Fail> {
     let alloc: Global = rt.alloc();
-    let sink = Arc::new(alloc, Collector::new(rt, alloc))?;
-    let transport: BoxedTransport = Box::new(alloc, sink.clone()?)?;
-    let core = SharedCore::new(alloc, 1)?;
-    let client = client_with(&rt, &core, transport)?;
-    let first = Hub::new(&rt, &core, Some(&client), scope(alloc))?;
-    let second = Hub::new_from_top(&rt, &first)?;
-    let jobs = vec![in alloc;
-        Job {
-            first: 1,
-            hub: first,
-        },
-        Job {
-            first: 101,
-            hub: second,
-        },
-    ]?;
-    send_in_threads(&rt, jobs)?;
+    let sink = new_sink(alloc)?;
+    send_two_hundred(&rt, &SharedCore::new(alloc, 1)?, &sink)?;
     let envelopes = sink.take(alloc);
     assert_eq!(rt; envelopes.len(), 200);
-    assert!(rt; ids(alloc, envelopes.as_slice())? == two_hundred_ids(alloc)?);
+    assert!(rt; has_each_id(envelopes.as_slice()));
     Ok(())
-}
-
-/// Holds its only moment until a word is set, and then ends. A second word tells that it ended: 1, or 2 if the first
-/// one wasn't set in time.
-#[derive(Drop)]
-struct HeldTick {
-    go: Arc<AtomicU64>,
-    ended: Arc<AtomicU64>,
-    was_asked: bool,
-}
-
-impl TickClock for HeldTick {
-    fn next(&mut self) -> Option<u64> {
-        if self.was_asked {
-            self.ended.store(1, Ordering::SeqCst);
-            return None;
-        }
-        self.was_asked = true;
-        if wait_for(&self.go) == 0 {
-            self.ended.store(2, Ordering::SeqCst);
-            return None;
-        }
-        Some(at(6))
-    }
 }
 
 // Looks at a word until it is set, and lets other threads run in between. Answers the word; 0 at the limit.
 fn wait_for(word: &AtomicU64) -> u64 {
-    for _ in 0..TURNS {
+    for _ in 0..LOOKS {
         let found = word.load(Ordering::SeqCst);
         if found != 0 {
             return found;
@@ -159,48 +86,6 @@ fn wait_for(word: &AtomicU64) -> u64 {
         yield_now();
     }
     0
-}
-
-// The number of logs in the only envelope.
-fn logs_in(envelopes: &[Envelope]) -> Option<usize> {
-    match envelopes {
-        [envelope] => match envelope.items.as_slice() {
-            [EnvelopeItem::Logs(logs)] => Some(logs.len()),
-            _ => None,
-        },
-        _ => None,
-    }
-}
-
-// Queues a log of the client, by a hub of it.
-fn queue_log<R: Wait>(rt: &R, client: &Client) -> Result<(), Refusal> {
-    let alloc = client.core().allocator();
-    let hub = Hub::new(rt, client.core(), Some(client), scope(alloc))?;
-    hub.capture_log(rt, log(alloc, 2)?)
-}
-
-#[test]
-fn a_worker_ticks_beside_its_caller(rt: HostRuntime) -> Result<(), Fail> {
-    let alloc: Global = rt.alloc();
-    let sink = Arc::new(alloc, Collector::new(rt, alloc))?;
-    let transport: BoxedTransport = Box::new(alloc, sink.clone()?)?;
-    let client = client_with(&rt, &SharedCore::new(alloc, 1)?, transport)?;
-    queue_log(&rt, &client)?;
-    let go = Arc::new(alloc, AtomicU64::new(0))?;
-    let ended = Arc::new(alloc, AtomicU64::new(0))?;
-    let clock = HeldTick {
-        go: go.clone()?,
-        ended: ended.clone()?,
-        was_asked: false,
-    };
-    let worker = Worker::start(rt, client.clone()?, clock)?;
-    client.tick(&rt, at(2))?;
-    assert!(rt; sink.take(alloc).is_empty());
-    go.store(1, Ordering::SeqCst);
-    assert_eq!(rt; wait_for(&ended), 1);
-    assert_eq!(rt; logs_in(sink.take(alloc).as_slice()), Some(1));
-    worker.stop(&rt);
-    Ok(())
 }
 
 /// Tells three moments. When it is dropped, a word tells how many of them it told, and one more.
@@ -247,13 +132,24 @@ fn count_moments<R: Threads + Wait + Copy + Send + 'static>(
     Ok(told)
 }
 
+// The same of a client that is held, and then of it once it is dropped.
+fn count_twice<R: Threads + Wait + Copy + Send + 'static>(
+    rt: R,
+    core: &SharedCore,
+    sink: &Sink,
+) -> Result<(u64, u64), Refusal> {
+    let client = add_client(&rt, core, sink)?;
+    let held = count_moments(rt, client.clone()?)?;
+    client.drop_client(&rt)?;
+    let gone = count_moments(rt, client)?;
+    Ok((held, gone))
+}
+
 #[test]
 fn a_worker_ends_at_the_first_tick_of_a_client_that_is_gone(rt: HostRuntime) -> Result<(), Fail> {
     let alloc: Global = rt.alloc();
-    let transport: BoxedTransport = Box::new(alloc, NoOpTransport)?;
-    let client = client_with(&rt, &SharedCore::new(alloc, 1)?, transport)?;
-    assert_eq!(rt; count_moments(rt, client.clone()?)?, 3);
-    client.drop_client(&rt)?;
-    assert_eq!(rt; count_moments(rt, client)?, 1);
+    let sink = new_sink(alloc)?;
+    let moments = count_twice(rt, &SharedCore::new(alloc, 1)?, &sink)?;
+    assert_eq!(rt; moments, (3, 1));
     Ok(())
 }

@@ -1,27 +1,35 @@
-//! What the tests are made of: options, ids, events, edits, hubs of threads and a collecting transport.
-use sentry_core::protocol::{Draw, Event, Fresh, Log, LogLevel, Refusal, SpanId, TraceId, Uuid};
+//! What the tests are made of: a client with a collecting transport, the hubs of a thread, options, ids and moments.
+use crate::integrations::boxed_adds;
+use crate::sketch::sketch;
+use sentry_core::protocol::{Draw, Fresh, Refusal, SpanId, TraceId, Uuid};
 use sentry_core::{
-    BoxedClock, ClientOptions, Clock, Envelope, Hub, Items, Scope, ScopeEdit, SendEnvelopes, Text,
-    ThreadHub, TransactionContext, Transport,
+    BoxedClock, BoxedTransport, Client, ClientOptions, Clock, Envelope, Hub, Items, Scope,
+    SendEnvelopes, SharedCore, ThreadHub, Transport,
 };
 use std::alloc::{AllocError, Global};
-use std::sync::{Mutex, Wait};
+use std::sync::{Arc, Mutex, Wait};
+use std::thread::yield_now;
 
-/// Keeps what it is to send. Its lock is free whenever it is asked, since one thread makes the calls.
+/// How often a test looks at what another thread holds or sets before it fails.
+pub(crate) const LOOKS: u64 = 10_000_000;
+
+/// Keeps what it is to send, from any thread.
 #[derive(Drop)]
 pub(crate) struct Collector {
     kept: Mutex<SendEnvelopes>,
 }
 
-impl Collector {
-    /// Holds nothing.
-    pub(crate) fn new(alloc: Global) -> Collector {
-        Collector {
-            kept: Mutex::new(SendEnvelopes::new(Items::new(alloc))),
-        }
-    }
+/// A collector that tests share with clients.
+pub(crate) type Sink = Arc<Collector>;
 
-    /// The envelopes so far, which are then forgotten.
+/// A collector that holds nothing.
+pub(crate) fn new_sink(alloc: Global) -> Result<Sink, AllocError> {
+    let kept = Mutex::new(SendEnvelopes::new(Items::new(alloc)));
+    Ok(Arc::new(alloc, Collector { kept })?)
+}
+
+impl Collector {
+    /// The envelopes so far, which are then forgotten. No other thread sends any.
     pub(crate) fn take(&self, alloc: Global) -> Vec<Envelope> {
         match self.kept.try_lock() {
             Some(mut kept) => {
@@ -35,76 +43,59 @@ impl Collector {
 
 impl Transport for Collector {
     fn send_envelope(&self, envelope: Envelope) {
-        if let Some(mut kept) = self.kept.try_lock() {
-            let envelopes = &mut kept.envelopes;
-            drop(envelopes.push(envelope));
+        for _ in 0..LOOKS {
+            if let Some(mut kept) = self.kept.try_lock() {
+                let envelopes = &mut kept.envelopes;
+                drop(envelopes.push(envelope));
+                return;
+            }
+            yield_now();
         }
     }
 }
 
-/// A log of the second of a number.
-pub(crate) fn log(alloc: Global, number: u8) -> Result<Log, AllocError> {
-    Log::new(alloc, LogLevel::Info, "told", at(number))
+// Options with a DSN and a release, which sample all traces. Two integrations have the name `adds`.
+fn options(alloc: Global) -> Result<ClientOptions, Refusal> {
+    ClientOptions::from_dsn(alloc, "https://public@sentry.invalid/1")?
+        .release("app")?
+        .traces_sample_rate(1_000_000)?
+        .add_integration(boxed_adds(alloc, 5)?)?
+        .add_integration(boxed_adds(alloc, 7)?)
 }
 
-/// Options with a DSN and a release.
-pub(crate) fn options(alloc: Global) -> Result<ClientOptions, Refusal> {
-    ClientOptions::from_dsn(alloc, "https://public@sentry.invalid/1")?.release("app")
+// A share of the sink.
+fn boxed_share(alloc: Global, sink: &Sink) -> Result<BoxedTransport, AllocError> {
+    let transport: BoxedTransport = Box::new(alloc, sink.clone()?)?;
+    Ok(transport)
 }
 
-/// A scope that sets nothing.
-pub(crate) fn scope(alloc: Global) -> Scope {
-    Scope::new(alloc, TraceId([7; 16]), SpanId([8; 8]))
+/// A client that sends to the sink, from the first second on.
+pub(crate) fn add_client<R: Wait>(
+    rt: &R,
+    core: &SharedCore,
+    sink: &Sink,
+) -> Result<Client, Refusal> {
+    let alloc = core.allocator();
+    let setup = core.client_setup(rt, options(alloc)?)?;
+    let transport = boxed_share(alloc, sink)?;
+    Client::with_options(rt, core, setup, Some(transport), at(1))
 }
 
-/// The id of a number: different numbers give different ids.
-pub(crate) fn id(number: u64) -> Uuid {
-    Uuid::from_u128(u128::from(number))
-}
-
-/// What a call is handed at the second of this number: ids of that number.
-pub(crate) fn fresh(number: u8) -> Fresh {
-    Fresh {
-        now: at(number),
-        uuid: id(u64::from(number)),
-        trace_id: TraceId([number; 16]),
-        span_id: SpanId([number; 8]),
-        draw: Draw::new(0).unwrap(),
-    }
-}
-
-/// The moment of a second.
-pub(crate) fn at(second: u8) -> u64 {
-    u64::from(second) * 1_000_000_000
-}
-
-/// An event of its own, with the id of a number.
-pub(crate) fn event(alloc: Global, number: u8) -> Result<Event, AllocError> {
-    Event::new(alloc, id(u64::from(number)), at(number))
-}
-
-/// The context of a transaction, with the ids of a number.
-pub(crate) fn context(alloc: Global, number: u8) -> Result<TransactionContext, AllocError> {
-    let trace_id = TraceId([number; 16]);
-    TransactionContext::new(alloc, "order", "http", trace_id, SpanId([number; 8]))
-}
-
-/// The edit that sets a tag.
-pub(crate) fn tag(alloc: Global, key: &str, value: &str) -> Result<Vec<ScopeEdit>, AllocError> {
-    let key = Text::new(alloc, key)?;
-    let value = Text::new(alloc, value)?;
-    Ok(vec![in alloc; ScopeEdit::SetTag(key, value)]?)
-}
-
-/// Sets a tag on the scope of a hub.
-pub(crate) fn set_tag<R: Wait>(rt: &R, hub: &Hub, key: &str, value: &str) -> Result<(), Refusal> {
-    let edits = tag(hub.core().allocator(), key, value)?;
-    hub.configure(rt, edits, at(1))
+/// Such a client, and a hub with it, whose scope sets nothing.
+pub(crate) fn add_hub<R: Wait>(
+    rt: &R,
+    core: &SharedCore,
+    sink: &Sink,
+) -> Result<(Client, Hub), Refusal> {
+    let client = add_client(rt, core, sink)?;
+    let scope = Scope::new(core.allocator(), TraceId([7; 16]), SpanId([8; 8]));
+    let hub = Hub::new(rt, core, Some(&client), scope)?;
+    Ok((client, hub))
 }
 
 /// Stands at the second 60.
 #[derive(Drop)]
-struct Minute;
+pub(crate) struct Minute;
 
 impl Clock for Minute {
     fn now(&mut self) -> u64 {
@@ -112,8 +103,57 @@ impl Clock for Minute {
     }
 }
 
-/// A thread whose main and current hub is this one, and whose clock stands at the second 60.
-pub(crate) fn thread_of(alloc: Global, hub: &Hub) -> Result<ThreadHub, AllocError> {
+/// A clock that stands at the second 60.
+pub(crate) fn boxed_minute(alloc: Global) -> Result<BoxedClock, AllocError> {
     let clock: BoxedClock = Box::new(alloc, Minute)?;
-    ThreadHub::new(hub.clone()?, clock, [3; 32])
+    Ok(clock)
+}
+
+/// What a thread draws from.
+pub(crate) const SEED: [u8; 32] = [3; 32];
+
+/// What this answers when it is done on the hubs of a thread, and what is sent then, as a text. The main and current hub
+/// is the hub 0, whose client is flushed at the end.
+pub(crate) fn play<R: Wait, A: Drop, F: FnOnce(&R, &mut ThreadHub) -> Result<A, Refusal> + Drop>(
+    rt: &R,
+    alloc: Global,
+    act: F,
+) -> Result<(A, String), Refusal>
+    requires { F.IsAlwaysCallable act }
+{
+    let sink = new_sink(alloc)?;
+    let (client, hub) = add_hub(rt, &SharedCore::new(alloc, 5)?, &sink)?;
+    let mut thread = ThreadHub::new(hub, boxed_minute(alloc)?, SEED)?;
+    let answer = act(rt, &mut thread)?;
+    client.flush(rt, None)?;
+    Ok((answer, sketch(alloc, sink.take(alloc).as_slice())?))
+}
+
+/// Sets a tag by a closure, which answers whether the copy of the scope that it is lent has no tags.
+pub(crate) fn set_tag<R: Wait>(rt: &R, hub: &Hub, key: &str, value: &str) -> Result<bool, Refusal> {
+    hub.configure_scope(rt, at(1), |edits| {
+        edits.set_tag(key, value)?;
+        Ok(edits.scope().tags.get().is_none())
+    })
+}
+
+/// The id of a number: different numbers give different ids.
+pub(crate) fn id(number: u8) -> Uuid {
+    Uuid::from_u128(u128::from(number))
+}
+
+/// The moment of a second.
+pub(crate) fn at(second: u8) -> u64 {
+    u64::from(second) * 1_000_000_000
+}
+
+/// What a call is handed at the second of this number: ids of that number.
+pub(crate) fn fresh(number: u8) -> Fresh {
+    Fresh {
+        now: at(number),
+        uuid: id(number),
+        trace_id: TraceId([number; 16]),
+        span_id: SpanId([number; 8]),
+        draw: Draw::new(0).unwrap(),
+    }
 }

@@ -1,463 +1,276 @@
 //! Engines over callbacks in boxes, as users of the library hand them in.
-use crate::engines::{DSN, LABEL, add_client_and_hub, fresh, id, options, scope};
-use sentry_core::engine::{Engine, Out};
-use sentry_core::protocol::{Breadcrumb, ClientKey, EnvelopeItem, Event, HubKey, Refusal, Uuid};
-use sentry_core::types::Dsn;
-use sentry_core::{
-    BoxedBreadcrumbCallback, BoxedEventCallback, BoxedIntegration, BreadcrumbCallback,
-    ClientOptions, EventCallback, Integration, Level, PlainOptions, Scope,
+use crate::boxes::{
+    boxed_adds, boxed_gives, boxed_hides_units, boxed_keeps_until, boxed_multiplies,
 };
-use sentry_plain::Items;
+use sentry_core::engine::{Engine, Out};
+use sentry_core::metrics::{IntoProtocolMetric, gauge};
+use sentry_core::protocol::{
+    Breadcrumb, ClientKey, Draw, EnvelopeItem, Event, Fresh, HubKey, Label, Metric, Refusal,
+    SpanId, TraceId, TransactionOrSpanKey, Unit, Uuid,
+};
+use sentry_core::types::Dsn;
+use sentry_core::{BoxedIntegration, ClientOptions, Level, Scope, TransactionContext};
 use std::alloc::{AllocError, Global};
 use std::test::Fail;
 
-/// Adds to the event's moment. At 0 it is refused its memory, so that a call of it shows.
-#[derive(Drop)]
-struct Adds(u64);
+const DSN: &str = "https://public@sentry.invalid/1";
 
-impl EventCallback for Adds {
-    ghost use Rattle.std.specs.Prelude.{Some, ◌+◌, ◌%◌, ◌^◌};
+const LABEL: Label = Label { tag: 0, number: 0 };
 
-    ghost gives = { λ s event. Some (record event { timestamp = (event.timestamp + s.0) % 2 ^ 64 }) };
-
-    fn call(&self, mut event: Event) -> Result<Option<Event>, AllocError> {
-        if self.0 == 0 {
-            return Err(AllocError);
-        }
-        event.timestamp = event.timestamp.wrapping_add(self.0);
-        Ok(Some(event))
+/// What a call is handed.
+fn fresh() -> Fresh {
+    Fresh {
+        now: 1,
+        uuid: Uuid::from_bytes([9; 16]),
+        trace_id: TraceId([1; 16]),
+        span_id: SpanId([1; 8]),
+        draw: Draw::new(0).unwrap(),
     }
 }
 
-/// Drops the breadcrumbs from a moment on. If that is 0, it is refused its memory, so that a call of it shows.
-#[derive(Drop)]
-struct KeepsUntil(u64);
-
-impl BreadcrumbCallback for KeepsUntil {
-    ghost use Rattle.std.specs.Prelude.{Some, None, nat_lt, if◌then◌else◌};
-
-    ghost gives = { λ s breadcrumb. if nat_lt breadcrumb.timestamp s.0 then Some breadcrumb else None };
-
-    fn call(&self, breadcrumb: Breadcrumb) -> Result<Option<Breadcrumb>, AllocError> {
-        if self.0 == 0 {
-            return Err(AllocError);
-        }
-        if breadcrumb.timestamp < self.0 {
-            return Ok(Some(breadcrumb));
-        }
-        Ok(None)
-    }
+/// The number by which each callback adds or multiplies, or none where it drops every event.
+#[derive(Clone, Copy)]
+struct Plan {
+    processor: Option<u64>,
+    integrations: [Option<u64>; 2],
+    before_send: Option<u64>,
 }
 
-/// Drops every event.
-#[derive(Drop)]
-struct Drops;
+/// Each callback does its work.
+const COUNTS: Plan = Plan {
+    processor: Some(3),
+    integrations: [Some(3), Some(5)],
+    before_send: Some(100),
+};
 
-impl EventCallback for Drops {
-    ghost use Rattle.std.specs.Prelude.{None};
+/// Each callback is refused its memory.
+const STARVES: Plan = Plan {
+    processor: Some(0),
+    integrations: [Some(0), Some(0)],
+    before_send: Some(0),
+};
 
-    ghost gives = { λ _ event. None };
-
-    fn call(&self, _event: Event) -> Result<Option<Event>, AllocError> {
-        Ok(None)
-    }
+/// Options with the callbacks of a plan but the processor. The DSN is taken in the set-up.
+fn options_of(alloc: Global, plan: &Plan) -> Result<ClientOptions, Refusal> {
+    let [first, second] = plan.integrations;
+    let options = ClientOptions::from_dsn(alloc, DSN)?;
+    let options = options.before_send(boxed_adds(alloc, plan.before_send)?)?;
+    let options = options.add_integration(boxed_multiplies(alloc, first, None)?)?;
+    options.add_integration(boxed_multiplies(alloc, second, None)?)
 }
 
-/// Gives the options its DSN, or none, and multiplies the event's moment. By 0 it is refused its memory, but for the
-/// event of `add_client`, which alone has the nil id.
-#[derive(Drop)]
-struct Multiplies {
-    factor: u64,
-    dsn: Option<Dsn>,
-}
-
-impl Integration for Multiplies {
-    ghost use Rattle.std.specs.Prelude.{Some, ◌*◌, ◌%◌, ◌^◌, codes};
-
-    ghost meaning = { λ s. record {
-      name = codes "multiplies";
-      setup = λ options. record options { dsn = s.dsn };
-      process_event = λ _ event. Some (record event { timestamp = (event.timestamp * s.factor) % 2 ^ 64 });
-    } };
-
-    fn name(&self) -> &str {
-        "multiplies"
-    }
-
-    fn setup(&self, options: &mut PlainOptions) -> Result<(), AllocError> {
-        options.dsn = self.dsn.clone()?;
-        Ok(())
-    }
-
-    fn process_event(
-        &self,
-        mut event: Event,
-        _options: &PlainOptions,
-    ) -> Result<Option<Event>, AllocError> {
-        if self.factor == 0 && !event.event_id.is_nil() {
-            return Err(AllocError);
-        }
-        event.timestamp = event.timestamp.wrapping_mul(self.factor);
-        Ok(Some(event))
-    }
-}
-
-/// Drops every event.
-#[derive(Drop)]
-struct DropsAll;
-
-impl Integration for DropsAll {
-    ghost use Rattle.std.specs.Prelude.{None, codes};
-
-    ghost meaning = { λ _. record {
-      name = codes "drops all";
-      setup = λ options. options;
-      process_event = λ _ event. None;
-    } };
-
-    fn name(&self) -> &str {
-        "drops all"
-    }
-
-    fn setup(&self, _options: &mut PlainOptions) -> Result<(), AllocError> {
-        Ok(())
-    }
-
-    fn process_event(
-        &self,
-        _event: Event,
-        _options: &PlainOptions,
-    ) -> Result<Option<Event>, AllocError> {
-        Ok(None)
-    }
-}
-
-/// When the client is added whose integration `Starves` is. No event that a test captures is of this moment.
-const ADDED: u64 = 77;
-
-/// Is refused its memory for every event but that of `add_client`.
-#[derive(Drop)]
-struct Starves;
-
-impl Integration for Starves {
-    ghost use Rattle.std.specs.Prelude.{Some, codes};
-
-    ghost meaning = { λ _. record {
-      name = codes "starves";
-      setup = λ options. options;
-      process_event = λ _ event. Some event;
-    } };
-
-    fn name(&self) -> &str {
-        "starves"
-    }
-
-    fn setup(&self, _options: &mut PlainOptions) -> Result<(), AllocError> {
-        Ok(())
-    }
-
-    fn process_event(
-        &self,
-        event: Event,
-        _options: &PlainOptions,
-    ) -> Result<Option<Event>, AllocError> {
-        if event.timestamp != ADDED {
-            return Err(AllocError);
-        }
-        Ok(Some(event))
-    }
-}
-
-/// A callback that adds to the moment, or, at 0, is refused its memory.
-fn boxed_adds(alloc: Global, number: u64) -> Result<BoxedEventCallback, AllocError> {
-    let callback: BoxedEventCallback = Box::new(alloc, Adds(number))?;
-    Ok(callback)
-}
-
-/// A callback that drops every event.
-pub(crate) fn boxed_drops(alloc: Global) -> Result<BoxedEventCallback, AllocError> {
-    let callback: BoxedEventCallback = Box::new(alloc, Drops)?;
-    Ok(callback)
-}
-
-/// A callback that drops the breadcrumbs from a moment on, or, if that is 0, is refused its memory.
-fn boxed_keeps_until(alloc: Global, moment: u64) -> Result<BoxedBreadcrumbCallback, AllocError> {
-    let callback: BoxedBreadcrumbCallback = Box::new(alloc, KeepsUntil(moment))?;
-    Ok(callback)
-}
-
-/// An integration that gives the options this DSN, and multiplies the moment or, by 0, is refused its memory.
-fn boxed_multiplies(
-    alloc: Global,
-    factor: u64,
-    dsn: Option<Dsn>,
-) -> Result<BoxedIntegration, AllocError> {
-    let integration: BoxedIntegration = Box::new(alloc, Multiplies { factor, dsn })?;
-    Ok(integration)
-}
-
-/// An integration that drops every event.
-fn boxed_drops_all(alloc: Global) -> Result<BoxedIntegration, AllocError> {
-    let integration: BoxedIntegration = Box::new(alloc, DropsAll)?;
-    Ok(integration)
-}
-
-/// An integration that is refused its memory for every event that is captured.
-fn boxed_starves(alloc: Global) -> Result<BoxedIntegration, AllocError> {
-    let integration: BoxedIntegration = Box::new(alloc, Starves)?;
-    Ok(integration)
-}
-
-/// A scope after calls of its setters, of which the first adds a processor.
-fn scope_with(alloc: Global, processor: BoxedEventCallback) -> Result<Scope, Refusal> {
-    let mut scope = scope(alloc);
-    scope.add_event_processor(processor)?;
+/// A scope with the processor of a plan, a level and a tag.
+fn scope_of(alloc: Global, plan: &Plan) -> Result<Scope, Refusal> {
+    let mut scope = Scope::new(alloc, TraceId([7; 16]), SpanId([8; 8]));
+    scope.add_event_processor(boxed_adds(alloc, plan.processor)?)?;
     scope.set_level(Some(Level::Warning));
     scope.set_tag("a", "1")?;
-    scope.set_tag("b", "2")?;
-    scope.remove_tag("b")?;
     Ok(scope)
 }
 
-/// The moment and the level of the only event of the only envelope, if that is all, and how many tags it has.
-fn sent_event(out: &Out<Uuid>) -> Option<(u64, Level, usize)> {
-    match out.sent.as_slice() {
+/// What an event at moment 1 comes to: the id answered; the moment and the level of the only event of the only envelope,
+/// if that is all, and how many tags it has; and the hub's last event id, if it is captured on a hub.
+type Outcome = (Uuid, Option<(u64, Level, usize)>, Option<Uuid>);
+
+fn outcome(out: &Out<Uuid>, last: Option<Uuid>) -> Outcome {
+    let sent = match out.sent.as_slice() {
         [(_, envelope)] => match envelope.items.as_slice() {
             [EnvelopeItem::Event(event)] => Some((event.timestamp, event.level, event.tags.len())),
             _ => None,
         },
         _ => None,
-    }
+    };
+    (out.reply, sent, last)
 }
 
-/// What an event at moment 1 comes to: the id answered, what goes out, and the hub's last event id.
-type Outcome = (Uuid, Option<(u64, Level, usize)>, Option<Uuid>);
-
-/// The same of an event without an id, captured on this hub.
+/// Of an event without an id that is captured on a hub.
 fn capture_on(alloc: Global, engine: &mut Engine, hub: HubKey) -> Result<Outcome, Refusal> {
     let event = Event::new(alloc, Uuid::nil(), 1)?;
-    let out = engine.capture_event(hub, event, fresh(1))?;
-    let sent = sent_event(&out);
-    Ok((out.reply, sent, engine.last_event_id(hub)?.reply))
+    let out = engine.capture_event(hub, event, fresh())?;
+    Ok(outcome(&out, engine.last_event_id(hub)?.reply))
 }
 
-/// The same on a hub with this scope of a client with these options.
-fn capture_once(
-    alloc: Global,
-    options: ClientOptions,
-    transport: bool,
-    scope: Scope,
-) -> Result<Outcome, Refusal> {
+/// The same on a hub of a client with the callbacks of a plan.
+fn capture(alloc: Global, transport: bool, plan: &Plan) -> Result<Outcome, Refusal> {
     let mut engine = Engine::new(alloc, 0);
-    let hub = add_client_and_hub(&mut engine, options, transport, scope)?;
-    capture_on(alloc, &mut engine, hub)
+    let client = engine.add_client(options_of(alloc, plan)?, transport, LABEL, 0)?;
+    let hub = engine.new_hub(Some(client.reply), scope_of(alloc, plan)?)?;
+    capture_on(alloc, &mut engine, hub.reply)
 }
 
-/// Options whose callbacks multiply by 3, multiply by 5, and add 100. The DSN is taken in the set-up.
-fn counting_options(alloc: Global) -> Result<ClientOptions, Refusal> {
-    options(alloc)?
-        .before_send(boxed_adds(alloc, 100)?)?
-        .add_integration(boxed_multiplies(alloc, 3, None)?)?
-        .add_integration(boxed_multiplies(alloc, 5, None)?)
+/// The same by the client itself under the scope, and not on a hub.
+fn capture_by_client(alloc: Global, plan: &Plan) -> Result<Outcome, Refusal> {
+    let mut engine = Engine::new(alloc, 0);
+    let client = engine.add_client(options_of(alloc, plan)?, true, LABEL, 0)?;
+    let scope = scope_of(alloc, plan)?;
+    let event = Event::new(alloc, Uuid::nil(), 1)?;
+    let out = engine.client_capture_event(client.reply, event, Some(&scope), fresh())?;
+    Ok(outcome(&out, None))
 }
 
-/// Options whose callbacks are refused their memory.
-fn starving_options(alloc: Global) -> Result<ClientOptions, Refusal> {
-    options(alloc)?
-        .before_send(boxed_adds(alloc, 0)?)?
-        .add_integration(boxed_multiplies(alloc, 0, None)?)
-}
-
-/// The same where all callbacks do their work, the processor of the scope among them.
-fn capture_counting(alloc: Global) -> Result<Outcome, Refusal> {
-    let scope = scope_with(alloc, boxed_adds(alloc, 3)?)?;
-    capture_once(alloc, counting_options(alloc)?, true, scope)
-}
-
-/// The same where the callbacks of the options are refused their memory, under a processor that adds this number to the
-/// moment or, without one, drops the event.
-fn capture_starving(alloc: Global, transport: bool, adds: Option<u64>) -> Result<Outcome, Refusal> {
-    let processor = match adds {
-        Some(number) => boxed_adds(alloc, number)?,
-        None => boxed_drops(alloc)?,
-    };
-    let scope = scope_with(alloc, processor)?;
-    capture_once(alloc, starving_options(alloc)?, transport, scope)
-}
-
-/// Of an event that was dropped.
-fn dropped() -> Outcome {
-    (Uuid::nil(), None, Some(Uuid::nil()))
+/// The same on a hub without a client.
+fn capture_without_client(alloc: Global) -> Result<Outcome, Refusal> {
+    let mut engine = Engine::new(alloc, 0);
+    let hub = engine.new_hub(None, scope_of(alloc, &COUNTS)?)?;
+    capture_on(alloc, &mut engine, hub.reply)
 }
 
 #[test]
 fn boxed_callbacks_run_in_order(rt: HostRuntime) -> Result<(), Fail> {
     let alloc = rt.alloc();
     // the processor, the integrations, the callback: (1 + 3) * 3 * 5 + 100
-    let counted = (id(1), Some((160, Level::Warning, 1)), Some(id(1)));
-    assert_eq!(rt; capture_counting(alloc)?, counted);
-    // What drops an event stops what follows.
-    assert_eq!(rt; capture_starving(alloc, true, None)?, dropped());
-    let refusal = capture_starving(alloc, true, Some(3)).err();
-    assert_eq!(rt; refusal, Some(Refusal::OutOfMemory));
-    // Without a transport nothing runs.
-    assert_eq!(rt; capture_starving(alloc, false, Some(0))?, dropped());
+    let (id, sent) = (fresh().uuid, Some((160, Level::Warning, 1)));
+    assert!(rt; capture(alloc, true, &COUNTS) == Ok((id, sent, Some(id))));
+    assert!(rt; capture_by_client(alloc, &COUNTS) == Ok((id, sent, None)));
+    assert!(rt; capture_without_client(alloc) == Ok((Uuid::nil(), None, None)));
     Ok(())
 }
 
 #[test]
-fn a_hub_without_a_client_answers_the_nil_id(rt: HostRuntime) -> Result<(), Fail> {
+fn nothing_runs_after_a_callback_that_drops(rt: HostRuntime) -> Result<(), Fail> {
     let alloc = rt.alloc();
-    let mut engine = Engine::new(alloc, 0);
-    let hub = engine.new_hub(None, scope(alloc))?.reply;
-    let outcome = capture_on(alloc, &mut engine, hub)?;
-    assert_eq!(rt; outcome, (Uuid::nil(), None, None));
+    let dropped = Ok((Uuid::nil(), None, Some(Uuid::nil())));
+    let starved = Err(Refusal::OutOfMemory);
+    // each callback in turn drops the event, after those before it did their work
+    let mut plan = Plan {
+        processor: None,
+        ..STARVES
+    };
+    assert!(rt; capture(alloc, true, &plan) == dropped);
+    plan.processor = Some(3);
+    assert!(rt; capture(alloc, true, &plan) == starved);
+    plan.integrations = [None, Some(0)];
+    assert!(rt; capture(alloc, true, &plan) == dropped);
+    plan.integrations = [Some(3), Some(0)];
+    assert!(rt; capture(alloc, true, &plan) == starved);
+    plan.integrations = [Some(3), None];
+    assert!(rt; capture(alloc, true, &plan) == dropped);
+    // without a transport nothing runs
+    assert!(rt; capture(alloc, false, &STARVES) == dropped);
     Ok(())
 }
 
-/// What an event at moment 1 comes to on a hub of a client with these integrations, which a `before_send` follows that
-/// is refused its memory for every event, so that a call of it shows.
-fn capture_behind(
-    alloc: Global,
-    first: BoxedIntegration,
-    second: BoxedIntegration,
-) -> Result<Outcome, Refusal> {
-    let options = options(alloc)?
-        .before_send(boxed_adds(alloc, 0)?)?
-        .add_integration(first)?
-        .add_integration(second)?;
-    let mut engine = Engine::new(alloc, 0);
-    let client = engine.add_client(options, true, LABEL, ADDED)?.reply;
-    let hub = engine.new_hub(Some(client), scope(alloc))?.reply;
-    capture_on(alloc, &mut engine, hub)
+/// Options with a callback that keeps breadcrumbs until a moment, one that hides units of metrics, and a sampler of this
+/// rate.
+fn other_options(alloc: Global, until: u64, rate: u32) -> Result<ClientOptions, Refusal> {
+    let options = ClientOptions::from_dsn(alloc, DSN)?;
+    let options = options.before_breadcrumb(boxed_keeps_until(alloc, until)?)?;
+    let options = options.before_send_metric(boxed_hides_units(alloc)?)?;
+    options.traces_sampler(boxed_gives(alloc, rate)?)
 }
 
-#[test]
-fn nothing_runs_after_an_integration_that_drops(rt: HostRuntime) -> Result<(), Fail> {
-    let alloc = rt.alloc();
-    // the second one is refused its memory for every event too
-    let outcome = capture_behind(alloc, boxed_drops_all(alloc)?, boxed_starves(alloc)?)?;
-    assert_eq!(rt; outcome, dropped());
-    let refusal = capture_behind(
-        alloc,
-        boxed_multiplies(alloc, 1, None)?,
-        boxed_starves(alloc)?,
-    )
-    .err();
-    assert_eq!(rt; refusal, Some(Refusal::OutOfMemory));
-    Ok(())
-}
-
-/// What a client with the callbacks above answers and sends of an event at moment 1 that it captures under a scope.
-fn client_capture(
+/// Why breadcrumbs of the moments below a count are refused, if they are, and how many the hub's scope has after that.
+fn add_breadcrumbs(
     alloc: Global,
     engine: &mut Engine,
-) -> Result<(Uuid, Option<(u64, Level, usize)>), Refusal> {
-    let client = engine.add_client(counting_options(alloc)?, true, LABEL, 0)?;
-    let scope = scope_with(alloc, boxed_adds(alloc, 3)?)?;
-    let event = Event::new(alloc, Uuid::nil(), 1)?;
-    let out = engine.client_capture_event(client.reply, event, Some(&scope), fresh(1))?;
-    Ok((out.reply, sent_event(&out)))
-}
-
-#[test]
-fn clients_capture_under_a_scope(rt: HostRuntime) -> Result<(), Fail> {
-    let mut engine = Engine::new(rt.alloc(), 0);
-    let captured = client_capture(rt.alloc(), &mut engine)?;
-    assert_eq!(rt; captured, (id(1), Some((160, Level::Warning, 1))));
-    Ok(())
-}
-
-/// Breadcrumbs of the moments below a count.
-fn breadcrumbs_below(alloc: Global, count: u64) -> Result<Vec<Breadcrumb>, AllocError> {
-    let mut breadcrumbs = Items::new(alloc);
-    for moment in 0..count {
-        breadcrumbs.push(Breadcrumb::new(alloc, moment)?)?;
-    }
-    Ok(breadcrumbs.into_vec())
-}
-
-/// Why breadcrumbs of the moments below a count are refused, if they are, on a hub of a client whose callback keeps
-/// those until a moment, and how many the scope has after that.
-fn breadcrumbs_kept(
-    alloc: Global,
-    until: u64,
+    hub: HubKey,
     count: u64,
 ) -> Result<(Option<Refusal>, usize), Refusal> {
-    let options = options(alloc)?.before_breadcrumb(boxed_keeps_until(alloc, until)?)?;
-    let mut engine = Engine::new(alloc, 0);
-    let hub = add_client_and_hub(&mut engine, options, true, scope(alloc))?;
-    let breadcrumbs = breadcrumbs_below(alloc, count)?;
-    let refusal = engine.add_breadcrumbs(hub, breadcrumbs).err();
+    let refusal = engine
+        .add_breadcrumbs(hub, breadcrumbs_below(alloc, count)?)
+        .err();
     let scope = engine.scope(hub)?.reply;
     let kept = scope.breadcrumbs.get().map_or(0, |trail| trail.len());
     Ok((refusal, kept))
 }
 
+fn breadcrumbs_below(alloc: Global, count: u64) -> Result<Vec<Breadcrumb>, AllocError> {
+    let mut breadcrumbs = Vec::new(alloc);
+    for moment in 0..count {
+        breadcrumbs.push(Breadcrumb::new(alloc, moment)?)?;
+    }
+    Ok(breadcrumbs)
+}
+
+fn first_metric(out: &Out<()>) -> Option<&Metric> {
+    let (_, envelope) = out.sent.as_slice().first()?;
+    match envelope.items.as_slice().first()? {
+        EnvelopeItem::Metrics(metrics) => metrics.as_slice().first(),
+        _ => None,
+    }
+}
+
+/// Whether a metric with a unit still has it when it is sent; `None` if none is sent.
+fn has_unit(
+    alloc: Global,
+    engine: &mut Engine,
+    client: ClientKey,
+    hub: HubKey,
+) -> Result<Option<bool>, Refusal> {
+    let metric = gauge(alloc, "room", 1)?.unit(Unit::Byte).into_draft();
+    engine.capture_metric(hub, metric, 0)?;
+    let out = engine.flush(client)?;
+    Ok(first_metric(&out).map(|metric| metric.unit.is_some()))
+}
+
+/// Whether a transaction is sampled.
+fn is_sampled(alloc: Global, engine: &mut Engine, hub: HubKey) -> Result<bool, Refusal> {
+    let ids = fresh();
+    let context = TransactionContext::new(alloc, "sell", "till", ids.trace_id, ids.span_id)?;
+    let sale = engine.start_transaction(hub, context, ids)?.reply;
+    let name = TransactionOrSpanKey::Transaction(sale);
+    Ok(engine.is_sampled(name)?.reply)
+}
+
+/// What the other callbacks come to: what no breadcrumbs come to, and what three do; whether a metric has its unit; and
+/// whether a transaction is sampled.
+type OtherOutcome = ([(Option<Refusal>, usize); 2], Option<bool>, bool);
+
+fn call_others(alloc: Global, until: u64, rate: u32) -> Result<OtherOutcome, Refusal> {
+    let mut engine = Engine::new(alloc, 0);
+    let options = other_options(alloc, until, rate)?;
+    let client = engine.add_client(options, true, LABEL, 0)?.reply;
+    let scope = Scope::new(alloc, TraceId([7; 16]), SpanId([8; 8]));
+    let hub = engine.new_hub(Some(client), scope)?.reply;
+    let none = add_breadcrumbs(alloc, &mut engine, hub, 0)?;
+    let three = add_breadcrumbs(alloc, &mut engine, hub, 3)?;
+    let has_unit = has_unit(alloc, &mut engine, client, hub)?;
+    Ok((
+        [none, three],
+        has_unit,
+        is_sampled(alloc, &mut engine, hub)?,
+    ))
+}
+
 #[test]
-fn breadcrumbs_go_through_a_boxed_callback(rt: HostRuntime) -> Result<(), Fail> {
+fn other_boxed_callbacks_are_called(rt: HostRuntime) -> Result<(), Fail> {
     let alloc = rt.alloc();
-    assert_eq!(rt; breadcrumbs_kept(alloc, 2, 3)?, (None, 2));
-    assert_eq!(rt;
-        breadcrumbs_kept(alloc, 0, 3)?,
-        (Some(Refusal::OutOfMemory), 0)
-    );
-    // An empty list calls no callback.
-    assert_eq!(rt; breadcrumbs_kept(alloc, 0, 0)?, (None, 0));
+    let kept = [(None, 0), (None, 2)];
+    assert!(rt; call_others(alloc, 2, 1_000_000) == Ok((kept, Some(false), true)));
+    // an empty list calls no callback
+    let starved = [(None, 0), (Some(Refusal::OutOfMemory), 0)];
+    assert!(rt; call_others(alloc, 0, 0) == Ok((starved, Some(false), false)));
     Ok(())
 }
 
-/// Whether a client is enabled and has a DSN, and how many integrations it has.
-fn facts_of(engine: &Engine, client: ClientKey) -> Result<(bool, bool, usize), Refusal> {
+/// Whether a client with these options and a transport is enabled and has a DSN, and how many integrations it has.
+fn facts(alloc: Global, options: ClientOptions) -> Result<(bool, bool, usize), Refusal> {
+    let mut engine = Engine::new(alloc, 0);
+    let client = engine.add_client(options, true, LABEL, 0)?.reply;
     let is_enabled = engine.is_enabled(client)?.reply;
     let has_dsn = engine.dsn(client)?.reply.is_some();
     let options = engine.options(client)?.reply;
     Ok((is_enabled, has_dsn, options.callbacks.integrations.len()))
 }
 
-/// The same of a client with these options and a transport.
-fn facts_of_client(alloc: Global, options: ClientOptions) -> Result<(bool, bool, usize), Refusal> {
-    let mut engine = Engine::new(alloc, 0);
-    let client = engine.add_client(options, true, LABEL, 0)?.reply;
-    facts_of(&engine, client)
-}
-
-/// Options without a DSN, to which an integration gives one.
-fn directed_options(alloc: Global) -> Result<ClientOptions, Refusal> {
+/// An integration that gives a DSN.
+fn giving(alloc: Global) -> Result<BoxedIntegration, Refusal> {
     let dsn = Dsn::parse(alloc, DSN)?;
-    ClientOptions::new(alloc).add_integration(boxed_multiplies(alloc, 2, Some(dsn))?)
-}
-
-/// A list of integrations, which gives a DSN.
-fn giving_integrations(alloc: Global) -> Result<Vec<BoxedIntegration>, Refusal> {
-    let dsn = Dsn::parse(alloc, DSN)?;
-    let mut giving = Items::new(alloc);
-    giving.push(boxed_multiplies(alloc, 2, Some(dsn))?)?;
-    Ok(giving.into_vec())
-}
-
-/// The facts of a client whose options are a copy.
-fn facts_of_copy(alloc: Global) -> Result<(bool, bool, usize), Refusal> {
-    facts_of_client(alloc, counting_options(alloc)?.clone()?)
-}
-
-/// The facts of a client whose list of integrations was replaced.
-fn facts_after_replacing(alloc: Global) -> Result<(bool, bool, usize), Refusal> {
-    let giving = giving_integrations(alloc)?;
-    facts_of_client(alloc, counting_options(alloc)?.integrations(giving)?)
+    Ok(boxed_multiplies(alloc, Some(2), Some(dsn))?)
 }
 
 #[test]
 fn set_up_changes_the_options(rt: HostRuntime) -> Result<(), Fail> {
     let alloc = rt.alloc();
-    // A DSN that is taken disables the client. That its slot stays occupied shows where callbacks run in order.
-    assert_eq!(rt; facts_of_copy(alloc)?, (false, false, 2));
-    // A list of integrations replaces those before.
-    assert_eq!(rt; facts_after_replacing(alloc)?, (true, true, 1));
-    // A DSN that is given opens no slot.
-    let facts = facts_of_client(alloc, directed_options(alloc)?)?;
-    assert_eq!(rt; facts, (false, true, 1));
-    let outcome = capture_once(alloc, directed_options(alloc)?, true, scope(alloc))?;
-    assert_eq!(rt; outcome, dropped());
+    // a DSN that is taken disables the client; where callbacks run in order, its slot stays occupied
+    let copy = options_of(alloc, &COUNTS)?.clone()?;
+    assert!(rt; facts(alloc, copy) == Ok((false, false, 2)));
+    // a list of integrations replaces those before
+    let list = vec![in alloc; giving(alloc)?]?;
+    let replaced = options_of(alloc, &COUNTS)?.integrations(list)?;
+    assert!(rt; facts(alloc, replaced) == Ok((true, true, 1)));
+    // a DSN that is given opens no slot
+    let given = ClientOptions::new(alloc).add_integration(giving(alloc)?)?;
+    assert!(rt; facts(alloc, given) == Ok((false, true, 1)));
     Ok(())
 }

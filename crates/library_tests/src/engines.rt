@@ -1,281 +1,234 @@
-//! Calls whose keys, labels or lists no command can name, and what a refused call hands back.
-use sentry_core::client_report::{Drained, LossWords, TransportLossReason};
-use sentry_core::engine::{Call, ClientCall, Engine, HubCall, Out, Reply};
+//! Texts that are played on engines which no program makes: with another tag than the keys that the text names, with
+//! few numbers left, or with something that they hold before the first line.
+use scenario_run::callbacks::{Callbacks, Handler};
+use scenario_run::{TAG, run_scenario_by};
+use sentry_core::TransactionContext;
 use sentry_core::protocol::{
-    ClientKey, Draw, Event, Fresh, HubKey, Label, Refusal, SpanId, TraceId, Uuid,
+    Draw, Fresh, Label, Refusal, SpanId, TraceId, TransactionOrSpanKey, Uuid,
 };
-use sentry_core::{ClientOptions, Scope, ScopeGuard};
-use sentry_plain::{Boxed, Items};
-use std::alloc::{AllocError, Global};
+use sentry_options::clientoptions::ClientOptions;
+use std::alloc::Global;
 use std::test::Fail;
 
-/// Where the clients of the tests send to.
-pub const DSN: &str = "https://public@sentry.invalid/1";
+pub(crate) type Engine = sentry_engine::engine::Engine<Handler, Callbacks>;
 
-/// Under which the losses of the clients of the tests are counted.
-pub const LABEL: Label = Label { tag: 0, number: 0 };
+pub(crate) type Scope = sentry_scope::scope::Scope<Handler>;
+
+/// A tag that no key of a text has.
+const OTHER_TAG: u64 = 4;
 
 /// A scope that sets nothing.
 pub(crate) fn scope(alloc: Global) -> Scope {
     Scope::new(alloc, TraceId([7; 16]), SpanId([8; 8]))
 }
 
-/// The id of which every byte is this one.
-pub(crate) fn id(byte: u8) -> Uuid {
-    Uuid::from_bytes([byte; 16])
-}
-
-/// What a call is handed at a moment: ids of that number.
-pub(crate) fn fresh(number: u8) -> Fresh {
+/// What a call is handed.
+pub(crate) fn fresh() -> Fresh {
     Fresh {
-        now: number as u64,
-        uuid: id(number),
-        trace_id: TraceId([number; 16]),
-        span_id: SpanId([number; 8]),
+        now: 1,
+        uuid: Uuid::from_bytes([9; 16]),
+        trace_id: TraceId([1; 16]),
+        span_id: SpanId([2; 8]),
         draw: Draw::new(0).unwrap(),
     }
 }
 
-pub(crate) fn options(alloc: Global) -> Result<ClientOptions, Refusal> {
-    ClientOptions::from_dsn(alloc, DSN)
+/// An engine that holds a client, a hub of it, a transaction, and a span of that, each under the number 0.
+pub(crate) fn engine_with_a_span(alloc: Global, tag: u64) -> Result<Engine, Refusal> {
+    let mut engine = Engine::new(alloc, tag);
+    fill(alloc, tag, &mut engine)?;
+    Ok(engine)
 }
 
-/// The hub with this scope of a new client with these options.
-pub(crate) fn add_client_and_hub(
-    engine: &mut Engine,
-    options: ClientOptions,
-    transport: bool,
-    scope: Scope,
-) -> Result<HubKey, Refusal> {
-    let client = engine.add_client(options, transport, LABEL, 0)?.reply;
-    Ok(engine.new_hub(Some(client), scope)?.reply)
-}
-
-/// Why the calls on these keys are refused.
-fn refusals_of(
-    engine: &mut Engine,
-    client: ClientKey,
-    hub: HubKey,
-    scope: Scope,
-) -> [Option<Refusal>; 4] {
-    [
-        engine.options(client).err(),
-        engine.is_enabled(client).err(),
-        engine.new_hub(Some(client), scope).err(),
-        engine.last_event_id(hub).err(),
-    ]
-}
-
-#[test]
-fn keys_of_another_engine_are_stale(rt: HostRuntime) -> Result<(), Fail> {
-    let alloc = rt.alloc();
-    let mut engine = Engine::new(alloc, 3);
-    let label = Label { tag: 3, number: 9 };
-    let client = engine.add_client(options(alloc)?, true, label, 0)?.reply;
-    let hub = engine.new_hub(Some(client), scope(alloc))?.reply;
-    let expected = (
-        ClientKey { tag: 3, number: 0 },
-        HubKey { tag: 3, number: 0 },
-    );
-    assert_eq!(rt; (client, hub), expected);
-    let client = ClientKey { tag: 4, ..client };
-    let hub = HubKey { tag: 4, ..hub };
-    let refusals = refusals_of(&mut engine, client, hub, scope(alloc));
-    assert_eq!(rt; refusals, [Some(Refusal::Stale); 4]);
+fn fill(alloc: Global, tag: u64, engine: &mut Engine) -> Result<(), Refusal> {
+    let options = ClientOptions::from_dsn(alloc, "https://public@sentry.invalid/1")?;
+    let client = engine.add_client(options, true, Label { tag, number: 0 }, 0)?;
+    let hub = engine.new_hub(Some(client.reply), scope(alloc))?;
+    let ids = fresh();
+    let context = TransactionContext::new(alloc, "name", "op", ids.trace_id, ids.span_id)?;
+    let transaction = engine.start_transaction(hub.reply, context, ids)?;
+    let parent = TransactionOrSpanKey::Transaction(transaction.reply);
+    engine.start_child(parent, "op", "", fresh())?;
     Ok(())
 }
 
-/// The number of a new client whose losses are counted under this label.
-fn add_client(alloc: Global, engine: &mut Engine, label: Label) -> Result<u64, Refusal> {
-    let out = engine.add_client(options(alloc)?, true, label, 0)?;
-    Ok(out.reply.number)
+/// What a text prints that is played on an engine, if it is played to its end.
+fn play(alloc: Global, engine: Engine, text: &str) -> Option<Vec<u8>> {
+    let mut text = text.as_bytes();
+    let mut written: Vec<u8> = Vec::new(alloc);
+    match run_scenario_by(alloc, engine, &mut text, &mut written) {
+        Ok(()) => Some(written),
+        Err(_) => None,
+    }
 }
 
-/// The number of a new hub.
-fn new_hub(alloc: Global, engine: &mut Engine) -> Result<u64, Refusal> {
-    Ok(engine.new_hub(None, scope(alloc))?.reply.number)
+fn prints(alloc: Global, engine: Engine, text: &str, expected: &str) -> bool {
+    match play(alloc, engine, text) {
+        Some(written) => written.as_slice() == expected.as_bytes(),
+        None => false,
+    }
 }
+
+/// Each call that takes a key, as a line that names the number 0. The calls that take a transaction or a span are there
+/// with both.
+const CALLS_WITH_KEYS: &str = "options 0
+clientdsn 0
+enabled 0
+prepare 0 info x
+send 0 info x
+sendlog 0 info x
+sendmetric 0 counter x 1 -
+empty 0
+flush 0
+tick 0
+close 0
+clone 0
+drop 0
+hub 0
+message 0 info x
+exception 0 error - x
+error 0 x
+log 0 x
+metric 0 counter x 1 -
+level 0 error
+crumb 0 x
+last 0
+bound 0
+active 0
+headers 0
+push 0
+pop 0 1
+top 0
+bind 0 -
+session 0
+end 0
+release 0
+tx 0 n o
+txat 0 n o 1
+child t0 o x
+child s0 o x
+childwith t0 o 1 1 x
+childwith s0 o 1 1 x
+txfrom 0 n o t0
+txfrom 0 n o s0
+setdata t0 k v
+setdata s0 k v
+settag t0 k v
+settag s0 k v
+setname t0 n
+setname s0 n
+setop t0 o
+setop s0 o
+status t0 ok
+status s0 ok
+request t0 GET https://shop.invalid/ x
+request s0 GET https://shop.invalid/ x
+trace t0
+trace s0
+sampled t0
+sampled s0
+iter t0
+iter s0
+getstatus t0
+getstatus s0
+data t0
+data s0
+discard t0
+discard s0
+spanid s0
+setextra t0 k v
+setorigin t0 o
+finish t0 0
+finish s0 0
+";
+
+/// What each of these lines prints.
+const STALE: &[u8] = b"refused E2\n";
+
+/// Whether this is what so many lines print.
+fn are_stale(lines: usize, written: &[u8]) -> bool {
+    let mut all = written.len() == lines.saturating_mul(STALE.len());
+    for (place, byte) in written.iter().enumerate() {
+        all &= *byte == STALE[place % STALE.len()];
+    }
+    all
+}
+
+#[test]
+fn each_call_refuses_the_keys_of_another_engine(rt: HostRuntime) -> Result<(), Fail> {
+    let alloc = rt.alloc();
+    let other = engine_with_a_span(alloc, OTHER_TAG)?;
+    let Some(written) = play(alloc, other, CALLS_WITH_KEYS) else {
+        panic!(rt; "not played to its end")
+    };
+    assert!(rt; are_stale(69, written.as_slice()));
+    Ok(())
+}
+
+/// On an engine with one number left of each kind.
+const UP_TO_THE_LAST_NUMBER: &str = "hub 0
+client app traces=1
+client app
+clone 18446744073709551614
+hub 18446744073709551614
+hub -
+top 18446744073709551614
+session 18446744073709551614
+session 18446744073709551614
+message 18446744073709551614 error boom
+tx 18446744073709551614 n o
+tx 18446744073709551614 n o
+child t18446744073709551614 o x
+child t18446744073709551614 o x
+";
+
+/// Where no client is held, none is found for a hub. Nothing gets a second number. The session that stands stays where a
+/// second one is refused.
+const USED_UP: &str = "refused E2
+refused E9
+refused E9
+refused E9
+refused E9
+refused E9
+envelope 18446744073709551614 event 0000000000000000000000000000000a error - boom {at=10000000000 platform=native \
+release=app environment=- server=- transaction=- fingerprint={{ default }} user=- extra=- \
+contexts=trace:T00000000000000000000000000000005/S0000000000000005/-/op=-/description=-/status=-/origin=-/data=- \
+crumbs=- exceptions=- integrations=} | session ok errors=1 init=true {id=00000000000000000000000000000008 distinct=- \
+release=app environment=- started=8000000000 duration=-}
+refused E9
+refused E9
+";
 
 #[test]
 fn numbers_are_used_up(rt: HostRuntime) -> Result<(), Fail> {
     let alloc = rt.alloc();
-    let mut engine = Engine::starting_at(alloc, 0, u64::MAX - 1);
-    // the label is asked before the numbers
-    let foreign = Label { tag: 1, number: 0 };
-    let clients = [
-        add_client(alloc, &mut engine, foreign),
-        add_client(alloc, &mut engine, LABEL),
-        add_client(alloc, &mut engine, LABEL),
-        add_client(alloc, &mut engine, foreign),
-    ];
-    let expected = [
-        Err(Refusal::ForeignLosses),
-        Ok(u64::MAX - 1),
-        Err(Refusal::Full),
-        Err(Refusal::ForeignLosses),
-    ];
-    assert_eq!(rt; clients, expected);
-    let hubs = [new_hub(alloc, &mut engine), new_hub(alloc, &mut engine)];
-    assert_eq!(rt; hubs, [Ok(u64::MAX - 1), Err(Refusal::Full)]);
+    let engine = Engine::starting_at(alloc, TAG, u64::MAX - 1);
+    assert!(rt; prints(alloc, engine, UP_TO_THE_LAST_NUMBER, USED_UP));
+    // the label is asked before the numbers, and so is the client of a hub
+    let engine = Engine::starting_at(alloc, OTHER_TAG, u64::MAX);
+    assert!(rt;
+        prints(
+            alloc,
+            engine,
+            "client app\nhub 0\nhub -\n",
+            "refused E8\nrefused E2\nrefused E9\n"
+        )
+    );
     Ok(())
 }
 
-const CLIENT: ClientKey = ClientKey { tag: 0, number: 0 };
-
-const HUB: HubKey = HubKey { tag: 0, number: 0 };
-
-/// Two calls that make a client and a hub, one that is refused, and the capture of an event that has an id.
-fn calls(alloc: Global) -> Result<Vec<Call>, Refusal> {
-    let mut calls = Items::new(alloc);
-    calls.push(add_client_call(alloc)?)?;
-    calls.push(Call::Hub(HubCall::LastEventId(HUB)))?;
-    calls.push(new_hub_call(alloc)?)?;
-    calls.push(capture_call(alloc)?)?;
-    Ok(calls.into_vec())
-}
-
-fn add_client_call(alloc: Global) -> Result<Call, Refusal> {
-    Ok(Call::Client(ClientCall::AddClient {
-        options: Boxed::new(alloc, options(alloc)?)?,
-        transport: true,
-        label: LABEL,
-        now: 0,
-    }))
-}
-
-fn new_hub_call(alloc: Global) -> Result<Call, AllocError> {
-    Ok(Call::Hub(HubCall::NewHub {
-        client: Some(CLIENT),
-        scope: Boxed::new(alloc, scope(alloc))?,
-    }))
-}
-
-fn capture_call(alloc: Global) -> Result<Call, AllocError> {
-    Ok(Call::Hub(HubCall::CaptureEvent {
-        hub: HUB,
-        event: Boxed::new(alloc, Event::new(alloc, id(9), 1)?)?,
-        fresh: fresh(1),
-    }))
-}
-
-/// What was answered to those calls: the refusal, the id of the event, and the number of its envelopes.
-fn end_of(answers: &[Result<Out<Reply>, Refusal>]) -> Option<(Refusal, Uuid, usize)> {
-    match answers {
-        [Ok(_), Err(refusal), Ok(_), Ok(last)] => match &last.reply {
-            Reply::Event(event) => Some((*refusal, *event, last.sent.len())),
-            _ => None,
-        },
-        _ => None,
-    }
-}
-
-/// What those calls come to, and the id of the last event on the engine that made them.
-fn run_calls(alloc: Global) -> Result<(Option<(Refusal, Uuid, usize)>, Option<Uuid>), Refusal> {
-    let (engine, answers) = Engine::run(alloc, 0, calls(alloc)?)?;
-    let last = engine.last_event_id(HUB)?.reply;
-    Ok((end_of(answers.as_slice()), last))
-}
+/// On an engine with a client under the number 0, of which a second one has the label.
+const DROPPED_BY_THE_SECOND: &str = "client app before_send=no
+hub 1
+message 1 info no
+empty 0
+";
 
 #[test]
-fn a_list_of_calls_answers_one_by_one(rt: HostRuntime) -> Result<(), Fail> {
-    let (end, last) = run_calls(rt.alloc())?;
-    assert_eq!(rt; end, Some((Refusal::Stale, id(9), 1)));
-    assert_eq!(rt; last, Some(id(9)));
-    Ok(())
-}
-
-/// Pops a layer by its guard. If that is refused: why, and the guard.
-fn refused_pop(engine: &mut Engine, guard: ScopeGuard) -> Option<(Refusal, ScopeGuard)> {
-    engine.pop_scope(guard, 0).err()
-}
-
-/// Pops a layer under another one by its guard, then that other one, and then the layer by the guard that came back.
-/// Why the first is refused, if it is, and whether the last is done.
-fn pop_by_turns(engine: &mut Engine, guard: ScopeGuard) -> (Option<Refusal>, bool) {
-    let Some((refusal, guard)) = refused_pop(engine, guard) else {
-        return (None, false);
-    };
-    let top = Call::Hub(HubCall::PopScope {
-        hub: HUB,
-        depth: 2,
-        now: 0,
-    });
-    let is_popped = engine.apply(top).is_ok();
-    match refused_pop(engine, guard) {
-        None => (Some(refusal), is_popped),
-        Some((_, guard)) => {
-            guard.into_parts();
-            (Some(refusal), false)
-        }
-    }
-}
-
-/// Pushes a layer onto a new hub.
-fn push_on_new_hub(engine: &mut Engine, scope: Scope) -> Result<ScopeGuard, Refusal> {
-    engine.new_hub(None, scope)?;
-    let Out { reply, sent: _ } = engine.push_scope(HUB)?;
-    Ok(reply)
-}
-
-/// The same on a new hub, onto which two layers are pushed: whether the second was, and what the pops come to.
-fn push_and_pop(
-    engine: &mut Engine,
-    scope: Scope,
-) -> Result<(bool, (Option<Refusal>, bool)), Refusal> {
-    let guard = push_on_new_hub(engine, scope)?;
-    let is_pushed = engine.apply(Call::Hub(HubCall::PushScope(HUB))).is_ok();
-    Ok((is_pushed, pop_by_turns(engine, guard)))
-}
-
-#[test]
-fn a_refused_guard_is_handed_back(rt: HostRuntime) -> Result<(), Fail> {
+fn a_client_reports_what_another_of_its_label_dropped(rt: HostRuntime) -> Result<(), Fail> {
     let alloc = rt.alloc();
-    let mut engine = Engine::new(alloc, 0);
-    let popped = push_and_pop(&mut engine, scope(alloc))?;
-    assert_eq!(rt; popped, (true, (Some(Refusal::OutOfOrder), true)));
-    Ok(())
-}
-
-/// Hands drained losses to an engine. If they are refused: why, and the losses.
-fn refused_losses(engine: &mut Engine, drained: Drained) -> Option<(Refusal, Drained)> {
-    engine.absorb(drained).err()
-}
-
-/// Why the first engine refuses the losses, if it does, and whether the second takes them then.
-fn absorb_in_turn(
-    first: &mut Engine,
-    second: &mut Engine,
-    drained: Drained,
-) -> (Option<Refusal>, bool) {
-    let Some((refusal, drained)) = refused_losses(first, drained) else {
-        return (None, false);
-    };
-    match refused_losses(second, drained) {
-        None => (Some(refusal), true),
-        Some((_, drained)) => {
-            drained.into_parts();
-            (Some(refusal), false)
-        }
-    }
-}
-
-/// What a transport counts that lost an event.
-fn drained_losses(alloc: Global) -> Result<Drained, Refusal> {
-    let (mut recorder, mut drainer) = LossWords::new(alloc, LABEL)?;
-    let event = Event::new(alloc, id(9), 1)?;
-    recorder.record_lost_data(&event, TransportLossReason::NetworkError);
-    Ok(drainer.drain())
-}
-
-#[test]
-fn refused_losses_are_handed_back(rt: HostRuntime) -> Result<(), Fail> {
-    let alloc = rt.alloc();
-    let mut first = Engine::new(alloc, 0);
-    let mut second = Engine::new(alloc, 0);
-    add_client(alloc, &mut second, LABEL)?;
-    let absorbed = absorb_in_turn(&mut first, &mut second, drained_losses(alloc)?);
-    assert_eq!(rt; absorbed, (Some(Refusal::ForeignLosses), true));
-    let is_reported = second.take_report(LABEL)?.reply.is_some();
-    assert!(rt; is_reported);
+    let engine = engine_with_a_span(alloc, TAG)?;
+    let expected = "envelope 0 report error/before_send=1\n";
+    assert!(rt; prints(alloc, engine, DROPPED_BY_THE_SECOND, expected));
     Ok(())
 }

@@ -1,22 +1,13 @@
-//! Tests of what no text given to a program can show: boxed callbacks, builders and calls that no command makes, what a
-//! refused call hands back, and a stream that fails.
+//! Tests of what no text given to a program can show: boxed callbacks, engines that no program makes, and keys of
+//! another engine. Beside them stands a caller of `Engine::run` that promises a law of whole runs.
 #![tactic(auto)]
 
+#[cfg(test)]
+mod boxes;
 #[cfg(test)]
 mod callbacks;
 #[cfg(test)]
 mod engines;
 #[cfg(test)]
-mod failures;
-#[cfg(test)]
-mod keys;
-#[cfg(test)]
-mod laws;
-#[cfg(test)]
-mod metrics;
-#[cfg(test)]
-mod options;
-#[cfg(test)]
-mod samplers;
-#[cfg(test)]
-mod streams;
+mod names;
+pub mod promises;

@@ -2,7 +2,7 @@
 ghost use Rattle.std.specs.Prelude.{◌≡◌, ◌∷◌, [], IfOk};
 
 use crate::quiet::{Passes, Quiet};
-use crate::workshop::{Client, Notebook, Options, SharedCore, client_of, event, options};
+use crate::workshop::{Client, Held, Notebook, Options, SharedCore, event, options};
 use sentry_base::protocol::{Envelope, EnvelopeItem, Refusal};
 use sentry_engine::call::{Call, ClientCall};
 use sentry_lock::transport::{
@@ -31,10 +31,9 @@ fn flush_and_close<R: Wait, T: Transport + Drop>(
 #[test]
 fn without_a_transport_flush_and_close_are_true(rt: HostRuntime) -> Result<(), Fail> {
     let alloc: Global = rt.alloc();
-    let core: SharedCore<Arc<NoOpTransport>> = SharedCore::new(alloc, 1)?;
-    let (client, _, _) = client_of(&rt, &core, options(alloc, false)?, None)?;
-    assert_eq!(rt; flush_and_close(&rt, &client)?, [true; 5]);
-    assert!(rt; !client.is_enabled(&rt)?);
+    let held: Held<Arc<NoOpTransport>> = Held::new(&rt, alloc, options(alloc, false)?, None)?;
+    assert!(rt; flush_and_close(&rt, &held.client)? == [true; 5]);
+    assert!(rt; !held.client.is_enabled(&rt)?);
     Ok(())
 }
 
@@ -42,12 +41,12 @@ fn without_a_transport_flush_and_close_are_true(rt: HostRuntime) -> Result<(), F
 fn the_answers_of_a_shared_transport_are_handed_on(rt: HostRuntime) -> Result<(), Fail> {
     let alloc: Global = rt.alloc();
     let notebook = Arc::new(alloc, Notebook::new(rt, alloc, false))?;
-    let core = SharedCore::new(alloc, 1)?;
+    let transport = Some(notebook.clone()?);
     let options = options(alloc, false)?.shutdown_timeout(5);
-    let (client, _, _) = client_of(&rt, &core, options, Some(notebook.clone()?))?;
-    let answers = flush_and_close(&rt, &client)?;
+    let held = Held::new(&rt, alloc, options, transport)?;
+    let answers = flush_and_close(&rt, &held.client)?;
     // the slot of the client is empty once it was closed
-    assert_eq!(rt; answers, [false, false, false, true, true]);
+    assert!(rt; answers == [false, false, false, true, true]);
     let notes = notebook.take(alloc);
     assert!(rt; notes.flushes.as_slice() == [7, 5].as_slice());
     assert!(rt; notes.shutdowns.as_slice() == [9].as_slice());
@@ -95,10 +94,9 @@ fn send_both<R: Wait, T: Transport + Drop>(
 fn a_list_of_calls_reaches_the_transport_in_order(rt: HostRuntime) -> Result<(), Fail> {
     let alloc: Global = rt.alloc();
     let notebook = Arc::new(alloc, Notebook::new(rt, alloc, true))?;
-    let core = SharedCore::new(alloc, 1)?;
     let transport = Some(notebook.clone()?);
-    let (client, _, _) = client_of(&rt, &core, options(alloc, false)?, transport)?;
-    send_both(&rt, alloc, &client)?;
+    let held = Held::new(&rt, alloc, options(alloc, false)?, transport)?;
+    send_both(&rt, alloc, &held.client)?;
     assert!(rt; notebook.take(alloc).ids.as_slice() == [1, 2].as_slice());
     Ok(())
 }
@@ -130,9 +128,11 @@ fn a_shutdown_is_a_flush_unless_written(rt: HostRuntime) -> Result<(), Fail> {
 }
 
 /// Whether options have a recorder, and what a share of a transport that is made with them answers to a flush.
-fn create(alloc: Global, options: TransportOptions) -> Result<(bool, bool), Refusal> {
+fn create(
+    factory: &Arc<NoOpTransport>,
+    options: TransportOptions,
+) -> Result<(bool, bool), Refusal> {
     let has_recorder = options.client_report_recorder.is_some();
-    let factory = Arc::new(alloc, NoOpTransport)?;
     let transport = factory.create_transport_with_options(options)?;
     Ok((has_recorder, transport.flush(1)))
 }
@@ -145,7 +145,8 @@ fn a_setup_gives_the_options_of_its_transport_once(rt: HostRuntime) -> Result<()
     let Some(made) = setup.transport_options()? else {
         panic!(rt; "no options")
     };
-    assert_eq!(rt; create(alloc, made)?, (true, true));
+    let factory = Arc::new(alloc, NoOpTransport)?;
+    assert_eq!(rt; create(&factory, made)?, (true, true));
     assert!(rt; setup.transport_options()?.is_none());
     let bare = Options::with_callbacks(alloc, Quiet { is_starving: false });
     assert!(rt; TransportOptions::try_from_client_options(&bare)?.is_none());

@@ -1,10 +1,8 @@
 //! Threads that send, flush and lose errors at once.
 ghost use Rattle.std.specs.Prelude.{◌≡◌};
 
-use crate::workshop::{
-    Client, Notebook, SharedCore, client_of, event, fresh, lose_error, options, pending,
-};
-use sentry_base::protocol::{Envelope, Label, Refusal};
+use crate::workshop::{Client, Held, Notebook, event, fresh, lose_error, options};
+use sentry_base::protocol::{Envelope, Refusal};
 use sentry_client_reports::client_reports::Recorder;
 use sentry_lock::transport::Transport;
 use sentry_scope::scope::Scope;
@@ -19,9 +17,12 @@ fn lose_thousand(mut recorder: Recorder) {
     }
 }
 
-fn four_recorders(alloc: Global, recorder: Recorder) -> Result<Vec<Recorder>, Fail> {
+/// The recorder, and three more that are split from it; none without one.
+fn four_recorders(alloc: Global, recorder: Option<Recorder>) -> Result<Vec<Recorder>, Fail> {
     let mut recorders = Vec::new(alloc);
-    let mut rest = recorder;
+    let Some(mut rest) = recorder else {
+        return Ok(recorders);
+    };
     for _ in 0..3 {
         let (recorder, other) = rest.split().map_err(|(refusal, _)| refusal)?;
         recorders.push(recorder)?;
@@ -65,36 +66,42 @@ fn send_in_two_threads<R: Threads + Wait + Sync, T: Transport + Drop + Send + Sy
 /// Whether these are the numbers from 1 to 200, each of them once, in any order.
 fn is_each_once(numbers: &[u128]) -> bool {
     let mut all = numbers.len() == 200;
-    for number in 1..201 {
-        all &= numbers.contains(&number);
+    for number in 1..201u64 {
+        all &= numbers.contains(&u128::from(number));
     }
     all
+}
+
+/// Splits the recorder of a client for four threads, which lose a thousand errors each, while two more send.
+fn lose_and_send<R: Threads + Wait + Sync, T: Transport + Drop + Send + Sync>(
+    rt: &R,
+    alloc: Global,
+    held: &mut Held<T>,
+) -> Result<(), Fail> {
+    let recorders = four_recorders(alloc, held.recorder.take())?;
+    let other = held.client.clone()?;
+    let client = &held.client;
+    let (lost, sent) = join(
+        rt,
+        || map_vec(rt, recorders, &|recorder: Recorder| lose_thousand(recorder)),
+        || send_in_two_threads(rt, alloc, client, &other),
+    );
+    lost?;
+    sent?;
+    Ok(())
 }
 
 #[test]
 fn threads_lose_and_send_at_once(rt: HostRuntime) -> Result<(), Fail> {
     let alloc: Global = rt.alloc();
     let notebook = Arc::new(alloc, Notebook::new(rt, alloc, true))?;
-    let core = SharedCore::new(alloc, 1)?;
     let transport = Some(notebook.clone()?);
-    let (client, label, recorder) = client_of(&rt, &core, options(alloc, false)?, transport)?;
-    let other = client.clone()?;
-    let recorders = four_recorders(alloc, recorder)?;
-    let (lost, sent) = join(
-        &rt,
-        || map_vec(
-            &rt,
-            recorders,
-            &|recorder: Recorder| lose_thousand(recorder),
-        ),
-        || send_in_two_threads(&rt, alloc, &client, &other),
-    );
-    lost?;
-    sent?;
-    assert!(rt; core.lock(&rt).core.close_losses(label)?);
-    let left = pending(&rt, &client, label)?;
+    let mut held = Held::new(&rt, alloc, options(alloc, false)?, transport)?;
+    lose_and_send(&rt, alloc, &mut held)?;
+    assert!(rt; held.close_losses(&rt)?);
+    let left = held.pending(&rt)?;
     let notes = notebook.take(alloc);
-    assert_eq!(rt; notes.errors_told.wrapping_add(left), 4000);
+    assert!(rt; notes.errors_told.wrapping_add(left) == 4000);
     assert!(rt; is_each_once(notes.ids.as_slice()));
     Ok(())
 }

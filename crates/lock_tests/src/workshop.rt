@@ -111,23 +111,74 @@ pub(crate) fn options(alloc: Global, is_starving: bool) -> Result<Options, Refus
     )
 }
 
-/// A client with these options, its label, and the recorder of its transport. `Stale`: the options have no DSN.
-pub(crate) fn client_of<R: Wait, T: Transport + Drop>(
-    rt: &R,
-    core: &SharedCore<T>,
-    options: Options,
-    transport: Option<T>,
-) -> Result<(Client<T>, Label, Recorder), Refusal> {
-    let mut setup = core.client_setup(rt, options)?;
-    let label = setup.label();
-    let recorder = match setup.transport_options()? {
-        Some(made) => made.client_report_recorder,
-        None => None,
-    };
-    let client = Client::with_options(rt, core, setup, transport, 0)?;
-    match recorder {
-        Some(recorder) => Ok((client, label, recorder)),
-        None => Err(Refusal::Stale),
+/// A client, its label, and the recorder of its transport, until that is let go.
+pub(crate) struct Held<T> {
+    pub(crate) client: Client<T>,
+    pub(crate) label: Label,
+    pub(crate) recorder: Option<Recorder>,
+}
+
+impl<T: Drop> Drop for Held<T> {
+    fn drop(self) {
+        let Held {
+            client: _,
+            label: _,
+            recorder: _,
+        } = self;
+    }
+}
+
+impl<T: Transport + Drop> Held<T> {
+    /// On a new core, with a DSN.
+    pub(crate) fn new<R: Wait>(
+        rt: &R,
+        alloc: Global,
+        options: Options,
+        transport: Option<T>,
+    ) -> Result<Held<T>, Refusal> {
+        let core = SharedCore::new(alloc, 1)?;
+        Held::on(rt, &core, options, transport)
+    }
+
+    /// The same on a core that is there.
+    pub(crate) fn on<R: Wait>(
+        rt: &R,
+        core: &SharedCore<T>,
+        options: Options,
+        transport: Option<T>,
+    ) -> Result<Held<T>, Refusal> {
+        let mut setup = core.client_setup(rt, options)?;
+        let label = setup.label();
+        let recorder = match setup.transport_options()? {
+            Some(made) => made.client_report_recorder,
+            None => None,
+        };
+        let client = Client::with_options(rt, core, setup, transport, 0)?;
+        Ok(Held {
+            client,
+            label,
+            recorder,
+        })
+    }
+
+    /// Records that an error was lost in the network, if the recorder is held.
+    pub(crate) fn lose_error(&mut self) {
+        if let Some(recorder) = &mut self.recorder {
+            lose_error(recorder);
+        }
+    }
+
+    /// How many errors stay pending, which then count as reported.
+    pub(crate) fn pending<R: Wait>(&self, rt: &R) -> Result<u64, Refusal> {
+        match self.client.core().lock(rt).core.take_report(self.label)? {
+            None => Ok(0),
+            Some(report) => Ok(errors_in(&report)),
+        }
+    }
+
+    /// Whether its words are closed then.
+    pub(crate) fn close_losses<R: Wait>(&self, rt: &R) -> Result<bool, Refusal> {
+        self.client.core().lock(rt).core.close_losses(self.label)
     }
 }
 
@@ -176,16 +227,4 @@ fn errors_in(report: &ClientReport) -> u64 {
         }
     }
     errors
-}
-
-/// How many errors stay pending under a label, which then count as reported.
-pub(crate) fn pending<R: Wait, T: Transport + Drop>(
-    rt: &R,
-    client: &Client<T>,
-    label: Label,
-) -> Result<u64, Refusal> {
-    match client.core().lock(rt).core.take_report(label)? {
-        None => Ok(0),
-        Some(report) => Ok(errors_in(&report)),
-    }
 }

@@ -1,93 +1,103 @@
 //! What reaches the inner transport: what is passed on, in which order, and what a flush and a shutdown do.
-ghost use Rattle.std.specs.Prelude.{◌≡◌};
-
-use crate::workshop::{Collector, Queue, StandingClock, event_alone, queue, transport_options};
-use sentry_base::protocol::{Category, Envelope, Label, Losses, Reason, Refusal};
-use sentry_client_reports::client_reports::LossWords;
-use sentry_clock::BoxedClock;
+use crate::workshop::{Five, Notebook, Queue, event_alone, send, transport_options};
+use sentry_base::protocol::{Category, Envelope, Refusal};
 use sentry_lock::transport::Transport;
 use sentry_queue_transport::queue_transport::{DEFAULT_CAPACITY, QueueTransport};
 use std::alloc::{AllocError, Global};
-use std::sync::{Barrier, Mutex, Wait};
+use std::num::NonZeroUsize;
+use std::sync::atomic::{AtomicU64, Ordering};
+use std::sync::{Barrier, Wait};
 use std::test::Fail;
 use std::thread::join;
 
-const LABEL: Label = Label { tag: 7, number: 6 };
-
-fn send<T: Transport>(queue: &T, alloc: Global, numbers: &[u64]) -> Result<(), AllocError> {
-    for number in numbers {
-        queue.send_envelope(event_alone(alloc, *number)?);
-    }
-    Ok(())
+// A queue over a notebook.
+fn queue_over_notes<R: Wait + Drop + Copy>(
+    rt: R,
+    alloc: Global,
+    capacity: Option<NonZeroUsize>,
+    answer: bool,
+) -> Result<Queue<R, Notebook<R>>, Refusal> {
+    let options = transport_options(alloc, capacity, None)?;
+    QueueTransport::new(rt, alloc, options, Notebook::new(rt, alloc, answer), Five)
 }
 
-// The numbers of the events, in order.
-fn in_order(alloc: Global, envelopes: &[Envelope]) -> Result<Vec<u128>, AllocError> {
-    let mut numbers = Vec::new(alloc);
-    for envelope in envelopes {
-        if let Some(id) = envelope.header.event_id {
-            numbers.push(id.as_u128())?;
-        }
-    }
-    Ok(numbers)
+// Sends events to a queue for three, of which the fourth has no room, and pumps one. Answers how many wait before and
+// after that.
+fn pump_one<R: Wait + Drop>(
+    queue: &Queue<R, Notebook<R>>,
+    alloc: Global,
+) -> Result<(usize, usize), AllocError> {
+    // the clock stands at 5
+    queue.limit(None, 5);
+    queue.limit(Some(Category::Session), 9);
+    send(queue, alloc, &[1, 2, 3, 4])?;
+    let full = queue.len();
+    queue.pump();
+    Ok((full, queue.len()))
+}
+
+// Sends an event more and flushes the queue, and then an event that is limited. Answers whether it was flushed, and how
+// many wait then.
+fn flush_and_limit<R: Wait + Drop>(
+    queue: &Queue<R, Notebook<R>>,
+    alloc: Global,
+) -> Result<(bool, usize), AllocError> {
+    send(queue, alloc, &[5])?;
+    let is_flushed = queue.flush(1);
+    queue.limit(Some(Category::Error), 6);
+    send(queue, alloc, &[6])?;
+    Ok((is_flushed, queue.len()))
+}
+
+// What these answer, whether an empty queue is pumped, and the notes.
+type Passed = ((usize, usize), (bool, usize), [bool; 2], String);
+
+fn pass_in_order<R: Wait + Drop + Copy>(rt: R, alloc: Global) -> Result<Passed, Refusal> {
+    let queue = queue_over_notes(rt, alloc, NonZeroUsize::new(3), true)?;
+    let is_pumped = queue.pump();
+    let pumped = pump_one(&queue, alloc)?;
+    let flushed = flush_and_limit(&queue, alloc)?;
+    let is_left = queue.pump();
+    Ok((
+        pumped,
+        flushed,
+        [is_pumped, is_left],
+        queue.inner().take(alloc),
+    ))
 }
 
 #[test]
 fn what_was_queued_first_is_passed_on_first(rt: HostRuntime) -> Result<(), Fail> {
-    let alloc: Global = rt.alloc();
-    let queue = queue(rt, alloc, Some(3), None)?;
-    assert_eq!(rt; queue.capacity(), 3);
-    assert!(rt; !queue.pump());
-    send(&queue, alloc, &[1, 2, 3, 4])?;
-    assert_eq!(rt; queue.len(), 3);
-    assert!(rt; queue.pump());
-    assert_eq!(rt; queue.len(), 2);
-    send(&queue, alloc, &[5])?;
-    assert!(rt; queue.flush(1));
-    let passed = in_order(alloc, &queue.inner().take(alloc))?;
-    assert!(rt; passed.as_slice() == [1, 2, 3, 5].as_slice());
-    assert!(rt; !queue.pump());
+    let (pumped, flushed, are_pumped, notes) = pass_in_order(rt, rt.alloc())?;
+    assert_eq!(rt; pumped, (3, 2));
+    assert_eq!(rt; flushed, (true, 0));
+    assert_eq!(rt; are_pumped, [false, false]);
+    assert_eq!(rt; notes.as_str(), " event 1 event 2 event 3 event 5 flush 1");
     Ok(())
+}
+
+// The answers of a flush and of a shutdown, the capacity, and the notes.
+type Asked = (bool, bool, usize, String);
+
+fn ask_inner<R: Wait + Drop + Copy>(rt: R, alloc: Global) -> Result<Asked, Refusal> {
+    let queue = queue_over_notes(rt, alloc, None, false)?;
+    let is_flushed = queue.flush(7);
+    send(&queue, alloc, &[1, 2])?;
+    let is_shut = queue.shutdown(9);
+    Ok((
+        is_flushed,
+        is_shut,
+        queue.capacity(),
+        queue.inner().take(alloc),
+    ))
 }
 
 #[test]
 fn the_answers_of_the_inner_transport_are_handed_on(rt: HostRuntime) -> Result<(), Fail> {
-    let alloc: Global = rt.alloc();
-    let options = transport_options(alloc, None, None)?;
-    let clock = StandingClock { moment: 5 };
-    let collector = Collector::new(rt, alloc, false);
-    let queue: Queue<HostRuntime> = QueueTransport::new(rt, alloc, options, collector, clock)?;
-    assert_eq!(rt; queue.capacity(), DEFAULT_CAPACITY);
-    assert_eq!(rt; queue.capacity(), 30);
-    assert!(rt; !queue.flush(7));
-    send(&queue, alloc, &[1, 2])?;
-    assert!(rt; !queue.shutdown(9));
-    assert_eq!(rt; queue.inner().take(alloc).len(), 2);
-    let flushes = queue.inner().take_flushes(alloc);
-    assert!(rt; flushes.as_slice() == [7].as_slice());
-    let shutdowns = queue.inner().take_shutdowns(alloc);
-    assert!(rt; shutdowns.as_slice() == [9].as_slice());
-    Ok(())
-}
-
-#[test]
-fn limits_end_at_their_moment(rt: HostRuntime) -> Result<(), Fail> {
-    let alloc: Global = rt.alloc();
-    let (recorder, mut drainer) = LossWords::new(alloc, LABEL)?;
-    // the clock stands at 5
-    let queue = queue(rt, alloc, None, Some(recorder))?;
-    queue.limit(Some(Category::Session), 9);
-    queue.limit(None, 5);
-    send(&queue, alloc, &[1])?;
-    assert_eq!(rt; queue.len(), 1);
-    queue.limit(Some(Category::Error), 6);
-    send(&queue, alloc, &[2])?;
-    assert_eq!(rt; queue.len(), 1);
-    let (_, losses) = drainer.drain().into_parts();
-    assert!(rt; losses == Losses::of(Category::Error, Reason::RatelimitBackoff, 1));
-    assert!(rt; queue.flush(0));
-    let passed = in_order(alloc, &queue.inner().take(alloc))?;
-    assert!(rt; passed.as_slice() == [1].as_slice());
+    let (is_flushed, is_shut, capacity, notes) = ask_inner(rt, rt.alloc())?;
+    assert_eq!(rt; (is_flushed, is_shut), (false, false));
+    assert_eq!(rt; (capacity, DEFAULT_CAPACITY), (30, 30));
+    assert_eq!(rt; notes.as_str(), " flush 7 event 1 event 2 shutdown 9");
     Ok(())
 }
 
@@ -95,30 +105,11 @@ fn limits_end_at_their_moment(rt: HostRuntime) -> Result<(), Fail> {
 #[derive(Drop)]
 struct Meets<R: Wait + Drop> {
     rt: R,
-    passed: Mutex<u64>,
+    sent: AtomicU64,
     barrier: Barrier,
 }
 
 impl<R: Wait + Drop> Meets<R> {
-    fn new(rt: R) -> Meets<R> {
-        Meets {
-            rt,
-            passed: Mutex::new(0),
-            barrier: Barrier::new(2),
-        }
-    }
-
-    fn passed(&self) -> u64 {
-        *self.passed.lock(&self.rt)
-    }
-
-    // The number of this one, from 1 on.
-    fn count(&self) -> u64 {
-        let mut passed = self.passed.lock(&self.rt);
-        *passed = passed.wrapping_add(1);
-        *passed
-    }
-
     fn meet(&self) {
         self.barrier.wait(&self.rt);
     }
@@ -126,27 +117,34 @@ impl<R: Wait + Drop> Meets<R> {
 
 impl<R: Wait + Drop> Transport for Meets<R> {
     fn send_envelope(&self, _envelope: Envelope) {
-        if self.count() == 1 {
+        if self.sent.fetch_add(1, Ordering::SeqCst) == 0 {
             self.meet();
             self.meet();
         }
     }
 }
 
-type MeetingQueue<R> = QueueTransport<R, Meets<R>, BoxedClock>;
-
 fn meeting_queue<R: Wait + Drop + Copy>(
     rt: R,
     alloc: Global,
-    clock: BoxedClock,
-) -> Result<MeetingQueue<R>, Refusal> {
-    let options = transport_options(alloc, None, None)?;
-    QueueTransport::new(rt, alloc, options, Meets::new(rt), clock)
+) -> Result<Queue<R, Meets<R>>, Refusal> {
+    let meets = Meets {
+        rt,
+        sent: AtomicU64::new(0),
+        barrier: Barrier::new(2),
+    };
+    QueueTransport::new(
+        rt,
+        alloc,
+        transport_options(alloc, None, None)?,
+        meets,
+        Five,
+    )
 }
 
 // Queues an envelope while the inner transport sends the first.
 fn queue_meanwhile<R: Wait + Drop>(
-    queue: &MeetingQueue<R>,
+    queue: &Queue<R, Meets<R>>,
     alloc: Global,
 ) -> Result<(), AllocError> {
     queue.inner().meet();
@@ -155,20 +153,24 @@ fn queue_meanwhile<R: Wait + Drop>(
     queued
 }
 
+// How many were passed on, and how many wait.
+fn count<R: Wait + Drop>(queue: &Queue<R, Meets<R>>) -> (u64, usize) {
+    (queue.inner().sent.load(Ordering::SeqCst), queue.len())
+}
+
 #[test]
 fn a_flush_passes_on_what_waited_when_it_began(rt: HostRuntime) -> Result<(), Fail> {
     let alloc: Global = rt.alloc();
-    let clock: BoxedClock = Box::new(alloc, StandingClock { moment: 5 })?;
-    let queue = meeting_queue(rt, alloc, clock)?;
+    let queue = meeting_queue(rt, alloc)?;
     queue.send_envelope(event_alone(alloc, 1)?);
     // the lock is free while the inner transport sends: the second thread is not kept waiting by the first
-    let (flushed, queued) = join(&rt, || queue.flush(1), || queue_meanwhile(&queue, alloc));
+    let (is_flushed, queued) = join(&rt, || queue.flush(1), || queue_meanwhile(&queue, alloc));
     queued?;
-    assert!(rt; flushed);
-    assert_eq!(rt; queue.inner().passed(), 1);
-    assert_eq!(rt; queue.len(), 1);
-    assert!(rt; queue.shutdown(1));
-    assert_eq!(rt; queue.inner().passed(), 2);
-    assert_eq!(rt; queue.len(), 0);
+    let first = count(&queue);
+    let is_shut = queue.shutdown(1);
+    let second = count(&queue);
+    drop(queue);
+    assert_eq!(rt; (is_flushed, is_shut), (true, true));
+    assert_eq!(rt; (first, second), ((1, 1), (2, 0)));
     Ok(())
 }

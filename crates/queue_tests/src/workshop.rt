@@ -1,145 +1,109 @@
-//! What the tests are made of: an inner transport that collects, a clock that stands, options and envelopes.
-
-use sentry_base::callbacks::{
-    BoxedBreadcrumbCallback, BoxedEventCallback, BoxedLogCallback, BoxedMetricCallback,
-};
+//! What the tests are made of: a clock that stands, an inner transport that takes notes, options and envelopes.
 use sentry_base::protocol::{Envelope, EnvelopeItem, Event, Refusal, Uuid};
 use sentry_client_reports::client_reports::Recorder;
 use sentry_clock::Clock;
 use sentry_lock::transport::{Transport, TransportOptions};
-use sentry_options::clientoptions::ClientOptions as GenericOptions;
-use sentry_options::integration::BoxedIntegration;
-use sentry_options::sampler::BoxedTracesSampler;
+use sentry_options::clientoptions::UserAgent;
 use sentry_queue_transport::queue_transport::QueueTransport;
+use sentry_texts::dsn::Dsn;
 use std::alloc::{AllocError, Global};
+use std::num::NonZeroUsize;
 use std::sync::{Mutex, Wait};
 
-pub(crate) type Callbacks = sentry_options::clientoptions::ClientCallbacks<
-    BoxedEventCallback,
-    BoxedIntegration,
-    BoxedBreadcrumbCallback,
-    BoxedLogCallback,
-    BoxedMetricCallback,
-    BoxedTracesSampler,
->;
-
-pub(crate) type Options = GenericOptions<Callbacks>;
-
-/// Always tells the same moment.
+/// Stands at the moment 5.
 #[derive(Drop)]
-pub(crate) struct StandingClock {
-    pub(crate) moment: u64,
-}
+pub(crate) struct Five;
 
-impl Clock for StandingClock {
+impl Clock for Five {
     fn now(&mut self) -> u64 {
-        self.moment
+        5
     }
 }
 
-/// Keeps what it is to send, and what it was asked to wait.
+/// Notes what it is to send, and what it is asked to wait.
 #[derive(Drop)]
-pub(crate) struct Collector<R: Wait + Drop> {
+pub(crate) struct Notebook<R: Wait + Drop> {
     rt: R,
-    envelopes: Mutex<Vec<Envelope>>,
-    flushes: Mutex<Vec<u64>>,
-    shutdowns: Mutex<Vec<u64>>,
+    notes: Mutex<String>,
     answer: bool,
 }
 
-impl<R: Wait + Drop> Collector<R> {
-    pub(crate) fn new(rt: R, alloc: Global, answer: bool) -> Collector<R> {
-        Collector {
+impl<R: Wait + Drop> Notebook<R> {
+    /// It is empty. Each flush and shutdown has this answer.
+    pub(crate) fn new(rt: R, alloc: Global, answer: bool) -> Notebook<R> {
+        Notebook {
             rt,
-            envelopes: Mutex::new(Vec::new(alloc)),
-            flushes: Mutex::new(Vec::new(alloc)),
-            shutdowns: Mutex::new(Vec::new(alloc)),
+            notes: Mutex::new(String::new(alloc)),
             answer,
         }
     }
 
-    /// The envelopes so far, which are then forgotten.
-    pub(crate) fn take(&self, alloc: Global) -> Vec<Envelope> {
-        let mut envelopes = self.envelopes.lock(&self.rt);
-        std::mem::replace(&mut *envelopes, Vec::new(alloc))
+    fn note(&self, word: &str, number: u128) {
+        let mut notes = self.notes.lock(&self.rt);
+        drop(write!(notes, " {word} {number}"));
     }
 
-    /// The timeouts of the flushes so far, which are then forgotten.
-    pub(crate) fn take_flushes(&self, alloc: Global) -> Vec<u64> {
-        let mut timeouts = self.flushes.lock(&self.rt);
-        std::mem::replace(&mut *timeouts, Vec::new(alloc))
-    }
-
-    /// The same of the shutdowns.
-    pub(crate) fn take_shutdowns(&self, alloc: Global) -> Vec<u64> {
-        let mut timeouts = self.shutdowns.lock(&self.rt);
-        std::mem::replace(&mut *timeouts, Vec::new(alloc))
+    /// The notes so far, in order, which are then forgotten.
+    pub(crate) fn take(&self, alloc: Global) -> String {
+        let mut notes = self.notes.lock(&self.rt);
+        std::mem::replace(&mut *notes, String::new(alloc))
     }
 }
 
-impl<R: Wait + Drop> Transport for Collector<R> {
+impl<R: Wait + Drop> Transport for Notebook<R> {
     fn send_envelope(&self, envelope: Envelope) {
-        drop(self.envelopes.lock(&self.rt).push(envelope));
+        if let Some(id) = envelope.header.event_id {
+            self.note("event", id.as_u128());
+        }
     }
 
     fn flush(&self, timeout: u64) -> bool {
-        drop(self.flushes.lock(&self.rt).push(timeout));
+        self.note("flush", u128::from(timeout));
         self.answer
     }
 
     fn shutdown(&self, timeout: u64) -> bool {
-        drop(self.shutdowns.lock(&self.rt).push(timeout));
+        self.note("shutdown", u128::from(timeout));
         self.answer
     }
 }
 
-/// A queue over a collector, with a clock that stands at 5.
-pub(crate) type Queue<R> = QueueTransport<R, Collector<R>, StandingClock>;
-
-/// Options with a DSN.
-pub(crate) fn options(alloc: Global) -> Result<Options, Refusal> {
-    Options::new(alloc).dsn("https://key@sentry.example.com/42")
-}
-
-/// The options of a transport with a recorder, if one is given, and room for so many envelopes, if a number is given.
+/// The options of a transport, with room for so many envelopes, if a number is given, and with a recorder or none.
 pub(crate) fn transport_options(
     alloc: Global,
-    capacity: Option<usize>,
+    capacity: Option<NonZeroUsize>,
     recorder: Option<Recorder>,
 ) -> Result<TransportOptions, Refusal> {
-    let mut plain = options(alloc)?;
-    if let Some(capacity) = capacity {
-        plain = plain.transport_channel_capacity(capacity);
-    }
-    match TransportOptions::try_from_client_options(&plain)? {
-        None => Err(Refusal::Stale),
-        Some(mut made) => {
-            made.client_report_recorder = recorder;
-            Ok(made)
-        }
-    }
+    Ok(TransportOptions {
+        dsn: Dsn::parse(alloc, "https://key@sentry.example.com/42")?,
+        user_agent: UserAgent::of_sdk(),
+        http_proxy: None,
+        https_proxy: None,
+        accept_invalid_certs: false,
+        transport_channel_capacity: capacity,
+        client_report_recorder: recorder,
+    })
 }
 
-/// A queue with a recorder, if one is given, and room for so many envelopes, if a number is given.
-pub(crate) fn queue<R: Wait + Drop + Copy>(
-    rt: R,
-    alloc: Global,
-    capacity: Option<usize>,
-    recorder: Option<Recorder>,
-) -> Result<Queue<R>, Refusal> {
-    let options = transport_options(alloc, capacity, recorder)?;
-    let collector = Collector::new(rt, alloc, true);
-    QueueTransport::new(rt, alloc, options, collector, StandingClock { moment: 5 })
-}
+/// A queue over a transport, with a clock that stands at 5.
+pub(crate) type Queue<R, T> = QueueTransport<R, T, Five>;
 
-/// An event with the id of a number.
-pub(crate) fn event(alloc: Global, number: u64) -> Result<Event, AllocError> {
-    Event::new(alloc, Uuid::from_u128(u128::from(number)), number)
-}
-
-/// An envelope of it.
+/// An envelope of an event with the id of a number.
 pub(crate) fn event_alone(alloc: Global, number: u64) -> Result<Envelope, AllocError> {
+    let event = Event::new(alloc, Uuid::from_u128(u128::from(number)), number)?;
     let mut envelope = Envelope::new(alloc);
-    envelope.add_item(EnvelopeItem::Event(event(alloc, number)?))?;
+    envelope.add_item(EnvelopeItem::Event(event))?;
     Ok(envelope)
+}
+
+/// Sends such envelopes.
+pub(crate) fn send<T: Transport>(
+    queue: &T,
+    alloc: Global,
+    numbers: &[u64],
+) -> Result<(), AllocError> {
+    for number in numbers {
+        queue.send_envelope(event_alone(alloc, *number)?);
+    }
+    Ok(())
 }

@@ -19,13 +19,15 @@ pub enum Messages<'a> {
 
 impl<'a> BreadcrumbCommand<'a> {
     /// The command of this name, read from the words that follow it.
-    pub(crate) fn read(name: &str, mut words: Words<'a>) -> Option<BreadcrumbCommand<'a>> {
-        let hub = words.number()?;
+    pub fn read(name: &str, mut words: Words<'a>) -> Option<BreadcrumbCommand<'a>> {
+        let hub = words.number();
+        let text = words.rest();
         let messages = match name {
-            "crumb" => Messages::One(words.rest()?),
-            "crumbs" => Messages::Words(words.rest()?),
+            "crumb" => Messages::One(text),
+            "crumbs" => Messages::Words(text),
             _ => return None,
         };
+        words.end()?;
         Some(BreadcrumbCommand { hub, messages })
     }
 }

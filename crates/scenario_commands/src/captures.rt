@@ -35,43 +35,40 @@ pub struct Message<'a> {
 
 impl<'a> CaptureCommand<'a> {
     /// The command of this name, read from the words that follow it.
-    pub(crate) fn read(name: &str, mut words: Words<'a>) -> Option<CaptureCommand<'a>> {
-        let hub = words.number()?;
-        let capture = read_capture(name, &mut words)?;
+    pub fn read(name: &str, mut words: Words<'a>) -> Option<CaptureCommand<'a>> {
+        let hub = words.number();
+        let capture = match name {
+            "message" => Capture::Message(read_message(&mut words)),
+            "exception" => read_exception(&mut words),
+            "error" => Capture::Error(words.rest()),
+            "rich" => Capture::Rich(read_message(&mut words)),
+            _ => return None,
+        };
+        words.end()?;
         Some(CaptureCommand { hub, capture })
     }
 }
 
-fn read_capture<'a>(name: &str, words: &mut Words<'a>) -> Option<Capture<'a>> {
-    match name {
-        "message" => read_message(words).map(Capture::Message),
-        "exception" => read_exception(words),
-        "error" => words.rest().map(Capture::Error),
-        "rich" => read_message(words).map(Capture::Rich),
-        _ => None,
+fn read_message<'a>(words: &mut Words<'a>) -> Message<'a> {
+    Message {
+        level: words.level(),
+        text: words.rest(),
     }
 }
 
-fn read_message<'a>(words: &mut Words<'a>) -> Option<Message<'a>> {
-    Some(Message {
-        level: words.level()?,
-        text: words.rest()?,
-    })
+fn read_exception<'a>(words: &mut Words<'a>) -> Capture<'a> {
+    Capture::Exception {
+        level: words.level(),
+        handled: read_handled(words),
+        value: words.rest(),
+    }
 }
 
-fn read_exception<'a>(words: &mut Words<'a>) -> Option<Capture<'a>> {
-    Some(Capture::Exception {
-        level: words.level()?,
-        handled: handled(words.word()?)?,
-        value: words.rest()?,
-    })
-}
-
-fn handled(word: &str) -> Option<Option<bool>> {
-    match word {
-        "true" => Some(Some(true)),
-        "false" => Some(Some(false)),
-        "-" => Some(None),
-        _ => None,
+fn read_handled(words: &mut Words<'_>) -> Option<bool> {
+    match words.word() {
+        "true" => Some(true),
+        "false" => Some(false),
+        "-" => None,
+        _ => words.wrong(None),
     }
 }

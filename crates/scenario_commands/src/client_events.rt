@@ -22,17 +22,19 @@ pub enum Act {
 
 impl<'a> ClientEventCommand<'a> {
     /// The command of this name, read from the words that follow it.
-    pub(crate) fn read(name: &str, mut words: Words<'a>) -> Option<ClientEventCommand<'a>> {
+    pub fn read(name: &str, mut words: Words<'a>) -> Option<ClientEventCommand<'a>> {
         let act = match name {
             "prepare" => Act::Prepare,
             "send" => Act::Send,
             _ => return None,
         };
-        Some(ClientEventCommand {
+        let command = ClientEventCommand {
             act,
-            client: words.number()?,
-            level: words.level()?,
-            message: words.rest()?,
-        })
+            client: words.number(),
+            level: words.level(),
+            message: words.rest(),
+        };
+        words.end()?;
+        Some(command)
     }
 }

@@ -37,7 +37,7 @@ pub enum ClientCommand<'a> {
 
 impl<'a> ClientCommand<'a> {
     /// The command of this name, read from the words that follow it.
-    pub(crate) fn read(name: &str, words: Words<'a>) -> Option<ClientCommand<'a>> {
+    pub fn read(name: &str, words: Words<'a>) -> Option<ClientCommand<'a>> {
         match name {
             "client" => read_add(words),
             "sample" => read_sample(words),
@@ -47,30 +47,33 @@ impl<'a> ClientCommand<'a> {
 }
 
 fn read_add(mut words: Words<'_>) -> Option<ClientCommand<'_>> {
-    let release = words.word_or_none()?;
-    let options = OptionWords::read(words.rest())?;
+    let release = words.word_or_none();
+    let options = OptionWords::read(words.rest_if_any())?;
+    words.end()?;
     Some(ClientCommand::Add { release, options })
 }
 
-fn read_sample<'a>(mut words: Words<'_>) -> Option<ClientCommand<'a>> {
-    let millionths = small(words.number()?);
-    let draw = words.draw()?;
+fn read_sample(mut words: Words<'_>) -> Option<ClientCommand<'_>> {
+    let millionths = small(words.number());
+    let draw = words.draw();
     words.end()?;
     Some(ClientCommand::Sample { millionths, draw })
 }
 
 // The forms of one client alone.
-fn read_on_client<'a>(name: &str, words: Words<'_>) -> Option<ClientCommand<'a>> {
-    let client = words.only_number()?;
-    match name {
-        "options" => Some(ClientCommand::Options(client)),
-        "clientdsn" => Some(ClientCommand::Dsn(client)),
-        "enabled" => Some(ClientCommand::IsEnabled(client)),
-        "flush" => Some(ClientCommand::Flush(client)),
-        "tick" => Some(ClientCommand::Tick(client)),
-        "close" => Some(ClientCommand::Close(client)),
-        "clone" => Some(ClientCommand::Clone(client)),
-        "drop" => Some(ClientCommand::Drop(client)),
-        _ => None,
-    }
+fn read_on_client<'a>(name: &str, mut words: Words<'a>) -> Option<ClientCommand<'a>> {
+    let client = words.number();
+    let command = match name {
+        "options" => ClientCommand::Options(client),
+        "clientdsn" => ClientCommand::Dsn(client),
+        "enabled" => ClientCommand::IsEnabled(client),
+        "flush" => ClientCommand::Flush(client),
+        "tick" => ClientCommand::Tick(client),
+        "close" => ClientCommand::Close(client),
+        "clone" => ClientCommand::Clone(client),
+        "drop" => ClientCommand::Drop(client),
+        _ => return None,
+    };
+    words.end()?;
+    Some(command)
 }

@@ -14,14 +14,14 @@ pub enum HeaderCommand<'a> {
 
 impl<'a> HeaderCommand<'a> {
     /// The command of this name, read from the words that follow it.
-    pub(crate) fn read(name: &str, mut words: Words<'a>) -> Option<HeaderCommand<'a>> {
+    pub fn read(name: &str, mut words: Words<'a>) -> Option<HeaderCommand<'a>> {
         let command = match name {
             "header" => HeaderCommand::Keep {
-                name: words.word()?,
-                value: words.rest()?,
+                name: words.word(),
+                value: words.rest(),
             },
             "parse" => HeaderCommand::Parse,
-            "headers" => HeaderCommand::OfHub(words.number()?),
+            "headers" => HeaderCommand::OfHub(words.number()),
             _ => return None,
         };
         words.end()?;

@@ -18,16 +18,16 @@ pub enum HubCommand {
 
 impl HubCommand {
     /// The command of this name, read from the words that follow it.
-    pub(crate) fn read(name: &str, mut words: Words<'_>) -> Option<HubCommand> {
+    pub fn read(name: &str, mut words: Words<'_>) -> Option<HubCommand> {
         let command = match name {
-            "hub" => HubCommand::Add(words.number_or_none()?),
+            "hub" => HubCommand::Add(words.number_or_none()),
             "copy" => HubCommand::Copy {
-                hub: words.number()?,
-                client: words.number_or_none()?,
+                hub: words.number(),
+                client: words.number_or_none(),
             },
-            "bound" => HubCommand::Bound(words.number()?),
-            "active" => HubCommand::IsActive(words.number()?),
-            "last" => HubCommand::LastEvent(words.number()?),
+            "bound" => HubCommand::Bound(words.number()),
+            "active" => HubCommand::IsActive(words.number()),
+            "last" => HubCommand::LastEvent(words.number()),
             _ => return None,
         };
         words.end()?;

@@ -18,18 +18,19 @@ pub enum LayerCommand {
 
 impl LayerCommand {
     /// The command of this name, read from the words that follow it.
-    pub(crate) fn read(name: &str, mut words: Words<'_>) -> Option<LayerCommand> {
+    pub fn read(name: &str, mut words: Words<'_>) -> Option<LayerCommand> {
+        let hub = words.number();
         let command = match name {
-            "push" => LayerCommand::Push(words.number()?),
+            "push" => LayerCommand::Push(hub),
             "pop" => LayerCommand::Pop {
-                hub: words.number()?,
-                depth: words.number_if_any()?,
+                hub,
+                depth: words.number_if_any(),
             },
-            "top" => LayerCommand::Top(words.number()?),
-            "release" => LayerCommand::Release(words.number()?),
+            "top" => LayerCommand::Top(hub),
+            "release" => LayerCommand::Release(hub),
             "bind" => LayerCommand::Bind {
-                hub: words.number()?,
-                client: words.number_or_none()?,
+                hub,
+                client: words.number_or_none(),
             },
             _ => return None,
         };

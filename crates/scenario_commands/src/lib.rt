@@ -7,7 +7,6 @@ pub mod breadcrumbs;
 pub mod captures;
 pub mod client_events;
 pub mod clients;
-mod command;
 pub mod headers;
 pub mod hubs;
 pub mod layers;
@@ -23,6 +22,4 @@ pub mod span_edits;
 pub mod spans;
 pub mod texts;
 pub mod transactions;
-mod words;
-
-pub use command::Command;
+pub mod words;

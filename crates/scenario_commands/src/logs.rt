@@ -14,57 +14,60 @@ pub struct LogCommand<'a> {
 
 impl<'a> LogCommand<'a> {
     /// The command of this name, read from the words that follow it.
-    pub(crate) fn read(name: &str, words: Words<'a>) -> Option<LogCommand<'a>> {
-        match name {
-            "log" => read_of_hub(words),
-            "logkey" => read_with_attribute(words),
-            "sendlog" => read_of_client(words),
-            _ => None,
-        }
+    pub fn read(name: &str, mut words: Words<'a>) -> Option<LogCommand<'a>> {
+        let number = words.number();
+        let command = match name {
+            "log" => read_plain(Capturer::Hub(number), &mut words),
+            "logkey" => read_with_attribute(Capturer::Hub(number), &mut words),
+            "sendlog" => read_at_level(Capturer::Client(number), &mut words),
+            _ => return None,
+        };
+        words.end()?;
+        Some(command)
     }
 }
 
-// `log H REST`
-fn read_of_hub(mut words: Words<'_>) -> Option<LogCommand<'_>> {
-    Some(LogCommand {
-        capturer: Capturer::Hub(words.number()?),
+// `log H REST`, from REST on.
+fn read_plain<'a>(capturer: Capturer, words: &mut Words<'a>) -> LogCommand<'a> {
+    LogCommand {
+        capturer,
         level: LogLevel::Info,
         attribute: None,
-        body: words.rest()?,
-    })
+        body: words.rest(),
+    }
 }
 
-// `logkey H LOGLEVEL KEY VALUE REST`
-fn read_with_attribute(mut words: Words<'_>) -> Option<LogCommand<'_>> {
-    Some(LogCommand {
-        capturer: Capturer::Hub(words.number()?),
-        level: read_level(&mut words)?,
+// `logkey H LOGLEVEL KEY VALUE REST`, from LOGLEVEL on.
+fn read_with_attribute<'a>(capturer: Capturer, words: &mut Words<'a>) -> LogCommand<'a> {
+    LogCommand {
+        capturer,
+        level: read_level(words),
         attribute: Some(AttributeWords {
-            key: words.word()?,
-            value: words.word()?,
+            key: words.word(),
+            value: words.word(),
         }),
-        body: words.rest()?,
-    })
+        body: words.rest(),
+    }
 }
 
-// `sendlog C LOGLEVEL REST`
-fn read_of_client(mut words: Words<'_>) -> Option<LogCommand<'_>> {
-    Some(LogCommand {
-        capturer: Capturer::Client(words.number()?),
-        level: read_level(&mut words)?,
+// `sendlog C LOGLEVEL REST`, from LOGLEVEL on.
+fn read_at_level<'a>(capturer: Capturer, words: &mut Words<'a>) -> LogCommand<'a> {
+    LogCommand {
+        capturer,
+        level: read_level(words),
         attribute: None,
-        body: words.rest()?,
-    })
+        body: words.rest(),
+    }
 }
 
-fn read_level(words: &mut Words<'_>) -> Option<LogLevel> {
-    match words.word()? {
-        "trace" => Some(LogLevel::Trace),
-        "debug" => Some(LogLevel::Debug),
-        "info" => Some(LogLevel::Info),
-        "warn" => Some(LogLevel::Warn),
-        "error" => Some(LogLevel::Error),
-        "fatal" => Some(LogLevel::Fatal),
-        _ => None,
+fn read_level(words: &mut Words<'_>) -> LogLevel {
+    match words.word() {
+        "trace" => LogLevel::Trace,
+        "debug" => LogLevel::Debug,
+        "info" => LogLevel::Info,
+        "warn" => LogLevel::Warn,
+        "error" => LogLevel::Error,
+        "fatal" => LogLevel::Fatal,
+        _ => words.wrong(LogLevel::Info),
     }
 }

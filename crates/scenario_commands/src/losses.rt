@@ -39,19 +39,20 @@ pub enum Kind {
 
 impl<'a> LossCommand<'a> {
     /// The command of this name, read from the words that follow it.
-    pub(crate) fn read(name: &str, mut words: Words<'a>) -> Option<LossCommand<'a>> {
+    pub fn read(name: &str, mut words: Words<'a>) -> Option<LossCommand<'a>> {
+        let client = words.number();
         let command = match name {
             "lose" => LossCommand::Lose {
-                client: words.number()?,
-                kind: read_kind(&mut words)?,
-                reason: read_reason(&mut words)?,
+                client,
+                kind: read_kind(&mut words),
+                reason: read_reason(&mut words),
             },
             "absorb" => LossCommand::Absorb {
-                client: words.number()?,
-                quantities: words.rest(),
+                client,
+                quantities: words.rest_if_any(),
             },
-            "report" => LossCommand::Report(words.number()?),
-            "empty" => LossCommand::Empty(words.number()?),
+            "report" => LossCommand::Report(client),
+            "empty" => LossCommand::Empty(client),
             _ => return None,
         };
         words.end()?;
@@ -59,25 +60,25 @@ impl<'a> LossCommand<'a> {
     }
 }
 
-fn read_kind(words: &mut Words<'_>) -> Option<Kind> {
-    match words.word()? {
-        "event" => Some(Kind::Event),
-        "transaction" => Some(Kind::Transaction),
-        "logs" => Some(Kind::Logs),
-        "attachment" => Some(Kind::Attachment),
-        "session" => Some(Kind::Session),
-        _ => None,
+fn read_kind(words: &mut Words<'_>) -> Kind {
+    match words.word() {
+        "event" => Kind::Event,
+        "transaction" => Kind::Transaction,
+        "logs" => Kind::Logs,
+        "attachment" => Kind::Attachment,
+        "session" => Kind::Session,
+        _ => words.wrong(Kind::Event),
     }
 }
 
-fn read_reason(words: &mut Words<'_>) -> Option<TransportLossReason> {
-    match words.word()? {
-        "send_error" => Some(TransportLossReason::SendError),
-        "internal_sdk_error" => Some(TransportLossReason::InternalError),
-        "network_error" => Some(TransportLossReason::NetworkError),
-        "ratelimit_backoff" => Some(TransportLossReason::RatelimitBackoff),
-        "queue_overflow" => Some(TransportLossReason::QueueOverflow),
-        _ => None,
+fn read_reason(words: &mut Words<'_>) -> TransportLossReason {
+    match words.word() {
+        "send_error" => TransportLossReason::SendError,
+        "internal_sdk_error" => TransportLossReason::InternalError,
+        "network_error" => TransportLossReason::NetworkError,
+        "ratelimit_backoff" => TransportLossReason::RatelimitBackoff,
+        "queue_overflow" => TransportLossReason::QueueOverflow,
+        _ => words.wrong(TransportLossReason::SendError),
     }
 }
 

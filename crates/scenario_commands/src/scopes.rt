@@ -72,8 +72,8 @@ pub struct Identity<'a> {
 
 impl<'a> ScopeCommand<'a> {
     /// The command of this name, read from the words that follow it.
-    pub(crate) fn read(name: &str, mut words: Words<'a>) -> Option<ScopeCommand<'a>> {
-        let hub = words.number()?;
+    pub fn read(name: &str, mut words: Words<'a>) -> Option<ScopeCommand<'a>> {
+        let hub = words.number();
         let change = read_change(name, &mut words)?;
         words.end()?;
         Some(ScopeCommand { hub, change })
@@ -82,15 +82,15 @@ impl<'a> ScopeCommand<'a> {
 
 fn read_change<'a>(name: &str, words: &mut Words<'a>) -> Option<ScopeChange<'a>> {
     match name {
-        "tag" => read_set_entry(Role::Tag, words),
-        "untag" => words.word().map(ScopeChange::RemoveTag),
-        "extra" => read_set_entry(Role::Extra, words),
-        "unextra" => words.word().map(ScopeChange::RemoveExtra),
-        "context" => read_set_entry(Role::Context, words),
-        "uncontext" => words.word().map(ScopeChange::RemoveContext),
-        "attach" => read_entry(words).map(ScopeChange::AddAttachment),
-        "dropper" => words.rest().map(ScopeChange::AddDropper),
-        "tagger" => read_set_entry(Role::Tagger, words),
+        "tag" => Some(ScopeChange::SetEntry(Role::Tag, read_entry(words))),
+        "untag" => Some(ScopeChange::RemoveTag(words.word())),
+        "extra" => Some(ScopeChange::SetEntry(Role::Extra, read_entry(words))),
+        "unextra" => Some(ScopeChange::RemoveExtra(words.word())),
+        "context" => Some(ScopeChange::SetEntry(Role::Context, read_entry(words))),
+        "uncontext" => Some(ScopeChange::RemoveContext(words.word())),
+        "attach" => Some(ScopeChange::AddAttachment(read_entry(words))),
+        "dropper" => Some(ScopeChange::AddDropper(words.rest())),
+        "tagger" => Some(ScopeChange::SetEntry(Role::Tagger, read_entry(words))),
         _ => read_other_change(name, words),
     }
 }
@@ -98,37 +98,32 @@ fn read_change<'a>(name: &str, words: &mut Words<'a>) -> Option<ScopeChange<'a>>
 // The forms whose operands aren't a key, an entry or a prefix.
 fn read_other_change<'a>(name: &str, words: &mut Words<'a>) -> Option<ScopeChange<'a>> {
     match name {
-        "level" => Some(ScopeChange::SetLevel(words.level_or_none()?)),
-        "fingerprint" => words.rest_or_none().map(ScopeChange::SetFingerprint),
-        "name" => Some(ScopeChange::SetTransaction(Some(words.rest()?))),
-        "user" => Some(ScopeChange::SetUser(Some(read_identity(words)?))),
+        "level" => Some(ScopeChange::SetLevel(words.level_or_none())),
+        "fingerprint" => Some(ScopeChange::SetFingerprint(words.rest_or_none())),
+        "name" => Some(ScopeChange::SetTransaction(Some(words.rest()))),
+        "user" => Some(ScopeChange::SetUser(Some(read_identity(words)))),
         "clear" => Some(ScopeChange::Clear),
         "unname" => Some(ScopeChange::SetTransaction(None)),
         "nouser" => Some(ScopeChange::SetUser(None)),
         "nocrumbs" => Some(ScopeChange::ClearBreadcrumbs),
         "noattach" => Some(ScopeChange::ClearAttachments),
-        "setspan" => Some(ScopeChange::SetSpan(words.span_or_none()?)),
+        "setspan" => Some(ScopeChange::SetSpan(words.span_or_none())),
         _ => None,
     }
 }
 
-fn read_set_entry<'a>(role: Role, words: &mut Words<'a>) -> Option<ScopeChange<'a>> {
-    let entry = read_entry(words)?;
-    Some(ScopeChange::SetEntry(role, entry))
-}
-
 /// A key, and the rest of the line as its value.
-pub(crate) fn read_entry<'a>(words: &mut Words<'a>) -> Option<Entry<'a>> {
-    Some(Entry {
-        key: words.word()?,
-        value: words.rest()?,
-    })
+pub(crate) fn read_entry<'a>(words: &mut Words<'a>) -> Entry<'a> {
+    Entry {
+        key: words.word(),
+        value: words.rest(),
+    }
 }
 
-fn read_identity<'a>(words: &mut Words<'a>) -> Option<Identity<'a>> {
-    Some(Identity {
-        id: words.word_or_none()?,
-        email: words.word_or_none()?,
-        username: words.word_or_none()?,
-    })
+fn read_identity<'a>(words: &mut Words<'a>) -> Identity<'a> {
+    Identity {
+        id: words.word_or_none(),
+        email: words.word_or_none(),
+        username: words.word_or_none(),
+    }
 }

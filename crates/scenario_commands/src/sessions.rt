@@ -13,16 +13,17 @@ pub enum SessionCommand {
 
 impl SessionCommand {
     /// The command of this name, read from the words that follow it.
-    pub(crate) fn read(name: &str, mut words: Words<'_>) -> Option<SessionCommand> {
+    pub fn read(name: &str, mut words: Words<'_>) -> Option<SessionCommand> {
+        let hub = words.number();
         let command = match name {
-            "session" => SessionCommand::Start(words.number()?),
+            "session" => SessionCommand::Start(hub),
             "end" => SessionCommand::End {
-                hub: words.number()?,
+                hub,
                 status: SessionStatus::Exited,
             },
             "endwith" => SessionCommand::End {
-                hub: words.number()?,
-                status: read_status(words.word()?)?,
+                hub,
+                status: read_status(&mut words),
             },
             _ => return None,
         };
@@ -31,12 +32,12 @@ impl SessionCommand {
     }
 }
 
-fn read_status(word: &str) -> Option<SessionStatus> {
-    match word {
-        "ok" => Some(SessionStatus::Ok),
-        "exited" => Some(SessionStatus::Exited),
-        "crashed" => Some(SessionStatus::Crashed),
-        "abnormal" => Some(SessionStatus::Abnormal),
-        _ => None,
+fn read_status(words: &mut Words<'_>) -> SessionStatus {
+    match words.word() {
+        "ok" => SessionStatus::Ok,
+        "exited" => SessionStatus::Exited,
+        "crashed" => SessionStatus::Crashed,
+        "abnormal" => SessionStatus::Abnormal,
+        _ => words.wrong(SessionStatus::Ok),
     }
 }

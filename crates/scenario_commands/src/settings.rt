@@ -13,10 +13,10 @@ pub enum Setting {
 
 impl Setting {
     /// The setting of this name, read from the words that follow it.
-    pub(crate) fn read(name: &str, mut words: Words<'_>) -> Option<Setting> {
+    pub fn read(name: &str, mut words: Words<'_>) -> Option<Setting> {
         let setting = match name {
-            "at" => Setting::Moment(words.number_or_none()?),
-            "draw" => Setting::Draw(words.draw()?),
+            "at" => Setting::Moment(words.number_or_none()),
+            "draw" => Setting::Draw(words.draw()),
             _ => return None,
         };
         words.end()?;

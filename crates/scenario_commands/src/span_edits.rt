@@ -54,8 +54,8 @@ pub struct RequestWords<'a> {
 
 impl<'a> SpanEditCommand<'a> {
     /// The command of this name, read from the words that follow it.
-    pub(crate) fn read(name: &str, mut words: Words<'a>) -> Option<SpanEditCommand<'a>> {
-        let span = words.span()?;
+    pub fn read(name: &str, mut words: Words<'a>) -> Option<SpanEditCommand<'a>> {
+        let span = words.span();
         let command = match read_edit(name, &mut words) {
             Some(edit) => SpanEditCommand::Span { span, edit },
             None => read_on_transaction(name, span, &mut words)?,
@@ -67,22 +67,22 @@ impl<'a> SpanEditCommand<'a> {
 
 fn read_edit<'a>(name: &str, words: &mut Words<'a>) -> Option<SpanEdit<'a>> {
     match name {
-        "settag" => read_entry(words).map(SpanEdit::SetTag),
-        "setdata" => read_entry(words).map(SpanEdit::SetData),
-        "setname" => words.rest().map(SpanEdit::SetName),
-        "setop" => words.rest().map(SpanEdit::SetOp),
-        "status" => Some(SpanEdit::SetStatus(status(words.word()?)?)),
-        "request" => read_request(words).map(SpanEdit::SetRequest),
+        "settag" => Some(SpanEdit::SetTag(read_entry(words))),
+        "setdata" => Some(SpanEdit::SetData(read_entry(words))),
+        "setname" => Some(SpanEdit::SetName(words.rest())),
+        "setop" => Some(SpanEdit::SetOp(words.rest())),
+        "status" => Some(SpanEdit::SetStatus(read_status(words))),
+        "request" => Some(SpanEdit::SetRequest(read_request(words))),
         _ => None,
     }
 }
 
-fn read_request<'a>(words: &mut Words<'a>) -> Option<RequestWords<'a>> {
-    Some(RequestWords {
-        method: words.word()?,
-        url: words.word()?,
-        body: words.rest()?,
-    })
+fn read_request<'a>(words: &mut Words<'a>) -> RequestWords<'a> {
+    RequestWords {
+        method: words.word(),
+        url: words.word(),
+        body: words.rest(),
+    }
 }
 
 // The forms of a transaction alone.
@@ -95,11 +95,19 @@ fn read_on_transaction<'a>(
         return None;
     };
     let edit = match name {
-        "setextra" => TransactionEdit::SetExtra(read_entry(words)?),
-        "setorigin" => TransactionEdit::SetOrigin(words.rest()?),
+        "setextra" => TransactionEdit::SetExtra(read_entry(words)),
+        "setorigin" => TransactionEdit::SetOrigin(words.rest()),
         _ => return None,
     };
     Some(SpanEditCommand::Transaction { transaction, edit })
+}
+
+fn read_status(words: &mut Words<'_>) -> SpanStatus {
+    let word = words.word();
+    match status(word) {
+        Some(status) => status,
+        None => words.wrong(SpanStatus::Ok),
+    }
 }
 
 fn status(word: &str) -> Option<SpanStatus> {

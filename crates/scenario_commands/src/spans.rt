@@ -17,18 +17,24 @@ pub enum SpanCommand<'a> {
     Finish { span: SpanName, hub: u64 },
     /// `discard SPAN`
     Discard(SpanName),
-    /// `trace SPAN`
-    TraceContext(SpanName),
-    /// `sampled SPAN`
-    IsSampled(SpanName),
-    /// `iter SPAN`
-    Headers(SpanName),
-    /// `getstatus SPAN`
-    Status(SpanName),
+    Ask(Question, SpanName),
     /// `spanid sN`
     SpanId(u64),
+}
+
+/// What can be asked of transactions and of spans.
+#[derive(Clone, Copy)]
+pub enum Question {
+    /// `trace SPAN`
+    TraceContext,
+    /// `sampled SPAN`
+    IsSampled,
+    /// `iter SPAN`
+    Headers,
+    /// `getstatus SPAN`
+    Status,
     /// `data SPAN`
-    Data(SpanName),
+    Data,
 }
 
 /// A span that starts under another one, or under a transaction.
@@ -51,65 +57,62 @@ pub struct ChildDetails {
 
 impl<'a> SpanCommand<'a> {
     /// The command of this name, read from the words that follow it.
-    pub(crate) fn read(name: &str, words: Words<'a>) -> Option<SpanCommand<'a>> {
-        match name {
-            "child" => read_child(words).map(SpanCommand::StartChild),
-            "childwith" => read_child_with_details(words).map(SpanCommand::StartChild),
-            "finish" => read_finish(words),
-            "spanid" => read_span_id(words),
-            _ => read_on_span(name, words),
-        }
+    pub fn read(name: &str, mut words: Words<'a>) -> Option<SpanCommand<'a>> {
+        let span = words.span();
+        let command = match name {
+            "child" => SpanCommand::StartChild(read_child(span, &mut words)),
+            "childwith" => SpanCommand::StartChild(read_child_with_details(span, &mut words)),
+            "finish" => SpanCommand::Finish {
+                span,
+                hub: words.number(),
+            },
+            "discard" => SpanCommand::Discard(span),
+            "spanid" => SpanCommand::SpanId(number_of_span(span, &mut words)),
+            _ => SpanCommand::Ask(read_question(name)?, span),
+        };
+        words.end()?;
+        Some(command)
     }
 }
 
-// `child SPAN OP REST`
-fn read_child(mut words: Words<'_>) -> Option<Child<'_>> {
-    Some(Child {
-        parent: words.span()?,
-        op: words.word()?,
+// `child SPAN OP REST`, from OP on.
+fn read_child<'a>(parent: SpanName, words: &mut Words<'a>) -> Child<'a> {
+    Child {
+        parent,
+        op: words.word(),
         details: None,
-        description: words.rest()?,
-    })
+        description: words.rest(),
+    }
 }
 
-// `childwith SPAN OP ID NANOSECONDS REST`
-fn read_child_with_details(mut words: Words<'_>) -> Option<Child<'_>> {
-    Some(Child {
-        parent: words.span()?,
-        op: words.word()?,
+// `childwith SPAN OP ID NANOSECONDS REST`, from OP on.
+fn read_child_with_details<'a>(parent: SpanName, words: &mut Words<'a>) -> Child<'a> {
+    Child {
+        parent,
+        op: words.word(),
         details: Some(ChildDetails {
-            span_id: words.number()?,
-            start: words.number()?,
+            span_id: words.number(),
+            start: words.number(),
         }),
-        description: words.rest()?,
-    })
+        description: words.rest(),
+    }
 }
 
-fn read_finish<'a>(mut words: Words<'_>) -> Option<SpanCommand<'a>> {
-    let span = words.span()?;
-    let hub = words.only_number()?;
-    Some(SpanCommand::Finish { span, hub })
+// The number of a span, and not of a transaction.
+fn number_of_span(span: SpanName, words: &mut Words<'_>) -> u64 {
+    match span {
+        SpanName::Span(number) => number,
+        SpanName::Transaction(_) => words.wrong(0),
+    }
 }
 
-fn read_span_id<'a>(mut words: Words<'_>) -> Option<SpanCommand<'a>> {
-    let SpanName::Span(number) = words.span()? else {
-        return None;
-    };
-    words.end()?;
-    Some(SpanCommand::SpanId(number))
-}
-
-// The forms of one transaction or span alone.
-fn read_on_span<'a>(name: &str, mut words: Words<'_>) -> Option<SpanCommand<'a>> {
-    let span = words.span()?;
-    words.end()?;
+fn read_question(name: &str) -> Option<Question> {
     match name {
-        "discard" => Some(SpanCommand::Discard(span)),
-        "trace" => Some(SpanCommand::TraceContext(span)),
-        "sampled" => Some(SpanCommand::IsSampled(span)),
-        "iter" => Some(SpanCommand::Headers(span)),
-        "getstatus" => Some(SpanCommand::Status(span)),
-        "data" => Some(SpanCommand::Data(span)),
+        "trace" => Some(Question::TraceContext),
+        "sampled" => Some(Question::IsSampled),
+        "iter" => Some(Question::Headers),
+        "getstatus" => Some(Question::Status),
+        "data" => Some(Question::Data),
         _ => None,
     }
 }

@@ -16,12 +16,12 @@ pub enum TextCommand<'a> {
 
 impl<'a> TextCommand<'a> {
     /// The command of this name, read from the words that follow it.
-    pub(crate) fn read(name: &str, mut words: Words<'a>) -> Option<TextCommand<'a>> {
+    pub fn read(name: &str, mut words: Words<'a>) -> Option<TextCommand<'a>> {
         let command = match name {
-            "dsn" => TextCommand::Dsn(words.rest()?),
-            "debugtype" => TextCommand::DebugType(words.rest()?),
-            "sensitive" => TextCommand::Sensitive(words.rest()?),
-            "scrub" => TextCommand::Scrub(words.word()?),
+            "dsn" => TextCommand::Dsn(words.rest()),
+            "debugtype" => TextCommand::DebugType(words.rest()),
+            "sensitive" => TextCommand::Sensitive(words.rest()),
+            "scrub" => TextCommand::Scrub(words.word()),
             _ => return None,
         };
         words.end()?;

@@ -28,11 +28,11 @@ pub enum Origin {
 
 impl<'a> TransactionCommand<'a> {
     /// The command of this name, read from the words that follow it.
-    pub(crate) fn read(name: &str, mut words: Words<'a>) -> Option<TransactionCommand<'a>> {
+    pub fn read(name: &str, mut words: Words<'a>) -> Option<TransactionCommand<'a>> {
         let command = TransactionCommand {
-            hub: words.number()?,
-            name: words.word()?,
-            op: words.word()?,
+            hub: words.number(),
+            name: words.word(),
+            op: words.word(),
             origin: read_origin(name, &mut words)?,
         };
         words.end()?;
@@ -43,20 +43,20 @@ impl<'a> TransactionCommand<'a> {
 fn read_origin(name: &str, words: &mut Words<'_>) -> Option<Origin> {
     match name {
         "tx" => Some(Origin::NewTrace),
-        "txsampled" => Some(Origin::Decision(decision(words.word()?)?)),
-        "txat" => words.number().map(Origin::Moment),
-        "txfrom" => words.span_or_none().map(Origin::Span),
+        "txsampled" => Some(Origin::Decision(read_decision(words))),
+        "txat" => Some(Origin::Moment(words.number())),
+        "txfrom" => Some(Origin::Span(words.span_or_none())),
         "continue" => Some(Origin::Headers),
         _ => None,
     }
 }
 
 // A decision on sampling, or `-` for none.
-fn decision(word: &str) -> Option<Option<bool>> {
-    match word {
-        "0" => Some(Some(false)),
-        "1" => Some(Some(true)),
-        "-" => Some(None),
-        _ => None,
+fn read_decision(words: &mut Words<'_>) -> Option<bool> {
+    match words.word() {
+        "0" => Some(false),
+        "1" => Some(true),
+        "-" => None,
+        _ => words.wrong(None),
     }
 }

@@ -1,10 +1,10 @@
 //! The attributes of a log or a metric of a line, and the scope under which a client captures it.
 use crate::callbacks::Handler;
-use crate::caller::Caller;
+use crate::copies::Copies;
 use crate::scenario::Scenario;
 use scenario_commands::attributes::AttributeWords;
-use sentry_base::protocol::{LogAttribute, Value};
-use sentry_plain::{Text, TextMap};
+use sentry_base::protocol::LogAttribute;
+use sentry_plain::TextMap;
 use sentry_scope::scope::Scope;
 use std::alloc::{AllocError, Global};
 
@@ -14,14 +14,16 @@ pub fn attributes(
     attribute: Option<AttributeWords<'_>>,
 ) -> Result<TextMap<LogAttribute>, AllocError> {
     let mut attributes = TextMap::new(alloc);
-    if let Some(AttributeWords { key, value }) = attribute {
-        let value = Value::Text(Text::new(alloc, value)?);
-        attributes.insert(Text::new(alloc, key)?, LogAttribute(value))?;
-    }
-    Ok(attributes)
+    let Some(AttributeWords { key, value }) = attribute else {
+        return Ok(attributes);
+    };
+    let mut copies = Copies::new(alloc);
+    let value = LogAttribute(copies.value(value));
+    attributes.insert(copies.text(key), value)?;
+    copies.finish(attributes)
 }
 
-impl<E: Caller> Scenario<E> {
+impl<E> Scenario<E> {
     /// A new scope, with the ids of the line.
     pub fn new_scope(&self) -> Scope<Handler> {
         let fresh = self.fresh();

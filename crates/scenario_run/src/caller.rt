@@ -4,7 +4,9 @@ use crate::callbacks::{Callbacks, Handler};
 use crate::fault::Failure;
 use crate::scenario::Scenario;
 use sentry_base::protocol::{HubKey, Refusal};
-use sentry_engine::call::{Answer as CallAnswer, Call, HubCall, Reply, SpanCall, SpanReply};
+use sentry_engine::call::{
+    Answer as CallAnswer, Call, ClientCall, HubCall, Reply, SpanCall, SpanReply,
+};
 use sentry_engine::engine::Engine;
 use sentry_trace::headers::TraceHeadersIter;
 
@@ -39,6 +41,14 @@ impl<E: Caller> Scenario<E> {
     pub fn call<'a>(&mut self, call: ScenarioCall) -> Result<Answer<'a>, Failure> {
         let out = self.caller.apply(call)?;
         Ok(Answer::of_sent(out))
+    }
+
+    /// The same of a call on a client.
+    pub fn call_client<'a>(
+        &mut self,
+        call: ClientCall<Handler, Callbacks>,
+    ) -> Result<Answer<'a>, Failure> {
+        self.call(Call::Client(call))
     }
 
     /// The same of a call on a hub.

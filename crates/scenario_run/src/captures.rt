@@ -1,6 +1,7 @@
 //! How events are captured on a hub.
 use crate::answer::Answer;
 use crate::caller::Caller;
+use crate::copies::Copies;
 use crate::fault::Failure;
 use crate::rich::rich_event;
 use crate::scenario::{Scenario, hub_key};
@@ -10,26 +11,31 @@ use sentry_engine::call::HubCall;
 use sentry_plain::{Boxed, Items, Text};
 use std::alloc::{AllocError, Global};
 
-/// An event without a message, of one exception. It has a mechanism where it is known whether it was handled.
-fn exception_event(
-    alloc: Global,
-    level: Level,
-    handled: Option<bool>,
-    value: &str,
-    fresh: Fresh,
-) -> Result<Event, AllocError> {
+/// An exception. It has a mechanism where it is known whether it was handled.
+fn exception(alloc: Global, handled: Option<bool>, value: &str) -> Result<Exception, AllocError> {
+    let mut copies = Copies::new(alloc);
     let mechanism = match handled {
         Some(_) => Some(Mechanism {
-            ty: Text::new(alloc, "generic")?,
+            ty: copies.text("generic"),
             handled,
         }),
         None => None,
     };
     let exception = Exception {
-        ty: Text::new(alloc, "Type")?,
-        value: Some(Text::new(alloc, value)?),
+        ty: copies.text("Type"),
+        value: Some(copies.text(value)),
         mechanism,
     };
+    copies.finish(exception)
+}
+
+/// An event without a message, of one exception.
+fn exception_event(
+    alloc: Global,
+    level: Level,
+    exception: Exception,
+    fresh: Fresh,
+) -> Result<Event, AllocError> {
     let mut event = Event::new(alloc, fresh.uuid, fresh.now)?;
     event.level = level;
     event.exception.push(exception)?;
@@ -56,7 +62,8 @@ impl<E: Caller> Scenario<E> {
                 handled,
                 value,
             } => {
-                let event = exception_event(self.alloc, level, handled, value, self.fresh())?;
+                let exception = exception(self.alloc, handled, value)?;
+                let event = exception_event(self.alloc, level, exception, self.fresh())?;
                 self.capture_event(hub, event)
             }
             Capture::Error(message) => self.capture_error(hub, message),

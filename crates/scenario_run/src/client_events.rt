@@ -2,13 +2,13 @@
 ghost use Rattle.std.specs.Prelude.{◌≡◌, IfOk};
 ghost use Rattle.sentry_captures.specs.Captures.{message_event};
 
-use crate::answer::{Answer, Reply};
-use crate::caller::{CallReply, Caller};
+use crate::answer::Answer;
+use crate::caller::Caller;
 use crate::fault::Failure;
 use crate::scenario::{Scenario, client_key};
 use scenario_commands::client_events::{Act, ClientEventCommand};
-use sentry_base::protocol::{Event, Fresh, Level, Uuid};
-use sentry_engine::call::{Call, ClientCall};
+use sentry_base::protocol::{Event, Level, Uuid};
+use sentry_engine::call::ClientCall;
 use sentry_plain::{Boxed, Text};
 use std::alloc::{AllocError, Global};
 
@@ -44,33 +44,21 @@ impl<E: Caller> Scenario<E> {
         let event = message_event(self.alloc, message, level, fresh.uuid, fresh.now)?;
         let event = Boxed::new(self.alloc, event)?;
         match act {
-            Act::Prepare => self.prepare_event(client, event, fresh),
-            Act::Send => self.call(Call::Client(ClientCall::ClientCaptureEvent {
+            Act::Prepare => self.ask_client(
+                client,
+                ClientCall::PrepareEvent {
+                    client: client_key(client),
+                    event,
+                    scope: None,
+                    fresh,
+                },
+            ),
+            Act::Send => self.call_client(ClientCall::ClientCaptureEvent {
                 client: client_key(client),
                 event,
                 scope: None,
                 fresh,
-            })),
-        }
-    }
-
-    fn prepare_event<'a>(
-        &mut self,
-        client: u64,
-        event: Boxed<Event>,
-        fresh: Fresh,
-    ) -> Result<Answer<'a>, Failure> {
-        let reply = self.ask(Call::Client(ClientCall::PrepareEvent {
-            client: client_key(client),
-            event,
-            scope: None,
-            fresh,
-        }))?;
-        match reply {
-            CallReply::Prepared(event) => {
-                Ok(Answer::new(self.alloc, Reply::Prepared { client, event }))
-            }
-            _other => Err(Failure::OtherReply),
+            }),
         }
     }
 }

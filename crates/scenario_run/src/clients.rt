@@ -19,23 +19,28 @@ impl<E: Caller> Scenario<E> {
     ) -> Result<Answer<'a>, Failure> {
         match command {
             ClientCommand::Add { release, options } => self.add_client(*release, *options),
-            ClientCommand::Options(client) => self.options(*client),
-            ClientCommand::Dsn(client) => self.dsn_of_client(*client),
-            ClientCommand::IsEnabled(client) => self.is_enabled(*client),
-            ClientCommand::Flush(client) => self.flush(*client),
+            ClientCommand::Options(client) => {
+                self.ask_client(*client, ClientCall::Options(client_key(*client)))
+            }
+            ClientCommand::Dsn(client) => {
+                self.ask_client(*client, ClientCall::Dsn(client_key(*client)))
+            }
+            ClientCommand::IsEnabled(client) => {
+                self.ask_client(*client, ClientCall::IsEnabled(client_key(*client)))
+            }
+            ClientCommand::Flush(client) => self.call_client(ClientCall::Flush(client_key(
+                *client,
+            ))),
             ClientCommand::Tick(client) => self.tick(*client),
-            ClientCommand::Close(client) => self.close(*client),
+            ClientCommand::Close(client) => self.call_client(ClientCall::Close(client_key(
+                *client,
+            ))),
             ClientCommand::Clone(client) => self.clone_client(*client),
-            ClientCommand::Drop(client) => self.drop_client(*client),
+            ClientCommand::Drop(client) => {
+                self.call_client(ClientCall::DropClient(client_key(*client)))
+            }
             ClientCommand::Sample { millionths, draw } => self.sample(*millionths, *draw),
         }
-    }
-
-    fn call_client<'a>(
-        &mut self,
-        call: ClientCall<Handler, Callbacks>,
-    ) -> Result<Answer<'a>, Failure> {
-        self.call(Call::Client(call))
     }
 
     // Makes a call that adds a client.
@@ -67,40 +72,10 @@ impl<E: Caller> Scenario<E> {
         })
     }
 
-    fn options<'a>(&mut self, client: u64) -> Result<Answer<'a>, Failure> {
-        match self.ask(Call::Client(ClientCall::Options(client_key(client))))? {
-            CallReply::Options(options) => {
-                Ok(Answer::new(self.alloc, Reply::Options { client, options }))
-            }
-            _other => Err(Failure::OtherReply),
-        }
-    }
-
-    fn dsn_of_client<'a>(&mut self, client: u64) -> Result<Answer<'a>, Failure> {
-        match self.ask(Call::Client(ClientCall::Dsn(client_key(client))))? {
-            CallReply::Dsn(dsn) => Ok(Answer::new(self.alloc, Reply::ClientDsn { client, dsn })),
-            _other => Err(Failure::OtherReply),
-        }
-    }
-
-    fn is_enabled<'a>(&mut self, client: u64) -> Result<Answer<'a>, Failure> {
-        let is_enabled = self.decide(Call::Client(ClientCall::IsEnabled(client_key(client))))?;
-        let reply = Reply::Enabled { client, is_enabled };
-        Ok(Answer::new(self.alloc, reply))
-    }
-
-    fn flush<'a>(&mut self, client: u64) -> Result<Answer<'a>, Failure> {
-        self.call_client(ClientCall::Flush(client_key(client)))
-    }
-
     fn tick<'a>(&mut self, client: u64) -> Result<Answer<'a>, Failure> {
         let now = self.moment();
         let client = client_key(client);
         self.call_client(ClientCall::Tick { client, now })
-    }
-
-    fn close<'a>(&mut self, client: u64) -> Result<Answer<'a>, Failure> {
-        self.call_client(ClientCall::Close(client_key(client)))
     }
 
     // The original is noted before the call, so that what is out of memory has changed nothing that is seen; a client
@@ -111,10 +86,6 @@ impl<E: Caller> Scenario<E> {
         let now = self.moment();
         let client = client_key(client);
         self.add(ClientCall::CloneClient { client, now })
-    }
-
-    fn drop_client<'a>(&mut self, client: u64) -> Result<Answer<'a>, Failure> {
-        self.call_client(ClientCall::DropClient(client_key(client)))
     }
 
     fn sample<'a>(&mut self, millionths: u32, draw: Draw) -> Result<Answer<'a>, Failure> {

@@ -35,7 +35,7 @@ impl From<AllocError> for ScenarioFault {
 /// Why a command has no answer.
 #[derive(Clone, Copy)]
 pub enum Failure {
-    /// The line fits no form after all.
+    /// The line fits no form.
     BadCommand,
     /// The engine refused the call, or memory was refused on the way to it.
     Refused(Refusal),

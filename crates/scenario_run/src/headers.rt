@@ -1,6 +1,7 @@
 //! What is done with headers.
 use crate::answer::{Answer, Reply};
 use crate::caller::Caller;
+use crate::copies::Copies;
 use crate::fault::Failure;
 use crate::scenario::{Scenario, hub_key};
 use scenario_commands::headers::HeaderCommand;
@@ -33,10 +34,21 @@ impl<E: Caller> Scenario<E> {
         Ok(Answer::new(self.alloc, reply))
     }
 
+    // The headers that pass on the trace of a hub's top scope.
+    fn headers_of_hub<'a>(&mut self, hub: u64) -> Result<Reply<'a>, Refusal> {
+        let headers = self.caller.headers_of_hub(hub_key(hub))?;
+        let headers = collect_headers(self.alloc, headers)?;
+        Ok(Reply::HubHeaders { hub, headers })
+    }
+}
+
+impl<E> Scenario<E> {
     fn keep_header(&mut self, name: &str, value: &str) -> Result<(), AllocError> {
-        let name = Text::new(self.alloc, name)?;
-        let value = Text::new(self.alloc, value)?;
-        self.headers.push(Header { name, value })
+        let mut copies = Copies::new(self.alloc);
+        let name = copies.text(name);
+        let value = copies.text(value);
+        let header = copies.finish(Header { name, value })?;
+        self.headers.push(header)
     }
 
     fn parse_headers<'a>(&mut self) -> Reply<'a> {
@@ -47,13 +59,6 @@ impl<E: Caller> Scenario<E> {
         )));
         self.headers = Items::new(self.alloc);
         Reply::Headers(parsed)
-    }
-
-    // The headers that pass on the trace of a hub's top scope.
-    fn headers_of_hub<'a>(&mut self, hub: u64) -> Result<Reply<'a>, Refusal> {
-        let headers = self.caller.headers_of_hub(hub_key(hub))?;
-        let headers = collect_headers(self.alloc, headers)?;
-        Ok(Reply::HubHeaders { hub, headers })
     }
 }
 

@@ -1,5 +1,5 @@
 //! What is done with hubs.
-use crate::answer::{Answer, Reply};
+use crate::answer::Answer;
 use crate::callbacks::Handler;
 use crate::caller::{CallReply, Caller};
 use crate::fault::Failure;
@@ -15,9 +15,9 @@ impl<E: Caller> Scenario<E> {
         match command {
             HubCommand::Add(client) => self.add_hub(client),
             HubCommand::Copy { hub, client } => self.copy_hub(hub, client),
-            HubCommand::Bound(hub) => self.client_of_hub(hub),
-            HubCommand::IsActive(hub) => self.is_active(hub),
-            HubCommand::LastEvent(hub) => self.last_event(hub),
+            HubCommand::Bound(hub) => self.ask_hub(hub, HubCall::Client(hub_key(hub))),
+            HubCommand::IsActive(hub) => self.ask_hub(hub, HubCall::IsActive(hub_key(hub))),
+            HubCommand::LastEvent(hub) => self.ask_hub(hub, HubCall::LastEventId(hub_key(hub))),
         }
     }
 
@@ -42,29 +42,5 @@ impl<E: Caller> Scenario<E> {
     ) -> Result<Answer<'a>, Failure> {
         let client = client.map(client_key);
         self.call_hub(HubCall::NewHub { client, scope })
-    }
-
-    // The client of the hub's top layer.
-    fn client_of_hub<'a>(&mut self, hub: u64) -> Result<Answer<'a>, Failure> {
-        match self.ask(Call::Hub(HubCall::Client(hub_key(hub))))? {
-            CallReply::HubClient(client) => {
-                Ok(Answer::new(self.alloc, Reply::Bound { hub, client }))
-            }
-            _other => Err(Failure::OtherReply),
-        }
-    }
-
-    fn is_active<'a>(&mut self, hub: u64) -> Result<Answer<'a>, Failure> {
-        let is_active = self.decide(Call::Hub(HubCall::IsActive(hub_key(hub))))?;
-        Ok(Answer::new(self.alloc, Reply::Active { hub, is_active }))
-    }
-
-    fn last_event<'a>(&mut self, hub: u64) -> Result<Answer<'a>, Failure> {
-        match self.ask(Call::Hub(HubCall::LastEventId(hub_key(hub))))? {
-            CallReply::LastEvent(id) => {
-                Ok(Answer::new(self.alloc, Reply::LastEvent { hub, id }))
-            }
-            _other => Err(Failure::OtherReply),
-        }
     }
 }

@@ -12,18 +12,18 @@ impl<E: Caller> Scenario<E> {
         match command {
             LayerCommand::Push(hub) => self.push_scope(hub),
             LayerCommand::Pop { hub, depth } => self.pop_scope(hub, depth),
-            LayerCommand::Top(hub) => self.add_hub_from_top(hub),
-            LayerCommand::Release(hub) => self.release_hub(hub),
-            LayerCommand::Bind { hub, client } => self.bind_client(hub, client),
+            LayerCommand::Top(hub) => self.call_hub(HubCall::NewHubFromTop(hub_key(hub))),
+            LayerCommand::Release(hub) => {
+                let now = self.moment();
+                let hub = hub_key(hub);
+                self.call_hub(HubCall::ReleaseHub { hub, now })
+            }
+            LayerCommand::Bind { hub, client } => {
+                let client = client.map(client_key);
+                let hub = hub_key(hub);
+                self.call_hub(HubCall::BindClient { hub, client })
+            }
         }
-    }
-
-    // Notes the depth of a hub that has an entry.
-    fn set_depth(&mut self, hub: u64, depth: usize) {
-        let Some(place) = self.depths.get_mut(hub) else {
-            return;
-        };
-        *place = depth;
     }
 
     // The hub gets its entry before the call, so that what is out of memory has changed nothing.
@@ -41,14 +41,6 @@ impl<E: Caller> Scenario<E> {
         Ok(Answer::of_sent(out))
     }
 
-    // The depth of the layer that is to be popped: the one that is given, or that of the top one.
-    fn depth_to_pop(&self, hub: u64, depth: Option<u64>) -> usize {
-        match depth {
-            Some(depth) => usize::try_from(depth).unwrap_or(usize::MAX),
-            None => self.depths.get(hub).copied().unwrap_or(0),
-        }
-    }
-
     fn pop_scope<'a>(&mut self, hub: u64, depth: Option<u64>) -> Result<Answer<'a>, Failure> {
         let depth = self.depth_to_pop(hub, depth);
         let now = self.moment();
@@ -60,20 +52,22 @@ impl<E: Caller> Scenario<E> {
         self.set_depth(hub, depth.saturating_sub(1));
         Ok(answer)
     }
+}
 
-    fn add_hub_from_top<'a>(&mut self, hub: u64) -> Result<Answer<'a>, Failure> {
-        self.call_hub(HubCall::NewHubFromTop(hub_key(hub)))
+impl<E> Scenario<E> {
+    // Notes the depth of a hub that has an entry.
+    fn set_depth(&mut self, hub: u64, depth: usize) {
+        let Some(place) = self.depths.get_mut(hub) else {
+            return;
+        };
+        *place = depth;
     }
 
-    fn release_hub<'a>(&mut self, hub: u64) -> Result<Answer<'a>, Failure> {
-        let now = self.moment();
-        let hub = hub_key(hub);
-        self.call_hub(HubCall::ReleaseHub { hub, now })
-    }
-
-    fn bind_client<'a>(&mut self, hub: u64, client: Option<u64>) -> Result<Answer<'a>, Failure> {
-        let client = client.map(client_key);
-        let hub = hub_key(hub);
-        self.call_hub(HubCall::BindClient { hub, client })
+    // The depth of the layer that is to be popped: the one that is given, or that of the top one.
+    fn depth_to_pop(&self, hub: u64, depth: Option<u64>) -> usize {
+        match depth {
+            Some(depth) => usize::try_from(depth).unwrap_or(usize::MAX),
+            None => self.depths.get(hub).copied().unwrap_or(0),
+        }
     }
 }

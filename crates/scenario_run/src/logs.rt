@@ -7,7 +7,7 @@ use crate::scenario::{Scenario, client_key, hub_key};
 use scenario_commands::attributes::Capturer;
 use scenario_commands::logs::LogCommand;
 use sentry_base::protocol::Log;
-use sentry_engine::call::{Call, ClientCall, HubCall};
+use sentry_engine::call::{ClientCall, HubCall};
 use sentry_plain::Boxed;
 use std::alloc::AllocError;
 
@@ -24,11 +24,13 @@ impl<E: Caller> Scenario<E> {
             Capturer::Client(client) => {
                 let scope = Boxed::new(self.alloc, self.new_scope())?;
                 let client = client_key(client);
-                self.call(Call::Client(ClientCall::ClientCaptureLog { client, log, scope }))
+                self.call_client(ClientCall::ClientCaptureLog { client, log, scope })
             }
         }
     }
+}
 
+impl<E> Scenario<E> {
     // The log, at the moment of the line.
     fn log(&self, command: &LogCommand<'_>) -> Result<Log, AllocError> {
         let mut log = Log::new(self.alloc, command.level, command.body, self.moment())?;

@@ -1,6 +1,6 @@
 //! What is done with losses and reports.
-use crate::answer::{Answer, Reply};
-use crate::caller::{CallReply, Caller};
+use crate::answer::Answer;
+use crate::caller::Caller;
 use crate::fault::Failure;
 use crate::scenario::{Scenario, client_key};
 use scenario_commands::losses::{Kind, LossCommand};
@@ -23,7 +23,10 @@ impl<E: Caller> Scenario<E> {
                 reason,
             } => self.lose(client, kind, reason),
             LossCommand::Absorb { client, quantities } => self.absorb(client, quantities),
-            LossCommand::Report(client) => self.report(client),
+            LossCommand::Report(client) => {
+                let label = self.label(client);
+                self.ask_client(client, ClientCall::TakeReport(label))
+            }
             LossCommand::Empty(client) => self.send_empty(client),
         }
     }
@@ -41,7 +44,7 @@ impl<E: Caller> Scenario<E> {
         recorder.record_lost_data(&kind, reason);
         let (label, losses) = drainer.drain().into_parts();
         let losses = Boxed::new(self.alloc, losses)?;
-        self.call(Call::Client(ClientCall::Absorb { label, losses }))
+        self.call_client(ClientCall::Absorb { label, losses })
     }
 
     // Quantities of the line's own go into the book of the client's label.
@@ -52,22 +55,12 @@ impl<E: Caller> Scenario<E> {
         };
         let losses = Boxed::new(self.alloc, losses)?;
         let label = self.label(client);
-        self.call(Call::Client(ClientCall::Absorb { label, losses }))
-    }
-
-    fn report<'a>(&mut self, client: u64) -> Result<Answer<'a>, Failure> {
-        let label = self.label(client);
-        match self.ask(Call::Client(ClientCall::TakeReport(label)))? {
-            CallReply::Report(report) => {
-                Ok(Answer::new(self.alloc, Reply::Report { client, report }))
-            }
-            _other => Err(Failure::OtherReply),
-        }
+        self.call_client(ClientCall::Absorb { label, losses })
     }
 
     fn send_empty<'a>(&mut self, client: u64) -> Result<Answer<'a>, Failure> {
         let envelope = Envelope::new(self.alloc);
         let client = client_key(client);
-        self.call(Call::Client(ClientCall::SendEnvelope { client, envelope }))
+        self.call_client(ClientCall::SendEnvelope { client, envelope })
     }
 }

@@ -2,29 +2,30 @@
 use crate::answer::Answer;
 use crate::attributes::attributes;
 use crate::caller::Caller;
+use crate::copies::Copies;
 use crate::fault::Failure;
 use crate::scenario::{Scenario, client_key, hub_key};
 use scenario_commands::attributes::Capturer;
 use scenario_commands::metrics::MetricCommand;
 use sentry_base::protocol::{MetricDraft, Unit};
-use sentry_engine::call::{Call, ClientCall, HubCall};
-use sentry_plain::{Boxed, Text};
-use std::alloc::{AllocError, Global};
+use sentry_engine::call::{ClientCall, HubCall};
+use sentry_plain::Boxed;
+use std::alloc::AllocError;
 
 // A word that names no unit of its own is the name of another one.
-fn named_unit(alloc: Global, word: &str) -> Result<Unit, AllocError> {
+fn named_unit(copies: &mut Copies, word: &str) -> Unit {
     match word {
-        "millisecond" => Ok(Unit::Millisecond),
-        "byte" => Ok(Unit::Byte),
-        "percent" => Ok(Unit::Percent),
-        _ => Ok(Unit::Other(Text::new(alloc, word)?)),
+        "millisecond" => Unit::Millisecond,
+        "byte" => Unit::Byte,
+        "percent" => Unit::Percent,
+        _ => Unit::Other(copies.text(word)),
     }
 }
 
-fn unit_if_any(alloc: Global, word: Option<&str>) -> Result<Option<Unit>, AllocError> {
+fn unit_if_any(copies: &mut Copies, word: Option<&str>) -> Option<Unit> {
     match word {
-        Some(word) => Ok(Some(named_unit(alloc, word)?)),
-        None => Ok(None),
+        Some(word) => Some(named_unit(copies, word)),
+        None => None,
     }
 }
 
@@ -44,23 +45,29 @@ impl<E: Caller> Scenario<E> {
             }
             Capturer::Client(client) => {
                 let scope = Boxed::new(self.alloc, self.new_scope())?;
-                self.call(Call::Client(ClientCall::ClientCaptureMetric {
+                self.call_client(ClientCall::ClientCaptureMetric {
                     client: client_key(client),
                     draft,
                     scope,
                     now,
-                }))
+                })
             }
         }
     }
+}
 
+impl<E> Scenario<E> {
     fn draft(&self, command: &MetricCommand<'_>) -> Result<MetricDraft, AllocError> {
-        Ok(MetricDraft {
+        let mut copies = Copies::new(self.alloc);
+        let name = copies.text(command.name);
+        let unit = unit_if_any(&mut copies, command.unit);
+        let attributes = attributes(self.alloc, command.attribute)?;
+        copies.finish(MetricDraft {
             metric_type: command.metric_type,
-            name: Text::new(self.alloc, command.name)?,
+            name,
             value: command.value,
-            unit: unit_if_any(self.alloc, command.unit)?,
-            attributes: attributes(self.alloc, command.attribute)?,
+            unit,
+            attributes,
         })
     }
 }

@@ -6,7 +6,6 @@ use crate::lines::next_line;
 use crate::originals::Originals;
 use crate::print::push_answer;
 use crate::scenario::{Scenario, TAG};
-use scenario_commands::Command;
 use sentry_base::protocol::Refusal;
 use sentry_engine::engine::Engine;
 use std::alloc::{AllocError, Global};
@@ -15,23 +14,15 @@ use std::io::{BufRead, Write};
 /// What a line that begins with this says is skipped.
 const COMMENT: u8 = b'#';
 
-/// The command that a line spells, or none where it fits no form.
-fn read(line: &[u8]) -> Option<Command<'_>> {
-    match str::from_utf8(line) {
-        Ok(line) => Command::read(line),
-        Err(_) => None,
-    }
-}
-
-/// Does a command, and does it once more where memory is refused, since nothing has changed then. A refusal for another
+/// Does a line, and does it once more where memory is refused, since nothing has changed then. A refusal for another
 /// cause is an answer.
 fn answer<'a, E: Caller>(
     scenario: &mut Scenario<E>,
     number: u64,
-    command: &Command<'a>,
+    line: &'a str,
 ) -> Result<Answer<'a>, ScenarioFault> {
-    let performed = match scenario.perform(number, command) {
-        Err(Failure::Refused(Refusal::OutOfMemory)) => scenario.perform(number, command),
+    let performed = match scenario.perform(number, line) {
+        Err(Failure::Refused(Refusal::OutOfMemory)) => scenario.perform(number, line),
         performed => performed,
     };
     match performed {
@@ -57,10 +48,10 @@ fn play<E: Caller>(
     line: &[u8],
     text: &mut String,
 ) -> Result<(), ScenarioFault> {
-    let Some(command) = read(line) else {
+    let Ok(line) = str::from_utf8(line) else {
         return Err(ScenarioFault::BadCommand(number));
     };
-    let answer = answer(scenario, number, &command)?;
+    let answer = answer(scenario, number, line)?;
     match print(text, &scenario.originals, &answer) {
         Ok(()) => Ok(()),
         Err(_) => Ok(print(text, &scenario.originals, &answer)?),

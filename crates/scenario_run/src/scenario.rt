@@ -1,10 +1,6 @@
 //! What commands act on, and what lines set for those that follow.
-use crate::answer::Answer;
-use crate::caller::Caller;
-use crate::fault::Failure;
 use crate::headers::Header;
 use crate::originals::Originals;
-use scenario_commands::Command;
 use sentry_base::protocol::{ClientKey, Draw, Fresh, HubKey, Label, SpanId, TraceId, Uuid};
 use sentry_plain::{Items, Table};
 use std::alloc::Global;
@@ -65,7 +61,7 @@ pub fn hub_key(number: u64) -> HubKey {
     HubKey { tag: TAG, number }
 }
 
-impl<E: Caller> Scenario<E> {
+impl<E> Scenario<E> {
     /// The state before the first line, over what holds nothing yet. It takes no memory.
     pub fn new(alloc: Global, caller: E) -> Scenario<E> {
         Scenario {
@@ -103,31 +99,6 @@ impl<E: Caller> Scenario<E> {
             trace_id: TraceId(id.to_be_bytes()),
             span_id: SpanId(self.line.to_be_bytes()),
             draw: self.draw,
-        }
-    }
-
-    /// Does a command on the line of this number. Where memory is refused nothing has changed, so that the command may
-    /// be done once more.
-    pub fn perform<'a>(&mut self, line: u64, command: &Command<'a>) -> Result<Answer<'a>, Failure> {
-        self.line = line;
-        match command {
-            Command::Setting(setting) => Ok(self.set(*setting)),
-            Command::Client(command) => self.perform_on_client(command),
-            Command::ClientEvent(command) => self.hand_event(command),
-            Command::Loss(command) => self.perform_on_losses(*command),
-            Command::Hub(command) => self.perform_on_hub(*command),
-            Command::Layer(command) => self.perform_on_layers(*command),
-            Command::Scope(command) => self.configure(command),
-            Command::Breadcrumb(command) => self.add_breadcrumbs(*command),
-            Command::Capture(command) => self.capture(command),
-            Command::Session(command) => self.perform_on_session(*command),
-            Command::Log(command) => self.capture_log(command),
-            Command::Metric(command) => self.capture_metric(command),
-            Command::Transaction(command) => self.start_transaction(command),
-            Command::Span(command) => self.perform_on_span(command),
-            Command::SpanEdit(command) => self.edit_span(command),
-            Command::Header(command) => self.perform_on_headers(command),
-            Command::Text(command) => self.read_text(command),
         }
     }
 }

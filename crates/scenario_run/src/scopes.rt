@@ -2,6 +2,7 @@
 use crate::answer::Answer;
 use crate::callbacks::Handler;
 use crate::caller::Caller;
+use crate::copies::Copies;
 use crate::fault::Failure;
 use crate::scenario::{Scenario, hub_key};
 use crate::spans::span_key;
@@ -11,13 +12,6 @@ use sentry_engine::call::HubCall;
 use sentry_plain::{Items, Text};
 use sentry_scope::scope::ScopeEdit;
 use std::alloc::{AllocError, Global};
-
-fn text_or_none(alloc: Global, text: Option<&str>) -> Result<Option<Text>, AllocError> {
-    match text {
-        Some(text) => Ok(Some(Text::new(alloc, text)?)),
-        None => Ok(None),
-    }
-}
 
 /// The words of a text. The empty text has none.
 fn split_words(alloc: Global, text: &str) -> Result<Items<Text>, AllocError> {
@@ -38,15 +32,13 @@ fn fingerprint(alloc: Global, text: Option<&str>) -> Result<Option<Items<Text>>,
     }
 }
 
-fn user(alloc: Global, identity: Option<Identity<'_>>) -> Result<Option<User>, AllocError> {
-    let Some(identity) = identity else {
-        return Ok(None);
-    };
+fn user(alloc: Global, copies: &mut Copies, identity: Option<Identity<'_>>) -> Option<User> {
+    let identity = identity?;
     let mut user = User::new(alloc);
-    user.id = text_or_none(alloc, identity.id)?;
-    user.email = text_or_none(alloc, identity.email)?;
-    user.username = text_or_none(alloc, identity.username)?;
-    Ok(Some(user))
+    user.id = copies.text_if_any(identity.id);
+    user.email = copies.text_if_any(identity.email);
+    user.username = copies.text_if_any(identity.username);
+    Some(user)
 }
 
 /// A context that is a map of `value` to a text.
@@ -67,11 +59,12 @@ fn attachment(alloc: Global, file: Entry<'_>) -> Result<Attachment, AllocError> 
 
 fn set_entry(
     alloc: Global,
+    copies: &mut Copies,
     role: Role,
     entry: Entry<'_>,
 ) -> Result<ScopeEdit<Handler>, AllocError> {
-    let key = Text::new(alloc, entry.key)?;
-    let value = Text::new(alloc, entry.value)?;
+    let key = copies.text(entry.key);
+    let value = copies.text(entry.value);
     match role {
         Role::Tag => Ok(ScopeEdit::SetTag(key, value)),
         Role::Extra => Ok(ScopeEdit::SetExtra(key, Value::Text(value))),
@@ -82,6 +75,7 @@ fn set_entry(
 
 fn edit(
     alloc: Global,
+    copies: &mut Copies,
     fresh: Fresh,
     change: &ScopeChange<'_>,
 ) -> Result<ScopeEdit<Handler>, AllocError> {
@@ -92,21 +86,21 @@ fn edit(
             fingerprint(alloc, *text).map(ScopeEdit::SetFingerprint)
         }
         ScopeChange::SetTransaction(name) => {
-            text_or_none(alloc, *name).map(ScopeEdit::SetTransaction)
+            Ok(ScopeEdit::SetTransaction(copies.text_if_any(*name)))
         }
-        ScopeChange::SetUser(identity) => user(alloc, *identity).map(ScopeEdit::SetUser),
-        ScopeChange::SetEntry(role, entry) => set_entry(alloc, *role, *entry),
-        ScopeChange::RemoveTag(key) => Text::new(alloc, key).map(ScopeEdit::RemoveTag),
-        ScopeChange::RemoveExtra(key) => Text::new(alloc, key).map(ScopeEdit::RemoveExtra),
-        ScopeChange::RemoveContext(key) => Text::new(alloc, key).map(ScopeEdit::RemoveContext),
+        ScopeChange::SetUser(identity) => { Ok(ScopeEdit::SetUser(user(alloc, copies, *identity))) }
+        ScopeChange::SetEntry(role, entry) => set_entry(alloc, copies, *role, *entry),
+        ScopeChange::RemoveTag(key) => Ok(ScopeEdit::RemoveTag(copies.text(key))),
+        ScopeChange::RemoveExtra(key) => Ok(ScopeEdit::RemoveExtra(copies.text(key))),
+        ScopeChange::RemoveContext(key) => Ok(ScopeEdit::RemoveContext(copies.text(key))),
         ScopeChange::ClearBreadcrumbs => Ok(ScopeEdit::ClearBreadcrumbs),
         ScopeChange::AddAttachment(file) => {
             attachment(alloc, *file).map(ScopeEdit::AddAttachment)
         }
         ScopeChange::ClearAttachments => Ok(ScopeEdit::ClearAttachments),
         ScopeChange::AddDropper(prefix) => {
-            let text = Text::new(alloc, prefix);
-            text.map(Handler::Drop).map(ScopeEdit::AddEventProcessor)
+            let dropper = Handler::Drop(copies.text(prefix));
+            Ok(ScopeEdit::AddEventProcessor(dropper))
         }
         ScopeChange::SetSpan(span) => Ok(ScopeEdit::SetSpan(span.map(span_key))),
     }
@@ -116,7 +110,9 @@ impl<E: Caller> Scenario<E> {
     /// Edits the top scope of a hub.
     pub fn configure<'a>(&mut self, command: &ScopeCommand<'_>) -> Result<Answer<'a>, Failure> {
         let mut edits = Items::new(self.alloc);
-        edits.push(edit(self.alloc, self.fresh(), &command.change)?)?;
+        let mut copies = Copies::new(self.alloc);
+        let edit = edit(self.alloc, &mut copies, self.fresh(), &command.change)?;
+        edits.push(copies.finish(edit)?)?;
         let hub = hub_key(command.hub);
         let now = self.moment();
         self.call_hub(HubCall::Configure { hub, edits, now })

@@ -4,7 +4,6 @@ use crate::caller::Caller;
 use crate::fault::Failure;
 use crate::scenario::{Scenario, hub_key};
 use scenario_commands::sessions::SessionCommand;
-use sentry_base::protocol::SessionStatus;
 use sentry_engine::call::HubCall;
 
 impl<E: Caller> Scenario<E> {
@@ -14,20 +13,16 @@ impl<E: Caller> Scenario<E> {
         command: SessionCommand,
     ) -> Result<Answer<'a>, Failure> {
         match command {
-            SessionCommand::Start(hub) => self.start_session(hub),
-            SessionCommand::End { hub, status } => self.end_session(hub, status),
+            SessionCommand::Start(hub) => {
+                let fresh = self.fresh();
+                let hub = hub_key(hub);
+                self.call_hub(HubCall::StartSession { hub, fresh })
+            }
+            SessionCommand::End { hub, status } => {
+                let now = self.moment();
+                let hub = hub_key(hub);
+                self.call_hub(HubCall::EndSessionWithStatus { hub, status, now })
+            }
         }
-    }
-
-    fn start_session<'a>(&mut self, hub: u64) -> Result<Answer<'a>, Failure> {
-        let fresh = self.fresh();
-        let hub = hub_key(hub);
-        self.call_hub(HubCall::StartSession { hub, fresh })
-    }
-
-    fn end_session<'a>(&mut self, hub: u64, status: SessionStatus) -> Result<Answer<'a>, Failure> {
-        let now = self.moment();
-        let hub = hub_key(hub);
-        self.call_hub(HubCall::EndSessionWithStatus { hub, status, now })
     }
 }

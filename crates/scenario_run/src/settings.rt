@@ -1,10 +1,9 @@
 //! How it is set what later lines are handed.
 use crate::answer::{Answer, Reply};
-use crate::caller::Caller;
 use crate::scenario::Scenario;
 use scenario_commands::settings::Setting;
 
-impl<E: Caller> Scenario<E> {
+impl<E> Scenario<E> {
     /// Sets what later lines are handed.
     pub fn set<'a>(&mut self, setting: Setting) -> Answer<'a> {
         match setting {

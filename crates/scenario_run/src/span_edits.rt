@@ -1,96 +1,96 @@
 //! How transactions and spans are changed.
 use crate::answer::Answer;
 use crate::caller::Caller;
+use crate::copies::Copies;
 use crate::fault::Failure;
 use crate::scenario::Scenario;
 use crate::spans::{span_key, transaction_key};
 use scenario_commands::scopes::Entry;
 use scenario_commands::span_edits::{RequestWords, SpanEdit, SpanEditCommand, TransactionEdit};
-use sentry_base::protocol::{Request, TransactionKey, TransactionOrSpanKey, Value};
+use sentry_base::protocol::{Request, TransactionKey, TransactionOrSpanKey};
 use sentry_engine::call::SpanCall;
-use sentry_plain::{Boxed, Text, TextMap};
+use sentry_plain::{Boxed, TextMap};
 use std::alloc::{AllocError, Global};
 
 /// A request with this method, this URL and this body.
-fn request(alloc: Global, words: RequestWords<'_>) -> Result<Request, AllocError> {
-    Ok(Request {
-        method: Some(Text::new(alloc, words.method)?),
-        url: Some(Text::new(alloc, words.url)?),
-        data_: Some(Text::new(alloc, words.body)?),
+fn request(alloc: Global, copies: &mut Copies, words: RequestWords<'_>) -> Request {
+    Request {
+        method: Some(copies.text(words.method)),
+        url: Some(copies.text(words.url)),
+        data_: Some(copies.text(words.body)),
         query_string: None,
         cookies: None,
         headers: TextMap::new(alloc),
         env: TextMap::new(alloc),
-    })
-}
-
-fn text_value(alloc: Global, text: &str) -> Result<Value, AllocError> {
-    Ok(Value::Text(Text::new(alloc, text)?))
+    }
 }
 
 // The call of an edit of a transaction or a span.
 fn edit_of_span(
     alloc: Global,
+    copies: &mut Copies,
     name: TransactionOrSpanKey,
     edit: SpanEdit<'_>,
 ) -> Result<SpanCall, AllocError> {
     match edit {
         SpanEdit::SetTag(Entry { key, value }) => Ok(SpanCall::SetTag {
             name,
-            key: Text::new(alloc, key)?,
-            value: Text::new(alloc, value)?,
+            key: copies.text(key),
+            value: copies.text(value),
         }),
         SpanEdit::SetData(Entry { key, value }) => Ok(SpanCall::SetData {
             name,
-            key: Text::new(alloc, key)?,
-            value: text_value(alloc, value)?,
+            key: copies.text(key),
+            value: copies.value(value),
         }),
         SpanEdit::SetName(text) => Ok(SpanCall::SetName {
             name,
-            text: Text::new(alloc, text)?,
+            text: copies.text(text),
         }),
         SpanEdit::SetOp(op) => Ok(SpanCall::SetOp {
             name,
-            op: Text::new(alloc, op)?,
+            op: copies.text(op),
         }),
         SpanEdit::SetStatus(status) => Ok(SpanCall::SetStatus { name, status }),
         SpanEdit::SetRequest(words) => Ok(SpanCall::SetRequest {
             name,
-            request: Boxed::new(alloc, request(alloc, words)?)?,
+            request: Boxed::new(alloc, request(alloc, copies, words))?,
         }),
     }
 }
 
 // The call of an edit of a transaction alone.
 fn edit_of_transaction(
-    alloc: Global,
+    copies: &mut Copies,
     transaction: TransactionKey,
     edit: TransactionEdit<'_>,
-) -> Result<SpanCall, AllocError> {
+) -> SpanCall {
     match edit {
-        TransactionEdit::SetExtra(Entry { key, value }) => Ok(SpanCall::SetExtra {
+        TransactionEdit::SetExtra(Entry { key, value }) => SpanCall::SetExtra {
             transaction,
-            key: Text::new(alloc, key)?,
-            value: text_value(alloc, value)?,
-        }),
-        TransactionEdit::SetOrigin(origin) => Ok(SpanCall::SetOrigin {
+            key: copies.text(key),
+            value: copies.value(value),
+        },
+        TransactionEdit::SetOrigin(origin) => SpanCall::SetOrigin {
             transaction,
-            origin: Text::new(alloc, origin)?,
-        }),
+            origin: copies.text(origin),
+        },
     }
 }
 
 impl<E: Caller> Scenario<E> {
     /// Changes a transaction or a span.
     pub fn edit_span<'a>(&mut self, command: &SpanEditCommand<'_>) -> Result<Answer<'a>, Failure> {
+        let mut copies = Copies::new(self.alloc);
         let call = match command {
             SpanEditCommand::Span { span, edit } => {
-                edit_of_span(self.alloc, span_key(*span), *edit)?
+                edit_of_span(self.alloc, &mut copies, span_key(*span), *edit)?
             }
             SpanEditCommand::Transaction { transaction, edit } => {
-                edit_of_transaction(self.alloc, transaction_key(*transaction), *edit)?
+                edit_of_transaction(&mut copies, transaction_key(*transaction), *edit)
             }
         };
+        let call = copies.finish(call)?;
         self.call_span(call)
     }
 }

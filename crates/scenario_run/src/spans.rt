@@ -1,13 +1,12 @@
 //! What is done with transactions and spans once they have started, and how spans are.
-use crate::answer::{Answer, Reply};
+use crate::answer::Answer;
 use crate::caller::Caller;
+use crate::copies::Copies;
 use crate::fault::Failure;
-use crate::headers::collect_headers;
 use crate::scenario::{Scenario, TAG, hub_key};
-use scenario_commands::spans::{Child, ChildDetails, SpanCommand, SpanName};
+use scenario_commands::spans::{Child, ChildDetails, Question, SpanCommand, SpanName};
 use sentry_base::protocol::{SpanId, SpanKey, TransactionKey, TransactionOrSpanKey};
-use sentry_engine::call::{SpanCall, SpanReply};
-use sentry_plain::Text;
+use sentry_engine::call::SpanCall;
 
 /// The key of the transaction of this number.
 pub fn transaction_key(number: u64) -> TransactionKey {
@@ -28,6 +27,17 @@ pub fn span_key(span: SpanName) -> TransactionOrSpanKey {
     }
 }
 
+// The call that asks a question of a transaction or a span.
+fn call_of(question: Question, span: TransactionOrSpanKey) -> SpanCall {
+    match question {
+        Question::TraceContext => SpanCall::GetTraceContext(span),
+        Question::IsSampled => SpanCall::IsSampled(span),
+        Question::Headers => SpanCall::IterHeaders(span),
+        Question::Status => SpanCall::GetStatus(span),
+        Question::Data => SpanCall::Data(span),
+    }
+}
+
 impl<E: Caller> Scenario<E> {
     /// Does a command on transactions and spans.
     pub fn perform_on_span<'a>(
@@ -38,12 +48,14 @@ impl<E: Caller> Scenario<E> {
             SpanCommand::StartChild(child) => self.start_child(child),
             SpanCommand::Finish { span, hub } => self.finish(*span, *hub),
             SpanCommand::Discard(span) => self.call_span(SpanCall::Discard(span_key(*span))),
-            SpanCommand::TraceContext(span) => self.trace_context(*span),
-            SpanCommand::IsSampled(span) => self.is_sampled(*span),
-            SpanCommand::Headers(span) => self.headers_of_span(*span),
-            SpanCommand::Status(span) => self.status_of_span(*span),
-            SpanCommand::SpanId(number) => self.span_id(*number),
-            SpanCommand::Data(span) => self.data_of_span(*span),
+            SpanCommand::Ask(question, span) => {
+                let span = span_key(*span);
+                self.ask_of_span(span, call_of(*question, span))
+            }
+            SpanCommand::SpanId(number) => {
+                let key = key_of_span(*number);
+                self.ask_of_span(TransactionOrSpanKey::Span(key), SpanCall::GetSpanId(key))
+            }
         }
     }
 
@@ -55,8 +67,9 @@ impl<E: Caller> Scenario<E> {
             description,
         } = *child;
         let parent = span_key(parent);
-        let op = Text::new(self.alloc, op)?;
-        let description = Text::new(self.alloc, description)?;
+        let mut copies = Copies::new(self.alloc);
+        let op = copies.text(op);
+        let description = copies.text(description);
         let fresh = self.fresh();
         let call = match details {
             None => SpanCall::StartChild {
@@ -73,6 +86,7 @@ impl<E: Caller> Scenario<E> {
                 start,
             },
         };
+        let call = copies.finish(call)?;
         self.call_span(call)
     }
 
@@ -91,66 +105,5 @@ impl<E: Caller> Scenario<E> {
             },
         };
         self.call_span(call)
-    }
-
-    fn trace_context<'a>(&mut self, span: SpanName) -> Result<Answer<'a>, Failure> {
-        let span = span_key(span);
-        match self.ask_span(SpanCall::GetTraceContext(span))? {
-            SpanReply::TraceContext(context) => {
-                Ok(Answer::new(self.alloc, Reply::TraceContext { span, context }))
-            }
-            _other => Err(Failure::OtherReply),
-        }
-    }
-
-    fn is_sampled<'a>(&mut self, span: SpanName) -> Result<Answer<'a>, Failure> {
-        let span = span_key(span);
-        match self.ask_span(SpanCall::IsSampled(span))? {
-            SpanReply::Decision(is_sampled) => {
-                Ok(Answer::new(self.alloc, Reply::Sampled { span, is_sampled }))
-            }
-            _other => Err(Failure::OtherReply),
-        }
-    }
-
-    // The headers that pass on the trace of a transaction or a span.
-    fn headers_of_span<'a>(&mut self, span: SpanName) -> Result<Answer<'a>, Failure> {
-        let span = span_key(span);
-        match self.ask_span(SpanCall::IterHeaders(span))? {
-            SpanReply::Headers(headers) => {
-                let headers = collect_headers(self.alloc, headers)?;
-                Ok(Answer::new(self.alloc, Reply::SpanHeaders { span, headers }))
-            }
-            _other => Err(Failure::OtherReply),
-        }
-    }
-
-    fn status_of_span<'a>(&mut self, span: SpanName) -> Result<Answer<'a>, Failure> {
-        let span = span_key(span);
-        match self.ask_span(SpanCall::GetStatus(span))? {
-            SpanReply::Status(status) => {
-                Ok(Answer::new(self.alloc, Reply::Status { span, status }))
-            }
-            _other => Err(Failure::OtherReply),
-        }
-    }
-
-    fn span_id<'a>(&mut self, number: u64) -> Result<Answer<'a>, Failure> {
-        let key = key_of_span(number);
-        match self.ask_span(SpanCall::GetSpanId(key))? {
-            SpanReply::SpanId(id) => {
-                let span = TransactionOrSpanKey::Span(key);
-                Ok(Answer::new(self.alloc, Reply::SpanId { span, id }))
-            }
-            _other => Err(Failure::OtherReply),
-        }
-    }
-
-    fn data_of_span<'a>(&mut self, span: SpanName) -> Result<Answer<'a>, Failure> {
-        let span = span_key(span);
-        match self.ask_span(SpanCall::Data(span))? {
-            SpanReply::Data(values) => { Ok(Answer::new(self.alloc, Reply::Data { span, values })) }
-            _other => Err(Failure::OtherReply),
-        }
     }
 }

@@ -1,6 +1,5 @@
 //! What is answered of texts alone.
 use crate::answer::{Answer, Reply};
-use crate::caller::Caller;
 use crate::fault::Failure;
 use crate::scenario::Scenario;
 use scenario_commands::texts::TextCommand;
@@ -27,7 +26,7 @@ fn scrub<'a>(alloc: Global, text: &str) -> Result<Reply<'a>, Failure> {
     }
 }
 
-impl<E: Caller> Scenario<E> {
+impl<E> Scenario<E> {
     /// Answers what a line asks of a text.
     pub fn read_text<'a>(&self, command: &TextCommand<'a>) -> Result<Answer<'a>, Failure> {
         let reply = match command {

@@ -1,6 +1,7 @@
 //! How transactions are started.
 use crate::answer::Answer;
 use crate::caller::Caller;
+use crate::copies::Copies;
 use crate::fault::Failure;
 use crate::scenario::{Scenario, hub_key};
 use crate::spans::span_key;
@@ -8,7 +9,7 @@ use scenario_commands::spans::SpanName;
 use scenario_commands::transactions::{Origin, TransactionCommand};
 use sentry_base::protocol::Fresh;
 use sentry_engine::call::{SpanCall, SpanReply};
-use sentry_plain::{Boxed, Items, Text};
+use sentry_plain::{Boxed, Items};
 use sentry_trace::performance::TransactionContext;
 use std::alloc::AllocError;
 
@@ -54,29 +55,20 @@ impl<E: Caller> Scenario<E> {
         span: Option<SpanName>,
     ) -> Result<TransactionContext, Failure> {
         let fresh = self.fresh();
-        let name = Text::new(self.alloc, name)?;
-        let op = Text::new(self.alloc, op)?;
+        let mut copies = Copies::new(self.alloc);
+        let name = copies.text(name);
+        let op = copies.text(op);
         let span = span.map(span_key);
-        let reply = self.ask_span(SpanCall::ContinueFromSpan {
+        let call = copies.finish(SpanCall::ContinueFromSpan {
             name,
             op,
             span,
             fresh,
         })?;
-        match reply {
+        match self.ask_span(call)? {
             SpanReply::Context(context) => Ok(context),
             _other => Err(Failure::OtherReply),
         }
-    }
-
-    // A context of a trace of the line's own.
-    fn new_trace(&self, name: &str, op: &str) -> Result<TransactionContext, AllocError> {
-        let Fresh {
-            trace_id,
-            span_id,
-            ..
-        } = self.fresh();
-        TransactionContext::new(self.alloc, name, op, trace_id, span_id)
     }
 
     fn start_new_trace<'a>(
@@ -133,5 +125,17 @@ impl<E: Caller> Scenario<E> {
         let answer = self.start(hub, context)?;
         self.headers = Items::new(self.alloc);
         Ok(answer)
+    }
+}
+
+impl<E> Scenario<E> {
+    // A context of a trace of the line's own.
+    fn new_trace(&self, name: &str, op: &str) -> Result<TransactionContext, AllocError> {
+        let Fresh {
+            trace_id,
+            span_id,
+            ..
+        } = self.fresh();
+        TransactionContext::new(self.alloc, name, op, trace_id, span_id)
     }
 }

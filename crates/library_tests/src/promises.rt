@@ -1,5 +1,4 @@
 //! What a caller of `Engine::run` can promise by a law of whole runs.
-#![tactic(auto)]
 
 ghost use Rattle.std.specs.Prelude.{IfOk};
 ghost use Rattle.sentry_laws.specs.OwnCalls.{IsIsolated};

@@ -1,14 +1,15 @@
 //! Options that no text shows, and their builders.
-use crate::engines::DSN;
-use sentry_core::protocol::Refusal;
-use sentry_core::types::ParseDsnError;
-use sentry_core::{ClientOptions, MaxRequestBodySize};
+use sentry_base::protocol::{ParseDsnError, Refusal};
+use sentry_options::clientoptions::{ClientOptions, MaxRequestBodySize, PlainOptions};
 use sentry_plain::Text;
 use std::alloc::Global;
 use std::test::Fail;
 
-/// The options that are on or off.
-fn switches(options: &ClientOptions) -> [bool; 7] {
+/// Options with a number in the place of callbacks.
+type Options = ClientOptions<u8>;
+
+/// The options that are on or off, and whether there is a DSN.
+fn switches(options: &PlainOptions) -> [bool; 8] {
     [
         options.debug,
         options.attach_stacktrace,
@@ -17,12 +18,13 @@ fn switches(options: &ClientOptions) -> [bool; 7] {
         options.enable_metrics,
         options.accept_invalid_certs,
         options.auto_session_tracking,
+        options.dsn.is_some(),
     ]
 }
 
 /// How long a shutdown may take, how many envelopes may wait, how large a body may be, and how many prefixes of modules
 /// there are.
-fn limits(options: &ClientOptions) -> (u64, usize, MaxRequestBodySize, [usize; 2]) {
+fn limits(options: &PlainOptions) -> (u64, usize, MaxRequestBodySize, [usize; 2]) {
     let capacity = match options.transport_channel_capacity {
         Some(capacity) => capacity.get(),
         None => 0,
@@ -43,7 +45,7 @@ fn text_of(text: Option<&Text>) -> &str {
 }
 
 /// The options that are texts, and the last prefixes of modules; `-` for none.
-fn texts(options: &ClientOptions) -> [&str; 6] {
+fn texts(options: &PlainOptions) -> [&str; 6] {
     [
         text_of(options.release.as_ref()),
         text_of(options.http_proxy.as_ref()),
@@ -56,24 +58,21 @@ fn texts(options: &ClientOptions) -> [&str; 6] {
 
 #[test]
 fn options_of_which_nothing_was_set(rt: HostRuntime) -> Result<(), Fail> {
-    let options = ClientOptions::new(rt.alloc());
-    assert!(rt; options.dsn.is_none());
-    let expected = [false, false, true, true, true, false, false];
-    assert_eq!(rt; switches(&options), expected);
+    let options = Options::with_callbacks(rt.alloc(), 0);
+    let expected = [false, false, true, true, true, false, false, false];
+    assert!(rt; switches(&options.plain) == expected);
     let expected = (2000000000, 0, MaxRequestBodySize::Medium, [0, 0]);
-    assert_eq!(rt; limits(&options), expected);
+    assert!(rt; limits(&options.plain) == expected);
     let expected = ["-", "-", "-", "sentry.rust/0.49.3", "-", "-"];
-    assert_eq!(rt; texts(&options), expected);
-    assert_eq!(rt;
-        options.dsn("").err(),
-        Some(Refusal::InvalidDsn(ParseDsnError::InvalidUrl))
-    );
+    assert!(rt; texts(&options.plain) == expected);
+    let refusal = Refusal::InvalidDsn(ParseDsnError::InvalidUrl);
+    assert!(rt; options.dsn("").err() == Some(refusal));
     Ok(())
 }
 
 /// Options with the switches and limits set.
-fn set_switches(alloc: Global) -> ClientOptions {
-    ClientOptions::new(alloc)
+fn set_switches(alloc: Global) -> Options {
+    Options::with_callbacks(alloc, 0)
         .debug(true)
         .attach_stacktrace(true)
         .default_integrations(false)
@@ -87,9 +86,9 @@ fn set_switches(alloc: Global) -> ClientOptions {
 }
 
 /// Options with all of that set, and the release not taken away.
-fn set_options(alloc: Global) -> Result<ClientOptions, Refusal> {
+fn set_options(alloc: Global) -> Result<Options, Refusal> {
     set_switches(alloc)
-        .dsn(DSN)?
+        .dsn("https://public@sentry.invalid/1")?
         .maybe_release(Some("app@1"))?
         .maybe_release(None)?
         .http_proxy("http://proxy")?
@@ -103,12 +102,11 @@ fn set_options(alloc: Global) -> Result<ClientOptions, Refusal> {
 #[test]
 fn options_are_set(rt: HostRuntime) -> Result<(), Fail> {
     let options = set_options(rt.alloc())?.clone()?;
-    assert!(rt; options.dsn.is_some());
-    let expected = [true, true, false, false, false, true, true];
-    assert_eq!(rt; switches(&options), expected);
+    let expected = [true, true, false, false, false, true, true, true];
+    assert!(rt; switches(&options.plain) == expected);
     // the least capacity is 1
     let expected = (5, 1, MaxRequestBodySize::Always, [2, 1]);
-    assert_eq!(rt; limits(&options), expected);
+    assert!(rt; limits(&options.plain) == expected);
     let expected = [
         "app@1",
         "http://proxy",
@@ -117,6 +115,6 @@ fn options_are_set(rt: HostRuntime) -> Result<(), Fail> {
         "lib",
         "vendored",
     ];
-    assert_eq!(rt; texts(&options), expected);
+    assert!(rt; texts(&options.plain) == expected);
     Ok(())
 }

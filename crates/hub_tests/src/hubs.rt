@@ -1,0 +1,72 @@
+//! The hubs of a thread: guards, closures that are lent them, and a thread beside another.
+use crate::workshop::{boxed_minute, fresh, play, set_tag};
+use sentry_core::protocol::Refusal;
+use sentry_core::{Hub, HubSwitchGuard, Level, ThreadHub};
+use std::sync::Wait;
+use std::test::Fail;
+
+// The number of the current hub under two guards, under one of them, and after both.
+fn switch_twice(thread: &mut ThreadHub, outer: Hub, inner: Hub) -> [u64; 3] {
+    let mut guard = HubSwitchGuard::new(thread, outer);
+    let mut within = HubSwitchGuard::new(guard.thread_hub(), inner);
+    let first = within.thread_hub().current.key().number;
+    drop(within);
+    let second = guard.thread_hub().current.key().number;
+    drop(guard);
+    [first, second, thread.current.key().number]
+}
+
+// Switches to the hub 1, and from that to the hub 2.
+fn switch<R: Wait>(rt: &R, thread: &mut ThreadHub) -> Result<[u64; 3], Refusal> {
+    let outer = Hub::new_from_top(rt, &thread.current)?;
+    let inner = Hub::new_from_top(rt, &outer)?;
+    Ok(switch_twice(thread, outer, inner))
+}
+
+#[test]
+fn guards_restore_the_hub_of_before(rt: HostRuntime) -> Result<(), Fail> {
+    let (current, _sent) = play(&rt, rt.alloc(), switch)?;
+    assert_eq!(rt; current, [2, 1, 0]);
+    Ok(())
+}
+
+// Whether a closure is lent the current hub if that is active; false if it doesn't run.
+fn is_lent<R: Wait>(rt: &R, thread: &mut ThreadHub) -> Result<bool, Refusal> {
+    Hub::with_active(rt, thread, |hub, thread| hub.key() == thread.current.key())
+}
+
+// The same while the hub has a client, and when it has none any more. At last, whether one is lent any hub.
+fn ask<R: Wait>(rt: &R, thread: &mut ThreadHub) -> Result<[bool; 3], Refusal> {
+    let first = is_lent(rt, thread)?;
+    thread.current.bind_client(rt, None)?;
+    let second = is_lent(rt, thread)?;
+    let any = Hub::with(thread, |hub, thread| hub.key() == thread.current.key())?;
+    Ok([first, second, any])
+}
+
+#[test]
+fn closures_are_lent_an_active_hub(rt: HostRuntime) -> Result<(), Fail> {
+    let (are_lent, _sent) = play(&rt, rt.alloc(), ask)?;
+    assert_eq!(rt; are_lent, [true, false, true]);
+    Ok(())
+}
+
+// Sends a message in a thread whose current hub is made from the top of this one's main hub. Answers the numbers of its
+// hubs.
+fn send_beside<R: Wait>(rt: &R, thread: &mut ThreadHub) -> Result<[u64; 2], Refusal> {
+    set_tag(rt, &thread.main, "a", "1")?;
+    let clock = boxed_minute(thread.main.core().allocator())?;
+    let beside = ThreadHub::from_main(rt, Hub::main(thread)?, clock, [4; 32])?;
+    beside
+        .current
+        .capture_message(rt, "beside", Level::Info, fresh(1))?;
+    Ok([beside.main.key().number, beside.current.key().number])
+}
+
+#[test]
+fn a_thread_beside_another_has_a_hub_of_its_own(rt: HostRuntime) -> Result<(), Fail> {
+    let (numbers, sent) = play(&rt, rt.alloc(), send_beside)?;
+    assert_eq!(rt; numbers, [0, 1]);
+    assert_eq!(rt; sent.as_str(), "; event 1 Info at 1 beside a=1");
+    Ok(())
+}
