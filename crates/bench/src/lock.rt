@@ -1,4 +1,4 @@
-//! Messages by an engine alone, and by a client of one under its lock. Each is an event under a scope with a tag, and the
+//! Messages by an engine alone, and by a client of one under its lock. Each is an event under a scope with a tag. The
 //! transport drops the envelopes.
 use sentry_core::engine::Engine;
 use sentry_core::protocol::{Draw, Event, Fresh, Label, Refusal, SpanId, TraceId, Uuid};

@@ -84,8 +84,7 @@ fn number_at(words: &[String], place: usize, otherwise: u64) -> Option<u64> {
 }
 
 impl Size {
-    /// The numbers that stand after the names of the program and the loop: of turns, of threads, else one, and of drains,
-    /// else none.
+    /// The numbers after the names of the program and the loop: turns, threads (else one) and drains (else none).
     pub fn read(words: &[String]) -> Option<Size> {
         if words.len() < 3 || words.len() > 5 {
             return None;

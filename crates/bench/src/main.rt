@@ -1,7 +1,7 @@
 //! The loops that the scripts of `bench/` time, and `tests/memory_use` watches, from outside.
 //!
-//! Arguments: `LOOP TURNS [THREADS [DRAINS]]`, where `loops.rt` names the loops. It prints how many of the turns did what
-//! they were to do. Without arguments it runs each loop for a few turns. With other words it tells what it takes, and ends
+//! Arguments: `LOOP TURNS [THREADS [DRAINS]]`, where `loops.rt` names the loops. It prints how many turns did what they
+//! were to do. Without arguments it runs each loop for a few turns. With other words it tells what it takes, and ends
 //! with status 2.
 #![tactic(auto)]
 

@@ -49,6 +49,16 @@ fn work<R: Wait>(rt: &R, job: Job, messages: u64) -> Result<u64, Refusal> {
     make_turns(rt, &mut thread, HubTurn::Message, messages)
 }
 
+fn send_in_threads<R: Threads + Wait + Sync>(
+    rt: &R,
+    main: &Hub,
+    messages: u64,
+    threads: u64,
+) -> Result<u64, Refusal> {
+    let jobs = make_jobs(main, threads)?;
+    sum(map_vec(rt, jobs, &|job: Job| work(rt, job, messages))?)
+}
+
 /// Sends so many messages in each thread, on a hub of its own, and answers how many were sent.
 pub fn send_by_hubs<R: Threads + Wait + Sync>(
     rt: &R,
@@ -61,8 +71,7 @@ pub fn send_by_hubs<R: Threads + Wait + Sync>(
     };
     let transport: BoxedTransport = transport;
     let main = open_hub(rt, alloc, transport)?;
-    let jobs = make_jobs(&main, threads)?;
-    sum(map_vec(rt, jobs, &|job: Job| work(rt, job, messages))?)
+    send_in_threads(rt, &main, messages, threads)
 }
 
 fn shares(

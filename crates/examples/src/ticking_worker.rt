@@ -103,14 +103,20 @@ impl Seen {
     // A line for each job: how many of its logs came once.
     fn print(&self, rt: &impl Print) -> io::Result<()> {
         for (job, steps) in self.jobs.iter().enumerate() {
-            let once = steps
-                .iter()
-                .filter(|count| count.load(Ordering::SeqCst) == 1)
-                .count();
-            println!(rt; "job {job}: {once} logs")?;
+            println!(rt; "job {job}: {} logs", count_ones(steps.as_slice()))?;
         }
         Ok(())
     }
+}
+
+fn count_ones(counts: &[AtomicU64]) -> usize {
+    let mut ones = 0usize;
+    for count in counts {
+        if count.load(Ordering::SeqCst) == 1 {
+            ones = ones.saturating_add(1);
+        }
+    }
+    ones
 }
 
 impl Transport for Seen {

@@ -1,5 +1,5 @@
 //! The forms in which breadcrumbs are added.
-use crate::workshop::{at, fresh, play};
+use crate::workshop::{Bench, at, fresh};
 use sentry_core::protocol::Refusal;
 use sentry_core::{Breadcrumb, Hub, Level, ThreadHub};
 use std::alloc::{AllocError, Global};
@@ -46,10 +46,12 @@ fn leave_trail<R: Wait>(
 
 #[test]
 fn breadcrumbs_are_added_in_each_form(rt: HostRuntime) -> Result<(), Fail> {
-    let (starved, sent) = play(&rt, rt.alloc(), leave_trail)?;
-    // without a client no breadcrumb is made
-    assert_eq!(rt; starved, [Err(Refusal::OutOfMemory), Ok(())]);
+    let mut bench = Bench::new(&rt, rt.alloc())?;
+    let starved = leave_trail(&rt, &mut bench.thread)?;
+    let sent = bench.finish(&rt)?;
     let expected = "; event 6 Error at 6 boom after 1 after 2 after 3 after 4 after 5";
-    assert_eq!(rt; sent.as_str(), expected);
+    // without a client no breadcrumb is made
+    let refused = [Err(Refusal::OutOfMemory), Ok(())];
+    assert_eq!(rt; (starved, sent.as_str()), (refused, expected));
     Ok(())
 }

@@ -1,6 +1,6 @@
 //! The functions on the current hub of a thread.
 use crate::breadcrumbs::two_breadcrumbs;
-use crate::workshop::{Minute, SEED, at, fresh, id, play};
+use crate::workshop::{Bench, Minute, SEED, at, fresh, id};
 use sentry_core::protocol::{ErrorLink, Event, Refusal, SessionStatus, SpanId, TraceId, Uuid};
 use sentry_core::{
     Generator, Hub, Level, ThreadHub, Transaction, TransactionContext, add_breadcrumb,
@@ -157,13 +157,23 @@ fn what_is_sent(alloc: Global, drawn: [Uuid; 9]) -> Result<String, AllocError> {
 
 #[test]
 fn functions_act_on_the_current_hub(rt: HostRuntime) -> Result<(), Fail> {
-    let ((ids, findings), sent) = play(&rt, rt.alloc(), act)?;
+    let mut bench = Bench::new(&rt, rt.alloc())?;
+    let found = act(&rt, &mut bench.thread)?;
+    let sent = bench.finish(&rt)?;
     let drawn = draw_ids()?;
     let [_, boom, odd, within, ..] = drawn;
-    let refused = Err(Refusal::OutOfMemory);
-    assert_eq!(rt; ids, ([id(1), boom, odd], Some(odd), within, refused));
-    assert_eq!(rt; findings, (true, (true, true), (true, true)));
-    assert_eq!(rt; sent.as_str(), what_is_sent(rt.alloc(), drawn)?.as_str());
+    let ids = (
+        [id(1), boom, odd],
+        Some(odd),
+        within,
+        Err(Refusal::OutOfMemory),
+    );
+    let findings = (true, (true, true), (true, true));
+    let expected = what_is_sent(rt.alloc(), drawn)?;
+    assert_eq!(rt;
+        (found, sent.as_str()),
+        ((ids, findings), expected.as_str())
+    );
     Ok(())
 }
 
@@ -179,11 +189,14 @@ fn act_closed<R: Wait>(rt: &R, thread: &mut ThreadHub) -> Result<(Ids, Findings)
 
 #[test]
 fn functions_do_nothing_where_the_client_is_closed(rt: HostRuntime) -> Result<(), Fail> {
-    let ((ids, findings), sent) = play(&rt, rt.alloc(), act_closed)?;
-    let nil = Uuid::nil();
+    let mut bench = Bench::new(&rt, rt.alloc())?;
+    let found = act_closed(&rt, &mut bench.thread)?;
+    let sent = bench.finish(&rt)?;
     // both callbacks of scopes run, without a layer
-    assert_eq!(rt; ids, ([nil; 3], Some(id(9)), nil, Ok(nil)));
-    assert_eq!(rt; findings, (false, (false, false), (false, false)));
-    assert_eq!(rt; sent.as_str(), "; event 9 Info at 9 last");
+    let nil = Uuid::nil();
+    let ids = ([nil; 3], Some(id(9)), nil, Ok(nil));
+    let findings = (false, (false, false), (false, false));
+    let expected = "; event 9 Info at 9 last";
+    assert_eq!(rt; (found, sent.as_str()), ((ids, findings), expected));
     Ok(())
 }

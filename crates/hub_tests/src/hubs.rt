@@ -1,5 +1,5 @@
 //! The hubs of a thread: guards, closures that are lent them, and a thread beside another.
-use crate::workshop::{boxed_minute, fresh, play, set_tag};
+use crate::workshop::{Bench, boxed_minute, fresh, set_tag};
 use sentry_core::protocol::Refusal;
 use sentry_core::{Hub, HubSwitchGuard, Level, ThreadHub};
 use std::sync::Wait;
@@ -25,7 +25,9 @@ fn switch<R: Wait>(rt: &R, thread: &mut ThreadHub) -> Result<[u64; 3], Refusal> 
 
 #[test]
 fn guards_restore_the_hub_of_before(rt: HostRuntime) -> Result<(), Fail> {
-    let (current, _sent) = play(&rt, rt.alloc(), switch)?;
+    let mut bench = Bench::new(&rt, rt.alloc())?;
+    let current = switch(&rt, &mut bench.thread)?;
+    drop(bench);
     assert_eq!(rt; current, [2, 1, 0]);
     Ok(())
 }
@@ -46,7 +48,9 @@ fn ask<R: Wait>(rt: &R, thread: &mut ThreadHub) -> Result<[bool; 3], Refusal> {
 
 #[test]
 fn closures_are_lent_an_active_hub(rt: HostRuntime) -> Result<(), Fail> {
-    let (are_lent, _sent) = play(&rt, rt.alloc(), ask)?;
+    let mut bench = Bench::new(&rt, rt.alloc())?;
+    let are_lent = ask(&rt, &mut bench.thread)?;
+    drop(bench);
     assert_eq!(rt; are_lent, [true, false, true]);
     Ok(())
 }
@@ -65,8 +69,10 @@ fn send_beside<R: Wait>(rt: &R, thread: &mut ThreadHub) -> Result<[u64; 2], Refu
 
 #[test]
 fn a_thread_beside_another_has_a_hub_of_its_own(rt: HostRuntime) -> Result<(), Fail> {
-    let (numbers, sent) = play(&rt, rt.alloc(), send_beside)?;
-    assert_eq!(rt; numbers, [0, 1]);
-    assert_eq!(rt; sent.as_str(), "; event 1 Info at 1 beside a=1");
+    let mut bench = Bench::new(&rt, rt.alloc())?;
+    let numbers = send_beside(&rt, &mut bench.thread)?;
+    let sent = bench.finish(&rt)?;
+    let expected = "; event 1 Info at 1 beside a=1";
+    assert_eq!(rt; (numbers, sent.as_str()), ([0, 1], expected));
     Ok(())
 }

@@ -1,5 +1,5 @@
 //! Integrations that are lent to closures.
-use crate::workshop::{id, play};
+use crate::workshop::{Bench, id};
 use sentry_core::protocol::{Event, Refusal};
 use sentry_core::{BoxedIntegration, Integration, PlainOptions, ThreadHub, with_integration};
 use std::alloc::{AllocError, Global};
@@ -77,7 +77,9 @@ fn ask<R: Wait>(rt: &R, thread: &mut ThreadHub) -> Result<[(u64, u64); 2], Refus
 
 #[test]
 fn the_first_integration_of_a_name_is_lent(rt: HostRuntime) -> Result<(), Fail> {
-    let (added, _sent) = play(&rt, rt.alloc(), ask)?;
+    let mut bench = Bench::new(&rt, rt.alloc())?;
+    let added = ask(&rt, &mut bench.thread)?;
+    drop(bench);
     assert_eq!(rt; added, [(5, 5), (0, 0)]);
     Ok(())
 }

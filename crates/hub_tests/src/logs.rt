@@ -1,5 +1,5 @@
 //! The macros for logs, and metrics that are captured on the current hub.
-use crate::workshop::{at, play};
+use crate::workshop::{Bench, at};
 use sentry_core::metrics::{CaptureMetric, counter, distribution, gauge};
 use sentry_core::protocol::{LogLevel, Refusal};
 use sentry_core::{
@@ -40,7 +40,9 @@ fn log_all<R: Wait>(rt: &R, thread: &mut ThreadHub) -> Result<(), Refusal> {
 
 #[test]
 fn macros_make_logs(rt: HostRuntime) -> Result<(), Fail> {
-    let (_done, sent) = play(&rt, rt.alloc(), log_all)?;
+    let mut bench = Bench::new(&rt, rt.alloc())?;
+    log_all(&rt, &mut bench.thread)?;
+    let sent = bench.finish(&rt)?;
     let expected =
         "; log Info at 3 n 7 sentry.message.parameter.0=7 sentry.message.template='n {}' \
         log Error at 4 3 lamps of oak is_open=true sentry.message.parameter.0=3 \
@@ -61,7 +63,9 @@ fn measure<R: Wait>(rt: &R, thread: &mut ThreadHub) -> Result<(), Refusal> {
 
 #[test]
 fn metrics_are_captured_on_the_current_hub(rt: HostRuntime) -> Result<(), Fail> {
-    let (_done, sent) = play(&rt, rt.alloc(), measure)?;
+    let mut bench = Bench::new(&rt, rt.alloc())?;
+    measure(&rt, &mut bench.thread)?;
+    let sent = bench.finish(&rt)?;
     let expected = "; Counter orders=1 at 60 Gauge load=2 at 60 Distribution size=3 at 60";
     assert_eq!(rt; sent.as_str(), expected);
     Ok(())

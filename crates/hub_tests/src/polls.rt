@@ -1,5 +1,5 @@
 //! Futures that are bound to hubs.
-use crate::workshop::{fresh, play, set_tag};
+use crate::workshop::{Bench, fresh, set_tag};
 use futures::executor::block_on;
 use futures::task::{Context, Poll};
 use sentry_core::protocol::Refusal;
@@ -50,10 +50,11 @@ fn run_bound<R: Wait + RandomSource + AllocGlobal + Copy + Drop>(
 
 #[test]
 fn a_future_is_polled_under_its_hub(rt: HostRuntime) -> Result<(), Fail> {
-    let (answer, sent) = play(&rt, rt.alloc(), run_bound)?;
-    assert_eq!(rt; answer, Some(5));
+    let mut bench = Bench::new(&rt, rt.alloc())?;
+    let answer = run_bound(&rt, &mut bench.thread)?;
+    let sent = bench.finish(&rt)?;
     let expected =
         "; event 1 Info at 1 polled b=2; event 1 Info at 1 polled b=2; event 2 Info at 2 later";
-    assert_eq!(rt; sent.as_str(), expected);
+    assert_eq!(rt; (answer, sent.as_str()), (Some(5), expected));
     Ok(())
 }

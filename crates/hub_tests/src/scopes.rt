@@ -1,5 +1,5 @@
 //! Scopes that closures configure.
-use crate::workshop::{at, fresh, play, set_tag};
+use crate::workshop::{Bench, at, fresh, set_tag};
 use sentry_core::protocol::{Refusal, Uuid};
 use sentry_core::{Hub, Level, ThreadHub};
 use std::sync::Wait;
@@ -28,9 +28,10 @@ fn send_both<R: Wait>(rt: &R, thread: &mut ThreadHub) -> Result<(bool, bool), Re
 
 #[test]
 fn scopes_are_configured_by_closures(rt: HostRuntime) -> Result<(), Fail> {
-    let (had_none, sent) = play(&rt, rt.alloc(), send_both)?;
-    assert_eq!(rt; had_none, (true, false));
+    let mut bench = Bench::new(&rt, rt.alloc())?;
+    let had_none = send_both(&rt, &mut bench.thread)?;
+    let sent = bench.finish(&rt)?;
     let expected = "; event 1 Info at 1 within a=1 b=2; event 2 Info at 2 later a=1 c=3";
-    assert_eq!(rt; sent.as_str(), expected);
+    assert_eq!(rt; (had_none, sent.as_str()), ((true, false), expected));
     Ok(())
 }

@@ -1,5 +1,5 @@
 //! The data of transactions and spans as closures are lent it, and values of which some are equal.
-use crate::workshop::{fresh, play};
+use crate::workshop::{Bench, fresh};
 use sentry_core::protocol::{Refusal, SpanId, TraceId, Value};
 use sentry_core::{Span, ThreadHub, Transaction, TransactionContext, TransactionOrSpan};
 use std::alloc::AllocError;
@@ -67,11 +67,12 @@ fn trace<R: Wait>(rt: &R, thread: &mut ThreadHub) -> Result<Found, Refusal> {
 
 #[test]
 fn data_is_lent_as_a_copy_with_its_setters(rt: HostRuntime) -> Result<(), Fail> {
-    let ((edited, compared), sent) = play(&rt, rt.alloc(), trace)?;
-    // a finished transaction has no data, a finished span keeps its own
-    assert_eq!(rt; edited, [(0, false), (1, true), (0, true)]);
-    assert_eq!(rt; compared, (true, false));
+    let mut bench = Bench::new(&rt, rt.alloc())?;
+    let found = trace(&rt, &mut bench.thread)?;
+    let sent = bench.finish(&rt)?;
     let expected = "; transaction 1 since 1 until 60 os=linux, span until 60 db=old";
-    assert_eq!(rt; sent.as_str(), expected);
+    // a finished transaction has no data, a finished span keeps its own
+    let edited = [(0, false), (1, true), (0, true)];
+    assert_eq!(rt; (found, sent.as_str()), ((edited, (true, false)), expected));
     Ok(())
 }

@@ -1,7 +1,7 @@
 //! Hubs in threads, and a worker.
 use crate::workshop::{LOOKS, Sink, add_client, add_hub, at, fresh, new_sink};
 use sentry_core::protocol::Refusal;
-use sentry_core::{Client, Envelope, Hub, Level, SharedCore, TickClock, Worker};
+use sentry_core::{Client, Envelope, Hub, Level, TickClock, Worker};
 use std::alloc::{AllocError, Global};
 use std::sync::atomic::{AtomicU64, Ordering};
 use std::sync::{Arc, Wait};
@@ -45,12 +45,12 @@ fn make_jobs(alloc: Global, hub: Hub, other: Hub) -> Result<Vec<Job>, AllocError
 // Sends these messages on a hub and on one from its top.
 fn send_two_hundred<R: Threads + Wait + Sync>(
     rt: &R,
-    core: &SharedCore,
+    alloc: Global,
     sink: &Sink,
 ) -> Result<(), Refusal> {
-    let (_client, hub) = add_hub(rt, core, sink)?;
+    let (_client, hub) = add_hub(rt, alloc, sink)?;
     let other = Hub::new_from_top(rt, &hub)?;
-    send_in_threads(rt, make_jobs(core.allocator(), hub, other)?)
+    send_in_threads(rt, make_jobs(alloc, hub, other)?)
 }
 
 // Whether each id from 1 to 200 is that of an envelope.
@@ -69,7 +69,7 @@ fn has_each_id(envelopes: &[Envelope]) -> bool {
 fn two_threads_hand_over_each_message_once(rt: HostRuntime) -> Result<(), Fail> {
     let alloc: Global = rt.alloc();
     let sink = new_sink(alloc)?;
-    send_two_hundred(&rt, &SharedCore::new(alloc, 1)?, &sink)?;
+    send_two_hundred(&rt, alloc, &sink)?;
     let envelopes = sink.take(alloc);
     assert_eq!(rt; envelopes.len(), 200);
     assert!(rt; has_each_id(envelopes.as_slice()));
@@ -135,10 +135,9 @@ fn count_moments<R: Threads + Wait + Copy + Send + 'static>(
 // The same of a client that is held, and then of it once it is dropped.
 fn count_twice<R: Threads + Wait + Copy + Send + 'static>(
     rt: R,
-    core: &SharedCore,
-    sink: &Sink,
+    alloc: Global,
 ) -> Result<(u64, u64), Refusal> {
-    let client = add_client(&rt, core, sink)?;
+    let client = add_client(&rt, alloc, &new_sink(alloc)?)?;
     let held = count_moments(rt, client.clone()?)?;
     client.drop_client(&rt)?;
     let gone = count_moments(rt, client)?;
@@ -147,9 +146,6 @@ fn count_twice<R: Threads + Wait + Copy + Send + 'static>(
 
 #[test]
 fn a_worker_ends_at_the_first_tick_of_a_client_that_is_gone(rt: HostRuntime) -> Result<(), Fail> {
-    let alloc: Global = rt.alloc();
-    let sink = new_sink(alloc)?;
-    let moments = count_twice(rt, &SharedCore::new(alloc, 1)?, &sink)?;
-    assert_eq!(rt; moments, (3, 1));
+    assert_eq!(rt; count_twice(rt, rt.alloc())?, (3, 1));
     Ok(())
 }

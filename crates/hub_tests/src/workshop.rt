@@ -70,26 +70,22 @@ fn boxed_share(alloc: Global, sink: &Sink) -> Result<BoxedTransport, AllocError>
 }
 
 /// A client that sends to the sink, from the first second on.
-pub(crate) fn add_client<R: Wait>(
-    rt: &R,
-    core: &SharedCore,
-    sink: &Sink,
-) -> Result<Client, Refusal> {
-    let alloc = core.allocator();
+pub(crate) fn add_client<R: Wait>(rt: &R, alloc: Global, sink: &Sink) -> Result<Client, Refusal> {
+    let core = SharedCore::new(alloc, 5)?;
     let setup = core.client_setup(rt, options(alloc)?)?;
     let transport = boxed_share(alloc, sink)?;
-    Client::with_options(rt, core, setup, Some(transport), at(1))
+    Client::with_options(rt, &core, setup, Some(transport), at(1))
 }
 
 /// Such a client, and a hub with it, whose scope sets nothing.
 pub(crate) fn add_hub<R: Wait>(
     rt: &R,
-    core: &SharedCore,
+    alloc: Global,
     sink: &Sink,
 ) -> Result<(Client, Hub), Refusal> {
-    let client = add_client(rt, core, sink)?;
-    let scope = Scope::new(core.allocator(), TraceId([7; 16]), SpanId([8; 8]));
-    let hub = Hub::new(rt, core, Some(&client), scope)?;
+    let client = add_client(rt, alloc, sink)?;
+    let scope = Scope::new(alloc, TraceId([7; 16]), SpanId([8; 8]));
+    let hub = Hub::new(rt, client.core(), Some(&client), scope)?;
     Ok((client, hub))
 }
 
@@ -112,21 +108,45 @@ pub(crate) fn boxed_minute(alloc: Global) -> Result<BoxedClock, AllocError> {
 /// What a thread draws from.
 pub(crate) const SEED: [u8; 32] = [3; 32];
 
-/// What this answers when it is done on the hubs of a thread, and what is sent then, as a text. The main and current hub
-/// is the hub 0, whose client is flushed at the end.
-pub(crate) fn play<R: Wait, A: Drop, F: FnOnce(&R, &mut ThreadHub) -> Result<A, Refusal> + Drop>(
-    rt: &R,
+/// A client, the hubs of a thread whose main and current hub is its hub 0, and what the client sends to.
+pub(crate) struct Bench {
     alloc: Global,
-    act: F,
-) -> Result<(A, String), Refusal>
-    requires { F.IsAlwaysCallable act }
-{
-    let sink = new_sink(alloc)?;
-    let (client, hub) = add_hub(rt, &SharedCore::new(alloc, 5)?, &sink)?;
-    let mut thread = ThreadHub::new(hub, boxed_minute(alloc)?, SEED)?;
-    let answer = act(rt, &mut thread)?;
-    client.flush(rt, None)?;
-    Ok((answer, sketch(alloc, sink.take(alloc).as_slice())?))
+    sink: Sink,
+    client: Client,
+    pub(crate) thread: ThreadHub,
+}
+
+impl Drop for Bench {
+    fn drop(self) {
+        let Bench {
+            alloc: _,
+            sink: _,
+            client: _,
+            thread: _,
+        } = self;
+    }
+}
+
+impl Bench {
+    /// Nothing is sent yet.
+    pub(crate) fn new<R: Wait>(rt: &R, alloc: Global) -> Result<Bench, Refusal> {
+        let sink = new_sink(alloc)?;
+        let (client, hub) = add_hub(rt, alloc, &sink)?;
+        let thread = ThreadHub::new(hub, boxed_minute(alloc)?, SEED)?;
+        Ok(Bench {
+            alloc,
+            sink,
+            client,
+            thread,
+        })
+    }
+
+    /// What is sent until the client is flushed, as a text.
+    pub(crate) fn finish<R: Wait>(self, rt: &R) -> Result<String, Refusal> {
+        self.client.flush(rt, None)?;
+        let sent = self.sink.take(self.alloc);
+        Ok(sketch(self.alloc, sent.as_slice())?)
+    }
 }
 
 /// Sets a tag by a closure, which answers whether the copy of the scope that it is lent has no tags.
