@@ -1,7 +1,7 @@
 //! Losses: calls succeed with enough memory, a drain finds what was recorded before it, and threads lose nothing.
 use sentry_base::protocol::{CATEGORIES, Category, Label, LossSource, Losses, Reason, Refusal};
 use sentry_client_reports::client_reports::{
-    CountedDrainer, Drainer, LossWords, Recorder, TransportLossReason,
+    CountedDrainer, Drainer, LossBook, LossWords, Recorder, TransportLossReason,
 };
 use std::alloc::Global;
 use std::test::Fail;
@@ -46,6 +46,14 @@ fn finds_each(recorder: &mut Recorder, drainer: &mut Drainer) -> bool {
     all
 }
 
+/// Whether a book gives a report of what it absorbed, once.
+fn is_reported_once(alloc: Global, losses: &Losses) -> Result<bool, Refusal> {
+    let mut book = LossBook::new();
+    book.absorb(losses);
+    let is_reported = book.take_report(alloc)?.is_some();
+    Ok(is_reported && book.take_report(alloc)?.is_none())
+}
+
 #[test]
 fn a_drain_finds_what_was_recorded_since_the_last(rt: HostRuntime) -> Result<(), Fail> {
     let (mut recorder, mut drainer) = LossWords::new(rt.alloc(), LABEL)?;
@@ -56,6 +64,7 @@ fn a_drain_finds_what_was_recorded_since_the_last(rt: HostRuntime) -> Result<(),
     recorder.record_lost_data(&lost(Category::Error, 1), TransportLossReason::NetworkError);
     let finds_one = finds(&mut recorder, &mut drainer, lost(Category::Error, 1));
     assert!(rt; finds_five && finds_one);
+    assert!(rt; is_reported_once(rt.alloc(), &most.losses(Reason::NetworkError))?);
     Ok(())
 }
 

@@ -39,8 +39,8 @@ pub(crate) fn boxed_adds(
     Ok(callback)
 }
 
-/// Gives the options its DSN, or none. Multiplies the event's moment by its factor; without a factor it drops the event.
-/// By 0 it is refused its memory, but for the event of `add_client`, which alone has the nil id.
+/// Gives the options its DSN, or none. Multiplies the event's moment by its factor; without a factor it drops the
+/// event. By 0 it is refused its memory, but for the event of `add_client`, which alone has the nil id.
 #[derive(Drop)]
 struct Multiplies {
     factor: Option<u64>,

@@ -68,8 +68,8 @@ fn scope_of(alloc: Global, plan: &Plan) -> Result<Scope, Refusal> {
     Ok(scope)
 }
 
-/// What an event at moment 1 comes to: the id answered; the moment and the level of the only event of the only envelope,
-/// if that is all, and how many tags it has; and the hub's last event id, if it is captured on a hub.
+/// What an event at moment 1 comes to: the id answered; the moment and the level of the only event of the only
+/// envelope, if that is all, and how many tags it has; and the hub's last event id, if it is captured on a hub.
 type Outcome = (Uuid, Option<(u64, Level, usize)>, Option<Uuid>);
 
 fn outcome(out: &Out<Uuid>, last: Option<Uuid>) -> Outcome {
@@ -150,8 +150,8 @@ fn nothing_runs_after_a_callback_that_drops(rt: HostRuntime) -> Result<(), Fail>
     Ok(())
 }
 
-/// Options with a callback that keeps breadcrumbs until a moment, one that hides units of metrics, and a sampler of this
-/// rate.
+/// Options with a callback that keeps breadcrumbs until a moment, one that hides units of metrics, and a sampler of
+/// this rate.
 fn other_options(alloc: Global, until: u64, rate: u32) -> Result<ClientOptions, Refusal> {
     let options = ClientOptions::from_dsn(alloc, DSN)?;
     let options = options.before_breadcrumb(boxed_keeps_until(alloc, until)?)?;

@@ -182,8 +182,8 @@ child t18446744073709551614 o x
 child t18446744073709551614 o x
 ";
 
-/// Where no client is held, none is found for a hub. Nothing gets a second number. The session that stands stays where a
-/// second one is refused.
+/// Where no client is held, none is found for a hub. Nothing gets a second number. The session that stands stays where
+/// a second one is refused.
 const USED_UP: &str = "refused E2
 refused E9
 refused E9
