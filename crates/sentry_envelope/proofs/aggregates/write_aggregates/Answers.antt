@@ -1,0 +1,18 @@
+use Rattle.std.proofs.Common.{ap}
+use Rattle.json.specs.Json.{array}
+use Rattle.sentry_framing.specs.Json.{items_of}
+use Rattle.sentry_envelope.specs.Aggregates.{counts_json}
+use Rattle.sentry_envelope.specs.Sessions.{attributes_json}
+use Rattle.sentry_framing.proofs.Written.{made, puts, same_json, then}
+use Rattle.sentry_envelope.proofs.aggregates.write_aggregates.Goals as goal
+
+pub returns : goal.returns
+returns c =
+    let counts =
+    puts (array (items_of counts_json c.args.aggregates.now.aggregates)) c.in_ok-key.ensures
+    (same_json (array (items_of counts_json c.as_slice.result.now)) c.in_ok-write_count_list.ensures
+    (ap (λ xs. array (items_of counts_json xs)) c.as_slice.ensures)) in
+    made c.in_ok-begin_object.ensures
+    (then counts
+    (puts (attributes_json c.args.aggregates.now.attributes) c.in_ok-key-2.ensures c.in_ok-write_attributes.ensures))
+    c.in_ok-end_object.ensures

@@ -1,0 +1,24 @@
+-- Maps and lists as members of objects.
+use Rattle.std.specs.Prelude.{List, [], ◌∷◌}
+use Rattle.json.specs.Json.{Json, array, object, Members, no_members, member}
+use Rattle.sentry_plain.specs.Texts.{Bytes}
+use Rattle.sentry_framing.specs.Json.{items_of}
+
+-- a member for each entry, before others
+abbrev pub put_entries : {X : Type 0} → (X → Json) → List (Bytes × X) → Members → Members
+put_entries to_json [] rest = rest
+put_entries to_json (e ∷ es) rest = member e.0 (to_json e.1) (put_entries to_json es rest)
+
+-- a map as an object
+abbrev pub map_json : {X : Type 0} → (X → Json) → List (Bytes × X) → Json
+map_json to_json es = object (put_entries to_json es no_members)
+
+-- a map, if it has entries
+abbrev pub put_map : {X : Type 0} → (X → Json) → Bytes → List (Bytes × X) → Members → Members
+put_map to_json key [] rest = rest
+put_map to_json key (e ∷ es) rest = member key (map_json to_json (e ∷ es)) rest
+
+-- a list, if it has items
+abbrev pub put_items : {X : Type 0} → (X → Json) → Bytes → List X → Members → Members
+put_items to_json key [] rest = rest
+put_items to_json key (x ∷ xs) rest = member key (array (items_of to_json (x ∷ xs))) rest

@@ -1,0 +1,38 @@
+//! Users.
+ghost use Rattle.std.specs.Prelude.{◌≡◌, OnOk, codes};
+ghost use Rattle.json.specs.Tree.{json_tokens};
+ghost use Rattle.sentry_framing.specs.Json.{Adds, Puts, optional};
+ghost use Rattle.sentry_envelope.specs.Users.{user_json};
+
+use crate::collections::put_entries;
+use crate::texts::put_optional;
+use json::Writer;
+use sentry_base::protocol::User;
+use std::alloc::AllocError;
+
+fn write_user(out: &mut Writer, user: &User) -> Result<(), AllocError>
+    ensures { OnOk result (Adds out.old out.new (json_tokens (user_json user.now))) }
+{
+    out.begin_object()?;
+    put_optional(out, "id", &user.id)?;
+    put_optional(out, "email", &user.email)?;
+    put_optional(out, "ip_address", &user.ip_address)?;
+    put_optional(out, "username", &user.username)?;
+    put_entries(out, &user.data_)?;
+    out.end_object()?;
+    Ok(())
+}
+
+/// Writes a user, if there is one.
+pub fn put_user(out: &mut Writer, user: &Option<User>) -> Result<(), AllocError>
+    ensures { OnOk result (Puts out.old out.new (optional user_json (codes "user") user.now)) }
+{
+    match user {
+        None => Ok(()),
+        Some(user) => {
+            out.key("user")?;
+            write_user(out, user)?;
+            Ok(())
+        }
+    }
+}

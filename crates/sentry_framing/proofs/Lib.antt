@@ -1,0 +1,11 @@
+pub mod OneLine
+pub mod Received
+pub mod Headed
+pub mod Written
+pub mod Dates
+pub mod Decimals
+pub mod Lists
+pub mod SendingLemmas
+pub mod Parts
+pub mod Denoted
+pub mod Contents

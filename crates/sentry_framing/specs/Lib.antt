@@ -1,0 +1,9 @@
+pub mod Json
+pub mod Lines
+pub mod Receiver
+pub mod Raw
+pub mod Content
+pub mod Headers
+pub mod Calendar
+pub mod Moments
+pub mod Sending

@@ -1,0 +1,6 @@
+mod DigitLemmas
+mod EndLemmas
+mod NameLemmas
+mod PutLemmas
+mod UsageLemmas
+mod WholeLemmas
