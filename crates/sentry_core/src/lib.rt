@@ -5,57 +5,134 @@
 mod boxed;
 pub mod client_report;
 pub mod engine;
+pub mod envelope;
+mod init;
 pub mod laws;
 pub mod logger;
 mod macros;
 pub mod metrics;
 pub mod queueing;
+mod system;
 pub mod types;
 pub mod utils;
 
-pub use boxed::{
-    Client, ClientCallbacks, ClientOptions, ClientSetup, Core, Generator, Hub, HubSwitchGuard,
-    Scope, ScopeEdit, ScopeEdits, Seed, SentryFuture, SharedCore, Span, Stack, StackLayer,
-    ThreadHub, Transaction, TransactionOrSpan, UnderLock,
-};
-pub use sentry_base::callbacks::{
-    BoxedBreadcrumbCallback, BoxedEventCallback, BoxedLogCallback, BoxedMetricCallback,
-    BreadcrumbCallback, EventCallback, LogCallback, MetricCallback,
-};
+pub use boxed::Client;
+pub use boxed::ClientCallbacks;
+pub use boxed::ClientOptions;
+pub use boxed::ClientSetup;
+pub use boxed::Core;
+pub use boxed::Generator;
+pub use boxed::Hub;
+pub use boxed::HubSwitchGuard;
+pub use boxed::Locked;
+pub use boxed::Scope;
+pub use boxed::ScopeEdit;
+pub use boxed::ScopeEdits;
+pub use boxed::Seed;
+pub use boxed::SentryFuture;
+pub use boxed::SharedCore;
+pub use boxed::Span;
+pub use boxed::Stack;
+pub use boxed::StackLayer;
+pub use boxed::ThreadHub;
+pub use boxed::Transaction;
+pub use boxed::TransactionOrSpan;
+pub use boxed::UnderLock;
+pub use init::ClientInitGuard;
+pub use init::start;
+pub use sentry_base::callbacks::BoxedBreadcrumbCallback;
+pub use sentry_base::callbacks::BoxedEventCallback;
+pub use sentry_base::callbacks::BoxedLogCallback;
+pub use sentry_base::callbacks::BoxedMetricCallback;
+pub use sentry_base::callbacks::BreadcrumbCallback;
+pub use sentry_base::callbacks::EventCallback;
+pub use sentry_base::callbacks::LogCallback;
+pub use sentry_base::callbacks::MetricCallback;
 pub use sentry_base::protocol;
-pub use sentry_base::protocol::{Breadcrumb, Envelope, Level, User};
+pub use sentry_base::protocol::Breadcrumb;
+pub use sentry_base::protocol::Envelope;
+pub use sentry_base::protocol::Level;
+pub use sentry_base::protocol::User;
 pub use sentry_batches::batcher::Batch;
-pub use sentry_clock::{BoxedClock, BoxedTickClock, Clock, TickClock};
+pub use sentry_clock::BoxedClock;
+pub use sentry_clock::BoxedTickClock;
+pub use sentry_clock::Clock;
+pub use sentry_clock::TickClock;
 pub use sentry_engine::engine::ScopeGuard;
-pub use sentry_hub::api::{
-    add_breadcrumb, capture_error, capture_event, capture_message, configure_scope, end_session,
-    end_session_with_status, last_event_id, start_session, start_transaction,
-    start_transaction_with_timestamp, with_integration, with_scope,
-};
+pub use sentry_environment as environments;
+pub use sentry_environment::environment::EnvironmentError;
+pub use sentry_environment::environment::FromEnv;
+pub use sentry_hub as hubs;
+pub use sentry_hub::api::add_breadcrumb;
+pub use sentry_hub::api::capture_error;
+pub use sentry_hub::api::capture_event;
+pub use sentry_hub::api::capture_message;
+pub use sentry_hub::api::configure_scope;
+pub use sentry_hub::api::continue_from_headers;
+pub use sentry_hub::api::end_session;
+pub use sentry_hub::api::end_session_with_status;
+pub use sentry_hub::api::last_event_id;
+pub use sentry_hub::api::start_session;
+pub use sentry_hub::api::start_transaction;
+pub use sentry_hub::api::start_transaction_with_timestamp;
+pub use sentry_hub::api::transaction_context;
+pub use sentry_hub::api::with_integration;
+pub use sentry_hub::api::with_scope;
 pub use sentry_hub::breadcrumbs::IntoBreadcrumbs;
+pub use sentry_hub::errors::IntoErrorLinks;
+pub use sentry_hub::errors::link_of;
+pub use sentry_hub::hub::PopScopeError;
 pub use sentry_hub::hub::WithScopeError;
-pub use sentry_hub::performance::{Data, TransactionData};
+pub use sentry_hub::performance::Data;
+pub use sentry_hub::performance::TransactionData;
+pub use sentry_hub::scoped::in_new_hub;
+pub use sentry_hub::scoped::in_scope;
+pub use sentry_hub::scoped::in_span;
+pub use sentry_hub::scoped::in_transaction;
 pub use sentry_hub::worker::Worker;
-pub use sentry_lock::transport::{
-    BoxedTransport, NoOpTransport, Transport, TransportFactory, TransportOptions,
-};
-pub use sentry_options::clientoptions::{
-    EventSamplingStrategy, MaxRequestBodySize, PlainOptions, SessionMode, TracesSamplingStrategy,
-    UserAgent,
-};
-pub use sentry_options::integration::{BoxedIntegration, Integration};
-pub use sentry_options::sampler::{BoxedTracesSampler, TracesSampler};
-pub use sentry_plain::{Boxed, Items, Shared, Text, TextMap};
+pub use sentry_lock as locks;
+pub use sentry_lock::core_lock::BoxedGate;
+pub use sentry_lock::core_lock::CoreGuard;
+pub use sentry_lock::core_lock::Gate;
+pub use sentry_lock::core_lock::Waiting;
+pub use sentry_lock::scope_edits::IntoSpanKey;
+pub use sentry_lock::transport::BoxedTransport;
+pub use sentry_lock::transport::NoOpTransport;
+pub use sentry_lock::transport::Transport;
+pub use sentry_lock::transport::TransportFactory;
+pub use sentry_lock::transport::TransportOptions;
+pub use sentry_options::clientoptions::EventSamplingStrategy;
+pub use sentry_options::clientoptions::MaxRequestBodySize;
+pub use sentry_options::clientoptions::PlainOptions;
+pub use sentry_options::clientoptions::SessionMode;
+pub use sentry_options::clientoptions::TracesSamplingStrategy;
+pub use sentry_options::clientoptions::UserAgent;
+pub use sentry_options::integration::BoxedIntegration;
+pub use sentry_options::integration::Integration;
+pub use sentry_options::sampler::BoxedTracesSampler;
+pub use sentry_options::sampler::TracesSampler;
+pub use sentry_plain::Boxed;
+pub use sentry_plain::Items;
+pub use sentry_plain::Shared;
+pub use sentry_plain::Text;
+pub use sentry_plain::TextMap;
 pub use sentry_send_envelopes::send_envelopes::SendEnvelopes;
-pub use sentry_sessions::session::{Session, SessionQueue};
+pub use sentry_sessions::session::Session;
+pub use sentry_sessions::session::SessionQueue;
 pub use sentry_span_table::table::SpanTable;
 pub use sentry_texts::dsn::IntoDsn;
-pub use sentry_texts::utils::{event_from_error, parse_type_from_debug};
-pub use sentry_thread_hub::hub_future::{HubFuture, SentryFutureExt};
-pub use sentry_trace::headers::{
-    HeaderParseError, SentryTrace, TraceHeader, TraceHeadersIter, TracePropagationContext,
-    parse_headers,
-};
-pub use sentry_trace::performance::{
-    CustomTransactionContext, TransactionContext, TransactionContextBuilder,
-};
+pub use sentry_texts::utils::event_from_error;
+pub use sentry_texts::utils::parse_type_from_debug;
+pub use sentry_thread_hub::hub_future::HubFuture;
+pub use sentry_thread_hub::hub_future::SentryFutureExt;
+pub use sentry_trace::headers::HeaderParseError;
+pub use sentry_trace::headers::SentryTrace;
+pub use sentry_trace::headers::TraceHeader;
+pub use sentry_trace::headers::TraceHeadersIter;
+pub use sentry_trace::headers::TracePropagationContext;
+pub use sentry_trace::headers::parse_headers;
+pub use sentry_trace::performance::CustomTransactionContext;
+pub use sentry_trace::performance::TransactionContext;
+pub use sentry_trace::performance::TransactionContextBuilder;
+pub use system::SystemClock;
+pub use system::draw_seed;

@@ -1,51 +1,48 @@
 //! Functions on the current hub of a thread. They act only if that hub is active: its client is enabled. Moments, ids and
-//! draws are the thread's.
+//! draws are the thread's, and are asked for only then.
+//!
+//! Most hold the lock of the core once, in which they look whether the hub is active and make the call. Meanwhile the clock
+//! and the generator of the thread are asked, and breadcrumbs are made: none of these may make a call on the core, which
+//! would wait for itself. Closures run without the lock, and so do the methods of an error.
 ghost use Rattle.std.specs.Prelude.{◌≡◌, IfOk};
+ghost use Rattle.std.specs.Iterator.{IsFiniteIterable};
 
 use crate::breadcrumbs::IntoBreadcrumbs;
+use crate::errors::IntoErrorLinks;
 use crate::hub::{Hub, WithScopeError};
 use crate::performance::Transaction;
 use rand_core::Rng;
 use sentry_base::callbacks::{BreadcrumbCallback, EventCallback, LogCallback, MetricCallback};
-use sentry_base::protocol::{
-    ErrorLink, Event, Fresh, Level, Refusal, SessionStatus, SpanId, TraceId, Uuid,
-};
+use sentry_base::protocol::{Event, Fresh, Level, Refusal, SessionStatus, SpanId, TraceId, Uuid};
 use sentry_clock::Clock;
+use sentry_engine::engine::ScopeGuard;
+use sentry_lock::core_lock::CoreLock;
 use sentry_lock::scope_edits::ScopeEdits;
-use sentry_lock::transport::Transport;
 use sentry_options::clientoptions::{Callbacks, ClientCallbacks};
 use sentry_options::integration::Integration;
 use sentry_options::sampler::TracesSampler;
+use sentry_plain::Boxed;
 use sentry_scope::scope::Scope;
 use sentry_thread_hub::hub_switch_guard::run_under;
 use sentry_thread_hub::thread_hub::ThreadHub;
 use sentry_trace::performance::TransactionContext;
 use std::alloc::AllocError;
-use std::sync::Wait;
 
-// What `with_scope` works on: the current hub, whether it is active, and the hub once more, which is current while the
-// callback runs.
-#[derive(Drop)]
-struct Entered<P, C, T> {
-    hub: Hub<P, C, T>,
-    is_active: bool,
-    same: Hub<P, C, T>,
+// What `with_scope` works on: the current hub, the guard of the layer that was pushed onto it with a copy of its scope,
+// unless the hub isn't active, and the hub once more, which is current while the callback runs.
+struct Entered<L: CoreLock> {
+    hub: Hub<L>,
+    layer: Option<(ScopeGuard, Boxed<Scope<L::Processor>>)>,
+    same: Hub<L>,
 }
 
-fn enter<R: Wait, P: EventCallback + Drop, C: Callbacks, T: Transport + Drop, K, G>(
-    rt: &R,
-    thread: &ThreadHub<Hub<P, C, T>, K, G>,
-) -> Result<Entered<P, C, T>, Refusal>
+fn enter<L: CoreLock, K, G>(thread: &ThreadHub<Hub<L>, K, G>) -> Result<Entered<L>, Refusal>
     ensures { IfOk result (λ entered. (entered.hub ≡ thread.now.current) × (entered.same ≡ thread.now.current)) }
 {
     let hub = Hub::current(thread)?;
     let same = Hub::current(thread)?;
-    let is_active = hub.is_active(rt)?;
-    Ok(Entered {
-        hub,
-        is_active,
-        same,
-    })
+    let layer = hub.push_active()?;
+    Ok(Entered { hub, layer, same })
 }
 
 // A refusal before anything was done.
@@ -58,127 +55,166 @@ fn refuse<A>(refusal: Refusal) -> WithScopeError<A> {
 }
 
 // A hub with one layer that has no client, on the core of another one.
-fn hub_without_client<R: Wait, P: EventCallback + Drop, C: Callbacks, T: Transport + Drop>(
-    rt: &R,
-    other: &Hub<P, C, T>,
+fn hub_without_client<L: CoreLock>(
+    other: &Hub<L>,
     trace_id: TraceId,
     span_id: SpanId,
-) -> Result<Hub<P, C, T>, Refusal> {
+) -> Result<Hub<L>, Refusal> {
     let scope = Scope::new(other.core().allocator(), trace_id, span_id);
-    Hub::without_client(rt, other.core(), scope)
+    Hub::without_client(other.core(), scope)
 }
 
 // Starts a transaction on a hub without a client, which is then given back. If that is refused, the hub stays, which has
 // nothing to send.
-fn start_without_client<R: Wait, P: EventCallback + Drop, C: Callbacks, T: Transport + Drop>(
-    rt: &R,
-    other: &Hub<P, C, T>,
+fn start_without_client<L: CoreLock>(
+    other: &Hub<L>,
     context: TransactionContext,
     fresh: Fresh,
-) -> Result<Transaction<P, C, T>, Refusal> {
+) -> Result<Transaction<L>, Refusal> {
     let now = fresh.now;
-    let hub = hub_without_client(rt, other, fresh.trace_id, fresh.span_id)?;
-    let started = hub.start_transaction(rt, context, fresh);
-    drop(hub.release_at(rt, now));
+    let hub = hub_without_client(other, fresh.trace_id, fresh.span_id)?;
+    let started = hub.start_transaction(context, fresh);
+    drop(hub.release_at(now));
     started
 }
 
 // The same with a start in nanoseconds since the epoch.
-fn start_without_client_at<R: Wait, P: EventCallback + Drop, C: Callbacks, T: Transport + Drop>(
-    rt: &R,
-    other: &Hub<P, C, T>,
+fn start_without_client_at<L: CoreLock>(
+    other: &Hub<L>,
     context: TransactionContext,
     start: u64,
     fresh: Fresh,
-) -> Result<Transaction<P, C, T>, Refusal> {
+) -> Result<Transaction<L>, Refusal> {
     let now = fresh.now;
-    let hub = hub_without_client(rt, other, fresh.trace_id, fresh.span_id)?;
-    let started = hub.start_transaction_with_timestamp(rt, context, start, fresh);
-    drop(hub.release_at(rt, now));
+    let hub = hub_without_client(other, fresh.trace_id, fresh.span_id)?;
+    let started = hub.start_transaction_with_timestamp(context, start, fresh);
+    drop(hub.release_at(now));
     started
 }
 
 /// Captures an event. Its id is the answer; the nil id if it was not sent.
 ///
 /// `Stale`: the hub isn't held. `OutOfMemory`.
-pub fn capture_event<
-    R: Wait,
-    P: EventCallback + Drop,
-    C: Callbacks,
-    T: Transport + Drop,
-    K: Clock,
-    G: Rng,
->(rt: &R, thread: &mut ThreadHub<Hub<P, C, T>, K, G>, event: Event) -> Result<Uuid, Refusal>
+pub fn capture_event<L: CoreLock, K: Clock, G: Rng>(
+    thread: &mut ThreadHub<Hub<L>, K, G>,
+    event: Event,
+) -> Result<Uuid, Refusal>
     ensures main { thread.new.main ≡ thread.old.main }
     ensures current { thread.new.current ≡ thread.old.current }
 {
-    match Hub::active(rt, thread)? {
-        None => Ok(Uuid::nil()),
-        Some(hub) => hub.capture_event(rt, event, thread.fresh()),
-    }
+    let hub = Hub::current(thread)?;
+    let Some(active) = hub.lock_active()? else {
+        return Ok(Uuid::nil());
+    };
+    active.capture_event(event, thread.fresh())
 }
 
 /// Captures a message. Its id is the answer; the nil id if it was not sent.
 ///
 /// `Stale`: the hub isn't held. `OutOfMemory`.
-pub fn capture_message<
-    R: Wait,
-    P: EventCallback + Drop,
-    C: Callbacks,
-    T: Transport + Drop,
-    K: Clock,
-    G: Rng,
->(
-    rt: &R,
-    thread: &mut ThreadHub<Hub<P, C, T>, K, G>,
+pub fn capture_message<L: CoreLock, K: Clock, G: Rng>(
+    thread: &mut ThreadHub<Hub<L>, K, G>,
     message: &str,
     level: Level,
 ) -> Result<Uuid, Refusal>
     ensures main { thread.new.main ≡ thread.old.main }
     ensures current { thread.new.current ≡ thread.old.current }
 {
-    match Hub::active(rt, thread)? {
-        None => Ok(Uuid::nil()),
-        Some(hub) => hub.capture_message(rt, message, level, thread.fresh()),
-    }
+    let hub = Hub::current(thread)?;
+    let Some(active) = hub.lock_active()? else {
+        return Ok(Uuid::nil());
+    };
+    active.capture_message(message, level, thread.fresh())
 }
 
-/// Captures an error by its links, outermost first. Its id is the answer; the nil id if it was not sent.
+/// Captures an error, an error and its causes, or the links of one, outermost first. Its id is the answer; the nil id if
+/// it was not sent.
 ///
 /// `Stale`: the hub isn't held. `OutOfMemory`.
-pub fn capture_error<
-    R: Wait,
-    P: EventCallback + Drop,
-    C: Callbacks,
-    T: Transport + Drop,
-    K: Clock,
-    G: Rng,
->(rt: &R, thread: &mut ThreadHub<Hub<P, C, T>, K, G>, links: &[ErrorLink]) -> Result<Uuid, Refusal>
+pub fn capture_error<L: CoreLock, K: Clock, G: Rng, E: IntoErrorLinks>(
+    thread: &mut ThreadHub<Hub<L>, K, G>,
+    error: E,
+) -> Result<Uuid, Refusal>
     ensures main { thread.new.main ≡ thread.old.main }
     ensures current { thread.new.current ≡ thread.old.current }
 {
-    match Hub::active(rt, thread)? {
-        None => Ok(Uuid::nil()),
-        Some(hub) => hub.capture_error(rt, links, thread.fresh()),
+    let hub = Hub::current(thread)?;
+    if !hub.is_active()? {
+        return Ok(Uuid::nil());
     }
+    let links = error.into_error_links(hub.core().allocator())?;
+    let Some(active) = hub.lock_active()? else {
+        return Ok(Uuid::nil());
+    };
+    active.capture_error(links.as_slice(), thread.fresh())
 }
 
-/// Adds breadcrumbs to the trail.
+/// The context of a transaction of this name and operation, whose ids are drawn.
+///
+/// An allocation may fail.
+pub fn transaction_context<L: CoreLock, K: Clock, G: Rng>(
+    thread: &mut ThreadHub<Hub<L>, K, G>,
+    name: &str,
+    op: &str,
+) -> Result<TransactionContext, Refusal>
+    ensures main { thread.new.main ≡ thread.old.main }
+    ensures current { thread.new.current ≡ thread.old.current }
+{
+    let Fresh {
+        trace_id,
+        span_id,
+        ..
+    } = thread.fresh();
+    let alloc = thread.current.core().allocator();
+    Ok(TransactionContext::new(alloc, name, op, trace_id, span_id)?)
+}
+
+/// The same, which continues the trace that a list of headers says, if it says one.
+///
+/// An allocation may fail.
+pub fn continue_from_headers<
+    'a,
+    L: CoreLock,
+    K: Clock,
+    G: Rng,
+    I: IntoIterator<Item = (&'a str, &'a str)>,
+>(
+    thread: &mut ThreadHub<Hub<L>, K, G>,
+    name: &str,
+    op: &str,
+    headers: I,
+) -> Result<TransactionContext, Refusal>
+    requires { IsFiniteIterable I.into_iter_gives I.IntoIter.can_next I.IntoIter.remaining headers }
+    ensures main { thread.new.main ≡ thread.old.main }
+    ensures current { thread.new.current ≡ thread.old.current }
+{
+    let Fresh {
+        trace_id,
+        span_id,
+        ..
+    } = thread.fresh();
+    let alloc = thread.current.core().allocator();
+    Ok(TransactionContext::continue_from_headers(alloc, name, op, headers, trace_id, span_id)?)
+}
+
+/// Adds breadcrumbs to the trail: one, none or one, a list, or a category and a message, whose moment is that of the
+/// thread's clock.
 ///
 /// `Stale`: the hub isn't held. `OutOfMemory`.
-pub fn add_breadcrumb<
-    R: Wait,
-    P: EventCallback + Drop,
-    C: Callbacks,
-    T: Transport + Drop,
-    K,
-    G,
-    B: IntoBreadcrumbs,
->(rt: &R, thread: &ThreadHub<Hub<P, C, T>, K, G>, breadcrumb: B) -> Result<(), Refusal> {
-    match Hub::active(rt, thread)? {
-        None => Ok(()),
-        Some(hub) => hub.add_breadcrumb(rt, breadcrumb),
-    }
+pub fn add_breadcrumb<L: CoreLock, K: Clock, G, B: IntoBreadcrumbs>(
+    thread: &mut ThreadHub<Hub<L>, K, G>,
+    breadcrumb: B,
+) -> Result<(), Refusal>
+    ensures main { thread.new.main ≡ thread.old.main }
+    ensures current { thread.new.current ≡ thread.old.current }
+{
+    let hub = Hub::current(thread)?;
+    let Some(active) = hub.lock_active()? else {
+        return Ok(());
+    };
+    let alloc = hub.core().allocator();
+    let breadcrumbs = breadcrumb.into_breadcrumbs(alloc, &mut thread.clock)?;
+    active.add_breadcrumbs(breadcrumbs)
 }
 
 /// Makes the calls of setters that a closure makes on the scope of the top layer. The closure runs without the lock, and is
@@ -187,23 +223,22 @@ pub fn add_breadcrumb<
 /// `Stale`: the hub isn't held, or a span that is set isn't. `OutOfMemory`, also where the closure answers it: then no
 /// setter is called.
 pub fn configure_scope<
-    R: Wait,
-    P: EventCallback + Drop,
-    C: Callbacks,
-    T: Transport + Drop,
+    L: CoreLock,
     K: Clock,
     G,
     A: Default + Drop,
-    F: FnOnce(&mut ScopeEdits<P>) -> Result<A, AllocError> + Drop,
->(rt: &R, thread: &mut ThreadHub<Hub<P, C, T>, K, G>, configure: F) -> Result<A, Refusal>
+    F: FnOnce(&mut ScopeEdits<L::Processor>) -> Result<A, AllocError> + Drop,
+>(thread: &mut ThreadHub<Hub<L>, K, G>, configure: F) -> Result<A, Refusal>
     requires { F.IsAlwaysCallable configure }
     ensures main { thread.new.main ≡ thread.old.main }
     ensures current { thread.new.current ≡ thread.old.current }
 {
-    match Hub::active(rt, thread)? {
-        None => Ok(A::default()),
-        Some(hub) => hub.configure_scope(rt, thread.clock.now(), configure),
-    }
+    let hub = Hub::current(thread)?;
+    let Some(active) = hub.lock_active()? else {
+        return Ok(A::default());
+    };
+    let scope = active.scope()?;
+    hub.configure_copy(scope, thread.clock.now(), configure)
 }
 
 /// Runs the callback, which is lent the hubs of the thread, while a layer stands on top whose scope is a copy of the one
@@ -214,70 +249,55 @@ pub fn configure_scope<
 /// `Hub::configure_scope`. Where the layer can't be removed, the refusal of `Hub::pop_scope` and the guard: `OutOfOrder`,
 /// if the callback left a layer on it, `OutOfMemory`.
 pub fn with_scope<
-    R: Wait,
-    P: EventCallback + Drop,
-    C: Callbacks,
-    T: Transport + Drop,
+    L: CoreLock,
     K: Clock + Drop,
     G: Drop,
     A,
     B: Drop,
-    F: FnOnce(&mut ScopeEdits<P>) -> Result<B, AllocError> + Drop,
-    M: FnOnce(&mut ThreadHub<Hub<P, C, T>, K, G>) -> A + Drop,
->(
-    rt: &R,
-    thread: &mut ThreadHub<Hub<P, C, T>, K, G>,
-    configure: F,
-    callback: M,
-) -> Result<A, WithScopeError<A>>
+    F: FnOnce(&mut ScopeEdits<L::Processor>) -> Result<B, AllocError> + Drop,
+    M: FnOnce(&mut ThreadHub<Hub<L>, K, G>) -> A + Drop,
+>(thread: &mut ThreadHub<Hub<L>, K, G>, configure: F, callback: M) -> Result<A, WithScopeError<A>>
     requires configure { F.IsAlwaysCallable configure }
     requires callback { M.IsAlwaysCallable callback }
     ensures { thread.new.current ≡ thread.old.current }
 {
-    let entered = match enter(rt, thread) {
+    let entered = match enter(thread) {
         Ok(entered) => entered,
         Err(refusal) => return Err(refuse(refusal)),
     };
-    let Entered {
-        hub,
-        is_active,
-        same,
-    } = entered;
-    if !is_active {
+    let Entered { hub, layer, same } = entered;
+    let Some((guard, scope)) = layer else {
         return Ok(run_under(thread, same, callback));
-    }
-    let guard = hub.enter_scope(rt, thread.clock.now(), configure)?;
+    };
+    let guard = hub.configure_layer(guard, scope, thread.clock.now(), configure)?;
     let answer = run_under(thread, same, callback);
-    hub.leave_scope(rt, guard, answer, thread.clock.now())
+    hub.leave_scope(guard, answer, thread.clock.now())
 }
 
 /// Lends the closure the first integration of this name that the client of the current hub has, and the hub. Without
 /// such an integration the closure does not run, and the answer is the default of its type. It runs without the lock.
 ///
 /// `Stale`: the hub isn't held. `OutOfMemory`.
-pub fn with_integration<R, P, E, I, B, L, M, S, T, K, G, A, F>(
-    rt: &R,
-    thread: &ThreadHub<Hub<P, ClientCallbacks<E, I, B, L, M, S>, T>, K, G>,
+pub fn with_integration<L, E, I, B, W, M, S, K, G, A, F>(
+    thread: &ThreadHub<Hub<L>, K, G>,
     name: &str,
     callback: F,
 ) -> Result<A, Refusal>
 where
-    R: Wait,
-    P: EventCallback + Drop,
+    L: CoreLock<Callbacks = ClientCallbacks<E, I, B, W, M, S>>,
     E: EventCallback + Drop,
     I: Integration + Drop,
     B: BreadcrumbCallback + Drop,
-    L: LogCallback + Drop,
+    W: LogCallback + Drop,
     M: MetricCallback + Drop,
     S: TracesSampler + Drop,
-    T: Transport + Drop,
     A: Default,
-    F: FnOnce(&I, &Hub<P, ClientCallbacks<E, I, B, L, M, S>, T>) -> A + Drop,
+    F: FnOnce(&I, &Hub<L>) -> A + Drop,
     requires { F.IsAlwaysCallable callback }
 {
-    match Hub::active(rt, thread)? {
+    match Hub::active(thread)? {
         None => Ok(A::default()),
-        Some(hub) => match hub.integration(rt, name)? {
+        Some(hub) => match hub.integration(name)? {
             None => Ok(A::default()),
             Some(integration) => Ok(callback(integration.get(), &hub)),
         },
@@ -288,118 +308,99 @@ where
 /// `None` if there was none.
 ///
 /// `Stale`: the hub isn't held. `OutOfMemory`.
-pub fn last_event_id<R: Wait, P: EventCallback + Drop, C: Callbacks, T: Transport + Drop, K, G>(
-    rt: &R,
-    thread: &ThreadHub<Hub<P, C, T>, K, G>,
+pub fn last_event_id<L: CoreLock, K, G>(
+    thread: &ThreadHub<Hub<L>, K, G>,
 ) -> Result<Option<Uuid>, Refusal> {
-    thread.current.last_event_id(rt)
+    thread.current.last_event_id()
 }
 
 /// Starts a session.
 ///
 /// `Stale`: the hub isn't held. `Full`: the numbers are used up. `OutOfMemory`.
-pub fn start_session<
-    R: Wait,
-    P: EventCallback + Drop,
-    C: Callbacks,
-    T: Transport + Drop,
-    K: Clock,
-    G: Rng,
->(rt: &R, thread: &mut ThreadHub<Hub<P, C, T>, K, G>) -> Result<(), Refusal>
+pub fn start_session<L: CoreLock, K: Clock, G: Rng>(
+    thread: &mut ThreadHub<Hub<L>, K, G>,
+) -> Result<(), Refusal>
     ensures main { thread.new.main ≡ thread.old.main }
     ensures current { thread.new.current ≡ thread.old.current }
 {
-    match Hub::active(rt, thread)? {
-        None => Ok(()),
-        Some(hub) => hub.start_session(rt, thread.fresh()),
-    }
+    let hub = Hub::current(thread)?;
+    let Some(active) = hub.lock_active()? else {
+        return Ok(());
+    };
+    active.start_session(thread.fresh())
 }
 
 /// Ends the session, if there is one, as exited.
 ///
 /// `Stale`: the hub isn't held. `OutOfMemory`.
-pub fn end_session<
-    R: Wait,
-    P: EventCallback + Drop,
-    C: Callbacks,
-    T: Transport + Drop,
-    K: Clock,
-    G,
->(rt: &R, thread: &mut ThreadHub<Hub<P, C, T>, K, G>) -> Result<(), Refusal>
+pub fn end_session<L: CoreLock, K: Clock, G>(
+    thread: &mut ThreadHub<Hub<L>, K, G>,
+) -> Result<(), Refusal>
     ensures main { thread.new.main ≡ thread.old.main }
     ensures current { thread.new.current ≡ thread.old.current }
 {
-    end_session_with_status(rt, thread, SessionStatus::Exited)
+    end_session_with_status(thread, SessionStatus::Exited)
 }
 
 /// Ends the session, if there is one, with a status.
 ///
 /// `Stale`: the hub isn't held. `OutOfMemory`.
-pub fn end_session_with_status<
-    R: Wait,
-    P: EventCallback + Drop,
-    C: Callbacks,
-    T: Transport + Drop,
-    K: Clock,
-    G,
->(rt: &R, thread: &mut ThreadHub<Hub<P, C, T>, K, G>, status: SessionStatus) -> Result<(), Refusal>
+pub fn end_session_with_status<L: CoreLock, K: Clock, G>(
+    thread: &mut ThreadHub<Hub<L>, K, G>,
+    status: SessionStatus,
+) -> Result<(), Refusal>
     ensures main { thread.new.main ≡ thread.old.main }
     ensures current { thread.new.current ≡ thread.old.current }
 {
-    match Hub::active(rt, thread)? {
-        None => Ok(()),
-        Some(hub) => hub.end_session_with_status(rt, status, thread.clock.now()),
-    }
+    let hub = Hub::current(thread)?;
+    let Some(active) = hub.lock_active()? else {
+        return Ok(());
+    };
+    active.end_session_with_status(status, thread.clock.now())
 }
 
 /// Starts a transaction under the client of the current hub, or without a client if the hub isn't active: then it is
 /// finished from the start.
 ///
 /// `Stale`: the hub isn't held. `Full`: the numbers are used up. `OutOfMemory`.
-pub fn start_transaction<
-    R: Wait,
-    P: EventCallback + Drop,
-    C: Callbacks,
-    T: Transport + Drop,
-    K: Clock,
-    G: Rng,
->(
-    rt: &R,
-    thread: &mut ThreadHub<Hub<P, C, T>, K, G>,
+pub fn start_transaction<L: CoreLock, K: Clock, G: Rng>(
+    thread: &mut ThreadHub<Hub<L>, K, G>,
     context: TransactionContext,
-) -> Result<Transaction<P, C, T>, Refusal>
+) -> Result<Transaction<L>, Refusal>
     ensures main { thread.new.main ≡ thread.old.main }
     ensures current { thread.new.current ≡ thread.old.current }
 {
     let fresh = thread.fresh();
-    match Hub::active(rt, thread)? {
-        None => start_without_client(rt, &thread.current, context, fresh),
-        Some(hub) => hub.start_transaction(rt, context, fresh),
+    let hub = &thread.current;
+    let share = hub.core().clone()?;
+    match hub.lock_active()? {
+        None => start_without_client(hub, context, fresh),
+        Some(active) => {
+            let key = active.start_transaction(context, fresh)?;
+            Ok(Transaction::of_key(share, key))
+        }
     }
 }
 
 /// The same as `start_transaction`, with a start in nanoseconds since the epoch.
 ///
 /// `Stale`: the hub isn't held. `Full`: the numbers are used up. `OutOfMemory`.
-pub fn start_transaction_with_timestamp<
-    R: Wait,
-    P: EventCallback + Drop,
-    C: Callbacks,
-    T: Transport + Drop,
-    K: Clock,
-    G: Rng,
->(
-    rt: &R,
-    thread: &mut ThreadHub<Hub<P, C, T>, K, G>,
+pub fn start_transaction_with_timestamp<L: CoreLock, K: Clock, G: Rng>(
+    thread: &mut ThreadHub<Hub<L>, K, G>,
     context: TransactionContext,
     start: u64,
-) -> Result<Transaction<P, C, T>, Refusal>
+) -> Result<Transaction<L>, Refusal>
     ensures main { thread.new.main ≡ thread.old.main }
     ensures current { thread.new.current ≡ thread.old.current }
 {
     let fresh = thread.fresh();
-    match Hub::active(rt, thread)? {
-        None => start_without_client_at(rt, &thread.current, context, start, fresh),
-        Some(hub) => hub.start_transaction_with_timestamp(rt, context, start, fresh),
+    let hub = &thread.current;
+    let share = hub.core().clone()?;
+    match hub.lock_active()? {
+        None => start_without_client_at(hub, context, start, fresh),
+        Some(active) => {
+            let key = active.start_transaction_with_timestamp(context, start, fresh)?;
+            Ok(Transaction::of_key(share, key))
+        }
     }
 }

@@ -7,36 +7,32 @@ mod integrations;
 mod scopes;
 mod threads;
 
-pub use scopes::WithScopeError;
-use sentry_base::callbacks::EventCallback;
+pub use scopes::{PopScopeError, WithScopeError};
 use sentry_base::protocol::{HubKey, Refusal};
-use sentry_engine::call::{Call, HubCall, Reply};
 use sentry_lock::client::Client;
+use sentry_lock::core_lock::CoreLock;
+use sentry_lock::direct::LockedHub;
 use sentry_lock::shared_core::SharedCore;
-use sentry_lock::transport::Transport;
-use sentry_options::clientoptions::Callbacks;
-use sentry_plain::Boxed;
 use sentry_scope::scope::Scope;
 use sentry_thread_hub::thread_hub::MakeFromTop;
-use std::alloc::AllocError;
+use std::alloc::{AllocError, Global};
 use std::marker::Model;
-use std::sync::Wait;
 
 /// A hub, by its key and a share of the core that holds it. A clone of the value is the same hub. Contracts see the key.
 ///
 /// A hub is held until it is released: that the values of it are dropped does not release it.
-pub struct Hub<P, C, T> {
-    core: SharedCore<P, C, T>,
+pub struct Hub<L> {
+    core: SharedCore<L>,
     key: HubKey,
 }
 
-impl<P: Drop, C: Drop, T: Drop> Drop for Hub<P, C, T> {
+impl<L: Drop> Drop for Hub<L> {
     fn drop(self) {
         let Hub { core: _, key: _ } = self;
     }
 }
 
-impl<P, C, T> Model for Hub<P, C, T> {
+impl<L> Model for Hub<L> {
     ghost use Rattle.sentry_base.specs.declared.protocol.keys.HubKey.{HubKey};
 
     ghost Value = { HubKey };
@@ -44,10 +40,10 @@ impl<P, C, T> Model for Hub<P, C, T> {
     ghost view = { λ hub. hub.key };
 }
 
-impl<P: Drop, C: Drop, T: Drop> Clone for Hub<P, C, T> {
+impl<L: Drop> Clone for Hub<L> {
     ghost is_clone = { λ old new. new ≡ old };
 
-    fn clone(&self) -> Result<Hub<P, C, T>, AllocError> {
+    fn clone(&self) -> Result<Hub<L>, AllocError> {
         Ok(Hub {
             core: self.core.clone()?,
             key: self.key,
@@ -55,54 +51,41 @@ impl<P: Drop, C: Drop, T: Drop> Clone for Hub<P, C, T> {
     }
 }
 
-impl<P: EventCallback + Drop, C: Callbacks, T: Transport + Drop> Hub<P, C, T> {
+impl<L: CoreLock> Hub<L> {
     /// A hub with one layer, of a client or none and a scope.
     ///
     /// `Stale`: the client isn't held, or the span of the scope isn't. `Full`: the numbers are used up. `OutOfMemory`.
-    pub fn new<R: Wait>(
-        rt: &R,
-        core: &SharedCore<P, C, T>,
-        client: Option<&Client<P, C, T>>,
-        scope: Scope<P>,
-    ) -> Result<Hub<P, C, T>, Refusal> {
-        let scope = Boxed::new(core.allocator(), scope)?;
+    pub fn new(
+        core: &SharedCore<L>,
+        client: Option<&Client<L>>,
+        scope: Scope<L::Processor>,
+    ) -> Result<Hub<L>, Refusal> {
         let client = match client {
             None => None,
             Some(client) => Some(client.key()),
         };
-        Hub::made_by(rt, core, HubCall::NewHub { client, scope })
+        let share = core.clone()?;
+        let key = core.new_hub(client, scope)?;
+        Ok(Hub { core: share, key })
     }
 
     // A hub with one layer, of no client and a scope.
-    pub(crate) fn without_client<R: Wait>(
-        rt: &R,
-        core: &SharedCore<P, C, T>,
-        scope: Scope<P>,
-    ) -> Result<Hub<P, C, T>, Refusal> {
-        let scope = Boxed::new(core.allocator(), scope)?;
-        let client = None;
-        Hub::made_by(rt, core, HubCall::NewHub { client, scope })
+    pub(crate) fn without_client(
+        core: &SharedCore<L>,
+        scope: Scope<L::Processor>,
+    ) -> Result<Hub<L>, Refusal> {
+        let share = core.clone()?;
+        let key = core.new_hub(None, scope)?;
+        Ok(Hub { core: share, key })
     }
 
     /// A hub with one layer, of the client of the other one's top layer and a copy of its scope.
     ///
     /// `Stale`: the other hub isn't held. `Full`: the numbers are used up. `OutOfMemory`.
-    pub fn new_from_top<R: Wait>(rt: &R, other: &Hub<P, C, T>) -> Result<Hub<P, C, T>, Refusal> {
-        Hub::made_by(rt, &other.core, HubCall::NewHubFromTop(other.key))
-    }
-
-    // The hub that a call makes.
-    fn made_by<R: Wait>(
-        rt: &R,
-        core: &SharedCore<P, C, T>,
-        call: HubCall<P>,
-    ) -> Result<Hub<P, C, T>, Refusal> {
-        let core = core.clone()?;
-        match core.call(rt, Call::Hub(call))? {
-            Reply::Hub(key) => Ok(Hub { core, key }),
-            // No call that makes a hub replies otherwise.
-            _ => Err(Refusal::Stale),
-        }
+    pub fn new_from_top(other: &Hub<L>) -> Result<Hub<L>, Refusal> {
+        let core = other.core.clone()?;
+        let key = other.lock().new_hub_from_top()?;
+        Ok(Hub { core, key })
     }
 
     /// The key of the hub.
@@ -112,26 +95,32 @@ impl<P: EventCallback + Drop, C: Callbacks, T: Transport + Drop> Hub<P, C, T> {
         self.key
     }
 
+    /// The allocator of the core.
+    pub fn allocator(&self) -> Global {
+        self.core.allocator()
+    }
+
     /// The core that holds it.
-    pub fn core(&self) -> &SharedCore<P, C, T> {
+    pub fn core(&self) -> &SharedCore<L> {
         &self.core
     }
 
-    // Makes a call.
-    fn call<R: Wait>(&self, rt: &R, call: HubCall<P>) -> Result<Reply<P, C>, Refusal> {
-        self.core.call(rt, Call::Hub(call))
+    // Takes the lock for one call on the hub.
+    pub(crate) fn lock(&self) -> LockedHub<'_, L::Processor, L::Callbacks, L::Transport> {
+        self.core.lock_hub(self.key)
     }
 
-    // A call whose reply says no more than that it is done.
-    fn done<R: Wait>(&self, rt: &R, call: HubCall<P>) -> Result<(), Refusal> {
-        drop(self.call(rt, call)?);
-        Ok(())
+    // The same if the hub is active.
+    pub(crate) fn lock_active(
+        &self,
+    ) -> Result<Option<LockedHub<'_, L::Processor, L::Callbacks, L::Transport>>, Refusal> {
+        self.core.lock_active(self.key)
     }
 }
 
 /// For the hubs of a thread that are made from those of another one.
-impl<P: EventCallback + Drop, C: Callbacks, T: Transport + Drop> MakeFromTop for Hub<P, C, T> {
-    fn make_from_top<R: Wait>(rt: &R, other: &Hub<P, C, T>) -> Result<Hub<P, C, T>, Refusal> {
-        Hub::new_from_top(rt, other)
+impl<L: CoreLock> MakeFromTop for Hub<L> {
+    fn make_from_top(other: &Hub<L>) -> Result<Hub<L>, Refusal> {
+        Hub::new_from_top(other)
     }
 }

@@ -1,10 +1,8 @@
 //! A thread that ticks a client.
-use sentry_base::callbacks::EventCallback;
 use sentry_base::protocol::Refusal;
 pub use sentry_clock::{BoxedTickClock, TickClock};
 use sentry_lock::client::Client;
-use sentry_lock::transport::Transport;
-use sentry_options::clientoptions::Callbacks;
+use sentry_lock::core_lock::CoreLock;
 use std::alloc::AllocError;
 use std::sync::atomic::{AtomicU64, Ordering};
 use std::sync::{Arc, Wait};
@@ -25,11 +23,14 @@ impl Worker {
     /// `OutOfMemory`, also where the system has no thread.
     pub fn start<
         R: Threads + Wait + Copy + Send + 'static,
-        P: EventCallback + Drop + Send + Sync + 'static,
-        C: Callbacks + Send + Sync + 'static,
-        T: Transport + Drop + Send + Sync + 'static,
+        L: CoreLock + Send + Sync + 'static,
         K: TickClock + Drop + Send + 'static,
-    >(rt: R, client: Client<P, C, T>, clock: K) -> Result<Worker, Refusal> {
+    >(rt: R, client: Client<L>, clock: K) -> Result<Worker, Refusal>
+    where
+        L::Processor: Send + Sync + 'static,
+        L::Callbacks: Send + Sync + 'static,
+        L::Transport: Send + Sync + 'static,
+    {
         Ok(start_thread(rt, client, clock)?)
     }
 
@@ -44,11 +45,14 @@ impl Worker {
 // Starts the thread.
 fn start_thread<
     R: Threads + Wait + Copy + Send + 'static,
-    P: EventCallback + Drop + Send + Sync + 'static,
-    C: Callbacks + Send + Sync + 'static,
-    T: Transport + Drop + Send + Sync + 'static,
+    L: CoreLock + Send + Sync + 'static,
     K: TickClock + Drop + Send + 'static,
->(rt: R, client: Client<P, C, T>, clock: K) -> Result<Worker, AllocError> {
+>(rt: R, client: Client<L>, clock: K) -> Result<Worker, AllocError>
+where
+    L::Processor: Send + Sync + 'static,
+    L::Callbacks: Send + Sync + 'static,
+    L::Transport: Send + Sync + 'static,
+{
     let stop = Arc::new(client.core().allocator(), AtomicU64::new(0))?;
     let theirs = stop.clone()?;
     let thread = thread::spawn(&rt, move || tick_all(&rt, &theirs, &client, clock))?;
@@ -60,13 +64,12 @@ fn is_set(word: &AtomicU64) -> bool {
 }
 
 // Ticks the client until the word is set, the clock ends, or a tick is refused for anything but want of memory.
-fn tick_all<
-    R: Wait,
-    P: EventCallback + Drop,
-    C: Callbacks,
-    T: Transport + Drop,
-    K: TickClock + Drop,
->(rt: &R, stop: &AtomicU64, client: &Client<P, C, T>, clock: K) {
+fn tick_all<R: Wait, L: CoreLock, K: TickClock + Drop>(
+    rt: &R,
+    stop: &AtomicU64,
+    client: &Client<L>,
+    clock: K,
+) {
     let mut clock = clock;
     for _ in rt.forever() {
         if is_set(stop) {
@@ -78,7 +81,7 @@ fn tick_all<
         if is_set(stop) {
             return;
         }
-        match client.tick(rt, moment) {
+        match client.tick(moment) {
             Ok(()) | Err(Refusal::OutOfMemory) => {}
             Err(_) => return,
         }

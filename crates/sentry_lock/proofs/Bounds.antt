@@ -12,7 +12,7 @@ use Rattle.sentry_span_table.specs.SpanLists.{TransactionState, plain_transactio
 use Rattle.sentry_span_table.specs.declared.table.records.TransactionRecord.{TransactionRecord}
 use Rattle.sentry_state.specs.declared.state.Client.{Client}
 use Rattle.sentry_state.specs.declared.state.State.{State}
-use Rattle.sentry_state.specs.Worlds.{World, ClientState, Stands, plain_client, map_values}
+use Rattle.sentry_state.specs.Worlds.{World, ClientState, Stands, plain_client}
 use Rattle.sentry_state.proofs.Keeping.{found_in_world, value_at-map_values}
 use Rattle.sentry_lock.specs.Locked.{AreShort}
 

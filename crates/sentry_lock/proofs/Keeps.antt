@@ -1,5 +1,5 @@
 -- What the calls that the lock makes leave of what the books absorbed.
-use Rattle.std.proofs.Common.{◌≡◌, refl, ℕ, List, true}
+use Rattle.std.proofs.Common.{◌≡◌, refl, ℕ, true}
 use Rattle.std.specs.Prelude.{Option}
 use Rattle.sentry_base.specs.Callbacks.{Partial}
 use Rattle.sentry_base.specs.declared.protocol.event.Event.{Event}

@@ -23,8 +23,9 @@ use Rattle.sentry_calls.specs.Clients.{add_client}
 use Rattle.sentry_calls.specs.Losses.{absorb}
 use Rattle.sentry_laws.proofs.Absorbed.{KeepsBooks}
 use Rattle.sentry_laws.proofs.Increasing.{IsIncreasing, increasing_put, increasing_replaced}
-use Rattle.sentry_lock.specs.Words.{Drainers, DrainsOne, EndsWords}
+use Rattle.sentry_lock.specs.Words.{AreZero, Drainers, DrainsOne, EndsWords}
 use Rattle.sentry_lock.specs.Locked.{Absorbs, IsHeld, IsSound}
+use Rattle.sentry_lock.proofs.NoLosses.{nothing_absorbed}
 use Rattle.sentry_lock.proofs.Bounds.{queues_short, spans_kept, books_balanced}
 use Rattle.sentry_lock.proofs.Tied.{HistoriesAreTied, histories_tied, books_tied, tied_after_call, tied_after_absorb, tied_after_place, tied_after_new}
 
@@ -102,6 +103,19 @@ module _ {P C : Type 0} where
       absurd (∥∥₁_elim stands ⊥_prop (λ s.
       never_refused (absorb label quantities s.0).answer (record { reply = tt; sent = [] }) refusal
       (absorb_accepted s.0 label quantities (held s.0 s.1)) (does.1 s.0 s.1)))
+
+  -- nothing is absorbed by leaving the engine as it is
+  pub absorbs_nothing : (engine : State P C) (label : Label) (quantities : List ℕ) → AreZero quantities
+      → IsHeld true label engine → Absorbs label quantities engine engine
+  absorbs_nothing engine label quantities zero held = (
+    record { reply = tt; sent = [] },
+    λ world stands.
+        let there = held world stands in (
+          absorb_accepted world label quantities there,
+          subst (λ (w : World P C). Stands engine w) (sym (absorbed_world world label quantities there))
+              (nothing_absorbed quantities zero engine world label stands),
+        ),
+  )
 
   -- some world is stood for
   pub some_world : (engine : State P C) (drainers : Drainers) → ∥ IsSound engine drainers ∥₁

@@ -1,10 +1,10 @@
 -- What ties the drainers to the books, after each thing that is done under the lock.
-use Rattle.std.proofs.Common.{◌≡◌, ◌+◌, ◌%◌, ◌^◌, ◌<◌, refl, ap, ◌∙◌, sym, subst, ℕ, List, [], ◌∷◌, Bool, true, false, sum_by, get_or, arith}
+use Rattle.std.proofs.Common.{◌≡◌, ◌%◌, ◌^◌, refl, ap, ◌∙◌, sym, ℕ, List, [], ◌∷◌, Bool, true, false, sum_by, get_or, arith}
 use Rattle.std.proofs.lemmas.List.Sums.{sum_by-cons}
 use Rattle.std.specs.Prelude.{Option, Some, None, ◌==◌, unwrap_or, if◌then◌else◌}
-use Rattle.std.specs.Option.{option_map, is_some}
+use Rattle.std.specs.Option.{option_map}
 use Rattle.sentry_plain.specs.Tables.{value_at, put, replace_at}
-use Rattle.sentry_base.specs.Losses.{plus, no_losses, sum_losses}
+use Rattle.sentry_base.specs.Losses.{plus, no_losses}
 use Rattle.sentry_base.proofs.ByIndex.{same_by_index, sum_first}
 use Rattle.sentry_client_reports.specs.LossBooks.{Book, LossEntry, engine_losses, drained_losses, report_point, absorbed_losses, losses_absorbed, book_of}
 use Rattle.sentry_client_reports.specs.LossCounts.{CountedPart}

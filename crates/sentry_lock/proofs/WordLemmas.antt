@@ -1,5 +1,5 @@
 -- The words of labels after a change.
-use Rattle.std.proofs.Common.{◌≡◌, ap, ◌∙◌, sym, ℕ, List}
+use Rattle.std.proofs.Common.{◌≡◌, ap, ◌∙◌, ℕ}
 use Rattle.std.specs.Prelude.{Option, Some, None}
 use Rattle.sentry_plain.specs.Tables.{value_at, replace_at}
 use Rattle.sentry_client_reports.specs.LossCounts.{CountedPart}

@@ -1,11 +1,11 @@
 -- What holds whenever the lock is free.
-use Rattle.std.specs.Prelude.{◌≡◌, ◌<◌, ◌≤◌, ◌⊎◌, ℕ, Bool, true, false, List, [], ◌∷◌, Option, Some, Ok, Result, length, max}
-use Rattle.sentry_plain.specs.Tables.{value_at, entries_after}
-use Rattle.sentry_base.specs.declared.protocol.client_report.ClientReport.{ClientReport}
+use Rattle.std.specs.Prelude.{◌≡◌, ◌<◌, ◌≤◌, ◌⊎◌, ℕ, Bool, true, false, List, [], ◌∷◌, Option, Some, None, Ok, Result, length, max}
+use Rattle.sentry_plain.specs.Tables.{value_at, entries_after, without}
 use Rattle.sentry_base.specs.declared.protocol.envelope.Envelope.{Envelope}
 use Rattle.sentry_base.specs.declared.protocol.keys.ClientKey.{ClientKey}
 use Rattle.sentry_base.specs.declared.protocol.keys.Label.{Label}
-use Rattle.sentry_client_reports.specs.LossBooks.{Book, IsBalanced, LossEntry}
+use Rattle.sentry_base.specs.declared.protocol.refusal.Refusal.{Refusal}
+use Rattle.sentry_client_reports.specs.LossBooks.{Book, IsBalanced}
 use Rattle.sentry_client_reports.specs.LossCounts.{CountedPart}
 use Rattle.sentry_options.specs.declared.clientoptions.plain.PlainOptions.{PlainOptions}
 use Rattle.sentry_sessions.specs.declared.session.aggregates.TheConstants.{MAX_INDIVIDUAL}
@@ -15,10 +15,12 @@ use Rattle.sentry_state.specs.declared.state.Out.{Out}
 use Rattle.sentry_state.specs.declared.state.Queues.{Queues}
 use Rattle.sentry_state.specs.declared.state.State.{State}
 use Rattle.sentry_state.specs.Books.{has_book}
-use Rattle.sentry_state.specs.Outcomes.{Does, DoesWithoutMemory}
+use Rattle.sentry_state.specs.Outcomes.{Outcome, Does, DoesWithoutMemory}
 use Rattle.sentry_state.specs.Worlds.{World, Stands}
 use Rattle.sentry_calls.specs.Losses.{absorb}
+use Rattle.sentry_calls.specs.declared.call.Call.{Call}
 use Rattle.sentry_laws.proofs.Increasing.{IsIncreasing}
+use Rattle.sentry_lock.specs.Plain.{dropped_label}
 use Rattle.sentry_lock.specs.Words.{Drainers, HasNoOpenWords, DrainsOne, EndsWords}
 
 -- fewer logs, metrics and individual sessions wait in the queues of a client than are sent at once
@@ -86,12 +88,46 @@ module _ {P C : Type 0} where
       × DrainsIfOpen (record { tag = tag; number = entry.0 }) old between drainers left
       × DrainsEach tag entries between new left drained
 
-  -- all labels were drained, or none
-  abbrev pub DrainsFor : Bool → ℕ → Drainers → State P C → State P C → Type 0
-  DrainsFor true tag drainers old new = (drained : Drainers) × DrainsEach tag drainers old new drainers drained
-  DrainsFor false tag drainers old new = new ≡ old
+  -- all labels were drained
+  unfoldable pub DrainsAll : ℕ → State P C → State P C → Drainers → Drainers → Type 0
+  DrainsAll tag old new drainers drained = DrainsEach tag drainers old new drainers drained
 
--- the same of the label of the next number, above which there is the rest
+  -- all labels were drained, or none
+  abbrev pub DrainsFor : Bool → ℕ → State P C → State P C → Drainers → Drainers → Type 0
+  DrainsFor true tag old new drainers drained = DrainsAll tag old new drainers drained
+  DrainsFor false tag old new drainers drained = (new ≡ old) × (drained ≡ drainers)
+
+  -- all labels were drained, and then the call did what its definition says
+  abbrev pub DrainsAndDoes : {T : Type 0} → ℕ → State P C → State P C → Drainers → Drainers → Result (Out T) Refusal
+      → (World P C → Outcome P C T) → Type 0
+  DrainsAndDoes tag old new drainers drained answer outcome =
+      (between : State P C) × DrainsAll tag old between drainers drained × Does between new answer outcome
+
+  -- the call did what its definition says, and this is its reply
+  abbrev pub Replies : {T : Type 0} → State P C → State P C → T → (World P C → Outcome P C T) → Type 0
+  Replies old new reply outcome =
+      (sent : List (ClientKey × Envelope)) × Does old new (Ok (record { reply = reply; sent = sent })) outcome
+
+  -- the same of a call that takes no memory
+  abbrev pub RepliesWithoutMemory : {T : Type 0} → State P C → State P C → T → (World P C → Outcome P C T) → Type 0
+  RepliesWithoutMemory old new reply outcome =
+      (sent : List (ClientKey × Envelope))
+      × DoesWithoutMemory old new (Ok (record { reply = reply; sent = sent })) outcome
+
+  -- the drainer of a label, if one is given, is forgotten unless a client names the label
+  abbrev pub ForgetsUnused : Option Label → State P C → Drainers → Drainers → Type 0
+  ForgetsUnused None engine drainers after = after ≡ drainers
+  ForgetsUnused (Some label) engine drainers after =
+      (IsHeld true label engine × (after ≡ drainers))
+      ⊎ (IsHeld false label engine × (after ≡ without drainers label.number))
+
+  -- the same of the label of the client that a call drops
+  abbrev pub ForgetsDropped : Call P C → State P C → State P C → Drainers → Drainers → Type 0
+  ForgetsDropped call old new drainers after =
+      (label : Option Label) × ((world : World P C) → Stands old world → label ≡ dropped_label call world)
+      × ForgetsUnused label new drainers after
+
+-- the label of the next number was drained, if it is open; above it there is the rest
 pub record DrainsNext {P C : Type 0} (tag : ℕ) (last : Option ℕ) (number : ℕ) (old new : State P C)
     (drainers drained : Drainers) : Type 0 where
   pub slot : Option CountedPart

@@ -1,41 +1,39 @@
 //! A client: its key, and a share of the core that holds it.
-ghost use Rattle.std.specs.Prelude.{◌≡◌, true};
+ghost use Rattle.std.specs.Prelude.{◌≡◌, Ok, nat_lt, true};
 ghost use Rattle.sentry_lock.specs.Plain.{is_plain_client_call};
 
 mod setup;
 
+use crate::core_lock::CoreLock;
 use crate::handed::{Ending, Handed};
 use crate::shared_core::SharedCore;
-use crate::transport::Transport;
-use sentry_base::callbacks::EventCallback;
 use sentry_base::protocol::{
     ClientKey, Draw, Envelope, Event, Fresh, Log, Refusal, SampleRate, Uuid,
 };
 use sentry_batches::metrics::IntoProtocolMetric;
 use sentry_engine::call::{Call, ClientCall, Reply};
-use sentry_options::clientoptions::{Callbacks, ClientOptions};
+use sentry_options::clientoptions::ClientOptions;
 use sentry_plain::{Boxed, Shared};
 use sentry_scope::scope::Scope;
 use sentry_texts::dsn::Dsn;
 pub use setup::ClientSetup;
 use std::alloc::AllocError;
-use std::sync::Wait;
 
 /// A client, by its key and a share of the core that holds it. A clone of the value is the same client; `clone_client`
 /// makes another one.
-pub struct Client<P, C, T> {
-    core: SharedCore<P, C, T>,
+pub struct Client<L> {
+    core: SharedCore<L>,
     key: ClientKey,
 }
 
-impl<P: Drop, C: Drop, T: Drop> Drop for Client<P, C, T> {
+impl<L: Drop> Drop for Client<L> {
     fn drop(self) {
         let Client { core: _, key: _ } = self;
     }
 }
 
-impl<P: Drop, C: Drop, T: Drop> Clone for Client<P, C, T> {
-    fn clone(&self) -> Result<Client<P, C, T>, AllocError> {
+impl<L: Drop> Clone for Client<L> {
+    fn clone(&self) -> Result<Client<L>, AllocError> {
         Ok(Client {
             core: self.core.clone()?,
             key: self.key,
@@ -43,12 +41,9 @@ impl<P: Drop, C: Drop, T: Drop> Clone for Client<P, C, T> {
     }
 }
 
-impl<P: EventCallback + Drop, C: Callbacks, T: Transport + Drop> Client<P, C, T> {
+impl<L: CoreLock> Client<L> {
     // The client of a key.
-    pub(crate) fn of_key(
-        core: &SharedCore<P, C, T>,
-        key: ClientKey,
-    ) -> Result<Client<P, C, T>, AllocError> {
+    pub(crate) fn of_key(core: &SharedCore<L>, key: ClientKey) -> Result<Client<L>, AllocError> {
         Ok(Client {
             core: core.clone()?,
             key,
@@ -59,27 +54,25 @@ impl<P: EventCallback + Drop, C: Callbacks, T: Transport + Drop> Client<P, C, T>
     /// and the options have a DSN. `now` is the moment in nanoseconds since the epoch.
     ///
     /// `ForeignLosses`: the setup was made by another core. `Full`: the numbers are used up. `OutOfMemory`.
-    pub fn with_options<R: Wait>(
-        rt: &R,
-        core: &SharedCore<P, C, T>,
-        setup: ClientSetup<C>,
-        transport: Option<T>,
+    pub fn with_options(
+        core: &SharedCore<L>,
+        setup: ClientSetup<L::Callbacks>,
+        transport: Option<L::Transport>,
         now: u64,
-    ) -> Result<Client<P, C, T>, Refusal> {
+    ) -> Result<Client<L>, Refusal> {
         let share = core.clone()?;
-        let key = core.lock(rt).core.add_setup(setup, transport, now)?;
+        let key = core.lock().under.core.add_setup(setup, transport, now)?;
         Ok(Client { core: share, key })
     }
 
     /// The same as `with_options`.
-    pub fn from_config<R: Wait>(
-        rt: &R,
-        core: &SharedCore<P, C, T>,
-        setup: ClientSetup<C>,
-        transport: Option<T>,
+    pub fn from_config(
+        core: &SharedCore<L>,
+        setup: ClientSetup<L::Callbacks>,
+        transport: Option<L::Transport>,
         now: u64,
-    ) -> Result<Client<P, C, T>, Refusal> {
-        Client::with_options(rt, core, setup, transport, now)
+    ) -> Result<Client<L>, Refusal> {
+        Client::with_options(core, setup, transport, now)
     }
 
     /// The key of the client.
@@ -88,16 +81,16 @@ impl<P: EventCallback + Drop, C: Callbacks, T: Transport + Drop> Client<P, C, T>
     }
 
     /// The core that holds it.
-    pub fn core(&self) -> &SharedCore<P, C, T> {
+    pub fn core(&self) -> &SharedCore<L> {
         &self.core
     }
 
     /// The options, as a share: after the `setup` of the integrations, which are among them.
     ///
     /// `Stale`: the client isn't held. `OutOfMemory`.
-    pub fn options<R: Wait>(&self, rt: &R) -> Result<Shared<ClientOptions<C>>, Refusal> {
-        let mut guard = self.core.lock(rt);
-        let core = &mut guard.core;
+    pub fn options(&self) -> Result<Shared<ClientOptions<L::Callbacks>>, Refusal> {
+        let mut guard = self.core.lock();
+        let core = &mut guard.under.core;
         let out = core.engine().options(self.key)?;
         Ok(out.reply)
     }
@@ -105,9 +98,9 @@ impl<P: EventCallback + Drop, C: Callbacks, T: Transport + Drop> Client<P, C, T>
     /// Where the client sends to, if anywhere.
     ///
     /// `Stale`: the client isn't held. `OutOfMemory`.
-    pub fn dsn<R: Wait>(&self, rt: &R) -> Result<Option<Dsn>, Refusal> {
-        let mut guard = self.core.lock(rt);
-        let core = &mut guard.core;
+    pub fn dsn(&self) -> Result<Option<Dsn>, Refusal> {
+        let mut guard = self.core.lock();
+        let core = &mut guard.under.core;
         let out = core.engine().dsn(self.key)?;
         Ok(out.reply)
     }
@@ -115,116 +108,102 @@ impl<P: EventCallback + Drop, C: Callbacks, T: Transport + Drop> Client<P, C, T>
     /// Whether the client has a DSN, now and when it was added, and a transport. It takes no memory.
     ///
     /// `Stale`: the client isn't held.
-    pub fn is_enabled<R: Wait>(&self, rt: &R) -> Result<bool, Refusal> {
-        let mut guard = self.core.lock(rt);
-        let core = &mut guard.core;
+    pub fn is_enabled(&self) -> Result<bool, Refusal> {
+        let mut guard = self.core.lock();
+        let core = &mut guard.under.core;
         let out = core.engine().is_enabled(self.key)?;
         Ok(out.reply)
     }
 
-    /// Whether what has this draw is sent at this rate. It takes no memory, and is never refused.
-    pub fn sample_should_send<R: Wait>(
-        &self,
-        rt: &R,
-        rate: SampleRate,
-        draw: Draw,
-    ) -> Result<bool, Refusal> {
-        let mut guard = self.core.lock(rt);
-        let core = &mut guard.core;
-        let out = core.engine().sample_should_send(rate, draw)?;
-        Ok(out.reply)
+    /// Whether what has this draw is sent at this rate. It takes no lock and no memory, and is never refused.
+    pub fn sample_should_send(&self, rate: SampleRate, draw: Draw) -> Result<bool, Refusal>
+        ensures { result ≡ Ok (nat_lt draw rate) }
+    {
+        Ok(rate.keeps(draw))
     }
 
     /// The event as the client would send it under a scope, if one is given; `None` if it is dropped, which counts as a
     /// loss.
     ///
     /// `Stale`: the client isn't held, or the span of the scope isn't. `OutOfMemory`.
-    pub fn prepare_event<R: Wait>(
+    pub fn prepare_event(
         &self,
-        rt: &R,
         event: Event,
-        scope: Option<&Scope<P>>,
+        scope: Option<&Scope<L::Processor>>,
         fresh: Fresh,
     ) -> Result<Option<Boxed<Event>>, Refusal> {
         self.core
-            .lock(rt)
+            .lock()
+            .under
             .core
             .prepare_event(self.key, event, scope, fresh)
     }
 
     // The lock is free again when it returns, as when each of the next does.
-    fn event_captured<R: Wait>(
+    fn event_captured(
         &self,
-        rt: &R,
         event: Event,
-        scope: Option<&Scope<P>>,
+        scope: Option<&Scope<L::Processor>>,
         fresh: Fresh,
-    ) -> Result<Handed<Uuid, T>, Refusal> {
-        let mut guard = self.core.lock(rt);
-        let core = &mut guard.core;
-        core.drain_all();
-        core.capture_event(self.key, event, scope, fresh)
+    ) -> Result<Handed<Uuid, L::Transport>, Refusal> {
+        let mut guard = self.core.lock();
+        let core = &mut guard.under.core;
+        core.client_capture_event(self.key, event, scope, fresh)
     }
 
     /// Captures an event under a scope, if one is given. Its id is the reply; the nil id if it was not sent.
     ///
     /// `Stale`: the client isn't held, or the span of the scope isn't. `OutOfMemory`.
-    pub fn capture_event<R: Wait>(
+    pub fn capture_event(
         &self,
-        rt: &R,
         event: Event,
-        scope: Option<&Scope<P>>,
+        scope: Option<&Scope<L::Processor>>,
         fresh: Fresh,
     ) -> Result<Uuid, Refusal> {
-        let handed = self.event_captured(rt, event, scope, fresh)?;
+        let handed = self.event_captured(event, scope, fresh)?;
         Ok(handed.deliver())
     }
 
-    fn log_captured<R: Wait>(
+    fn log_captured(
         &self,
-        rt: &R,
         log: Log,
-        scope: &Scope<P>,
-    ) -> Result<Handed<(), T>, Refusal> {
-        let mut guard = self.core.lock(rt);
-        let core = &mut guard.core;
-        core.drain_all();
-        core.capture_log(self.key, log, scope)
+        scope: &Scope<L::Processor>,
+    ) -> Result<Handed<(), L::Transport>, Refusal> {
+        let mut guard = self.core.lock();
+        let core = &mut guard.under.core;
+        core.client_capture_log(self.key, log, scope)
     }
 
     /// Captures a log under a scope.
     ///
     /// `Stale`: the client isn't held, or the span of the scope isn't. `OutOfMemory`.
-    pub fn capture_log<R: Wait>(&self, rt: &R, log: Log, scope: &Scope<P>) -> Result<(), Refusal> {
-        let handed = self.log_captured(rt, log, scope)?;
+    pub fn capture_log(&self, log: Log, scope: &Scope<L::Processor>) -> Result<(), Refusal> {
+        let handed = self.log_captured(log, scope)?;
         handed.deliver();
         Ok(())
     }
 
-    fn metric_captured<R: Wait, M: IntoProtocolMetric>(
+    fn metric_captured<M: IntoProtocolMetric>(
         &self,
-        rt: &R,
         metric: M,
-        scope: &Scope<P>,
+        scope: &Scope<L::Processor>,
         now: u64,
-    ) -> Result<Handed<(), T>, Refusal> {
-        let mut guard = self.core.lock(rt);
-        let core = &mut guard.core;
-        core.drain_all();
-        core.capture_metric(self.key, metric.into_draft(), scope, now)
+    ) -> Result<Handed<(), L::Transport>, Refusal> {
+        let mut guard = self.core.lock();
+        let core = &mut guard.under.core;
+        core.client_capture_metric(self.key, metric.into_draft(), scope, now)
     }
 
     /// Captures a metric under a scope. `now` is its moment in nanoseconds since the epoch.
     ///
     /// `Stale`: the client isn't held, or the span of the scope isn't. `OutOfMemory`.
-    pub fn capture_metric<R: Wait, M: IntoProtocolMetric>(
+    pub fn capture_metric<M: IntoProtocolMetric>(
         &self,
-        rt: &R,
         metric: M,
-        scope: &Scope<P>,
+        scope: &Scope<L::Processor>,
         now: u64,
     ) -> Result<(), Refusal> {
-        let handed = self.metric_captured(rt, metric, scope, now)?;
+        let handed = self.metric_captured(metric, scope, now)?;
         handed.deliver();
         Ok(())
     }
@@ -232,28 +211,24 @@ impl<P: EventCallback + Drop, C: Callbacks, T: Transport + Drop> Client<P, C, T>
     /// Sends an envelope, with the pending report as its last item. Without a transport nothing is sent.
     ///
     /// `Stale`: the client isn't held. `OutOfMemory`.
-    pub fn send_envelope<R: Wait>(&self, rt: &R, envelope: Envelope) -> Result<(), Refusal> {
-        self.done(
-            rt,
-            ClientCall::SendEnvelope {
-                client: self.key,
-                envelope,
-            },
-        )
+    pub fn send_envelope(&self, envelope: Envelope) -> Result<(), Refusal> {
+        self.done(ClientCall::SendEnvelope {
+            client: self.key,
+            envelope,
+        })
     }
 
     // A call whose reply says no more than that it is done.
-    fn done<R: Wait>(&self, rt: &R, call: ClientCall<P, C>) -> Result<(), Refusal>
+    fn done(&self, call: ClientCall<L::Processor, L::Callbacks>) -> Result<(), Refusal>
         requires { is_plain_client_call call ≡ true }
     {
-        drop(self.core.call(rt, Call::Client(call))?);
+        drop(self.core.call(Call::Client(call))?);
         Ok(())
     }
 
-    fn flushed<R: Wait>(&self, rt: &R) -> Result<(Handed<(), T>, Option<u64>), Refusal> {
-        let mut guard = self.core.lock(rt);
-        let core = &mut guard.core;
-        core.drain_all();
+    fn flushed(&self) -> Result<(Handed<(), L::Transport>, Option<u64>), Refusal> {
+        let mut guard = self.core.lock();
+        let core = &mut guard.under.core;
         let option = core.engine().shutdown_timeout(self.key);
         Ok((core.flush(self.key)?, option))
     }
@@ -263,15 +238,14 @@ impl<P: EventCallback + Drop, C: Callbacks, T: Transport + Drop> Client<P, C, T>
     /// transport, or was closed.
     ///
     /// `Stale`: the client isn't held. `OutOfMemory`.
-    pub fn flush<R: Wait>(&self, rt: &R, timeout: Option<u64>) -> Result<bool, Refusal> {
-        let (handed, option) = self.flushed(rt)?;
+    pub fn flush(&self, timeout: Option<u64>) -> Result<bool, Refusal> {
+        let (handed, option) = self.flushed()?;
         Ok(self.ended(handed, option, timeout, Ending::Flush))
     }
 
-    fn closed<R: Wait>(&self, rt: &R) -> Result<(Handed<(), T>, Option<u64>), Refusal> {
-        let mut guard = self.core.lock(rt);
-        let core = &mut guard.core;
-        core.drain_all();
+    fn closed(&self) -> Result<(Handed<(), L::Transport>, Option<u64>), Refusal> {
+        let mut guard = self.core.lock();
+        let core = &mut guard.under.core;
         let option = core.engine().shutdown_timeout(self.key);
         Ok((core.close(self.key)?, option))
     }
@@ -282,8 +256,8 @@ impl<P: EventCallback + Drop, C: Callbacks, T: Transport + Drop> Client<P, C, T>
     /// closed.
     ///
     /// `Stale`: the client isn't held. `OutOfMemory`.
-    pub fn close<R: Wait>(&self, rt: &R, timeout: Option<u64>) -> Result<bool, Refusal> {
-        let (handed, option) = self.closed(rt)?;
+    pub fn close(&self, timeout: Option<u64>) -> Result<bool, Refusal> {
+        let (handed, option) = self.closed()?;
         Ok(self.ended(handed, option, timeout, Ending::Shutdown))
     }
 
@@ -291,7 +265,7 @@ impl<P: EventCallback + Drop, C: Callbacks, T: Transport + Drop> Client<P, C, T>
     // no timeout by the options.
     fn ended(
         &self,
-        handed: Handed<(), T>,
+        handed: Handed<(), L::Transport>,
         option: Option<u64>,
         timeout: Option<u64>,
         ending: Ending,
@@ -308,27 +282,24 @@ impl<P: EventCallback + Drop, C: Callbacks, T: Transport + Drop> Client<P, C, T>
     /// Tells the client the moment, in nanoseconds since the epoch: what is due is sent.
     ///
     /// `Stale`: the client isn't held. `OutOfMemory`.
-    pub fn tick<R: Wait>(&self, rt: &R, now: u64) -> Result<(), Refusal> {
-        self.done(
-            rt,
-            ClientCall::Tick {
-                client: self.key,
-                now,
-            },
-        )
+    pub fn tick(&self, now: u64) -> Result<(), Refusal> {
+        self.done(ClientCall::Tick {
+            client: self.key,
+            now,
+        })
     }
 
     /// Adds a client with the options, the label and the transport of this one. `now` is the moment in nanoseconds since
     /// the epoch.
     ///
     /// `Stale`: the client isn't held. `Full`: the numbers are used up. `OutOfMemory`.
-    pub fn clone_client<R: Wait>(&self, rt: &R, now: u64) -> Result<Client<P, C, T>, Refusal> {
+    pub fn clone_client(&self, now: u64) -> Result<Client<L>, Refusal> {
         let core = self.core.clone()?;
         let call = ClientCall::CloneClient {
             client: self.key,
             now,
         };
-        match self.core.call(rt, Call::Client(call))? {
+        match self.core.call(Call::Client(call))? {
             Reply::Client(key) => Ok(Client { core, key }),
             // No call that makes a client replies otherwise.
             _ => Err(Refusal::Stale),
@@ -340,7 +311,9 @@ impl<P: EventCallback + Drop, C: Callbacks, T: Transport + Drop> Client<P, C, T>
     ///
     /// `Stale`: the client isn't held. `StillNamed`: a layer of a hub names it, a session that goes on started under it,
     /// or it will send a transaction that is unfinished. `OutOfMemory`.
-    pub fn drop_client<R: Wait>(&self, rt: &R) -> Result<(), Refusal> {
-        self.done(rt, ClientCall::DropClient(self.key))
+    pub fn drop_client(&self) -> Result<(), Refusal> {
+        // By this share the callbacks are dropped without the lock.
+        let _options = self.options()?;
+        self.done(ClientCall::DropClient(self.key))
     }
 }

@@ -2,6 +2,8 @@
 #![tactic(auto)]
 
 pub mod client;
+pub mod core_lock;
+pub mod direct;
 mod handed;
 pub mod locked;
 pub mod scope_edits;

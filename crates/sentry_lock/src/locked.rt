@@ -5,8 +5,10 @@ ghost use Rattle.sentry_lock.specs.Words.{AreLabelled};
 
 mod calls;
 mod clients;
+mod hubs;
 mod losses;
 mod sending;
+mod spans;
 
 use crate::handed::Transports;
 use crate::words::Drainers;

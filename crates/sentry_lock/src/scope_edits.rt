@@ -9,6 +9,26 @@ use sentry_plain::{Items, Text, copy_texts};
 use sentry_scope::scope::{Scope, ScopeEdit};
 use std::alloc::{AllocError, Global};
 
+/// What names the transaction or the span that is to be active, or none.
+pub trait IntoSpanKey: Drop {
+    ghost use Rattle.std.specs.Prelude.{Option};
+    ghost use Rattle.sentry_base.specs.declared.protocol.keys.TransactionOrSpanKey.{TransactionOrSpanKey};
+
+    ghost span_key: { Self → Option TransactionOrSpanKey };
+
+    /// Its key, if it names one.
+    fn into_span_key(self) -> Option<TransactionOrSpanKey>
+        ensures { result ≡ span_key self };
+}
+
+impl IntoSpanKey for Option<TransactionOrSpanKey> {
+    ghost span_key = { λ key. key };
+
+    fn into_span_key(self) -> Option<TransactionOrSpanKey> {
+        self
+    }
+}
+
 /// A copy of a scope to read, which stays as it was, and the setters of a scope: each call of one is kept, so that all
 /// of them can be done later as one.
 pub struct ScopeEdits<P> {
@@ -231,11 +251,11 @@ impl<P: Drop> ScopeEdits<P> {
     }
 
     /// Sets or clears the transaction or the span that is active.
-    pub fn set_span(&mut self, span: Option<TransactionOrSpanKey>) -> Result<(), AllocError>
+    pub fn set_span<S: IntoSpanKey>(&mut self, span: S) -> Result<(), AllocError>
         ensures scope { self.new.scope ≡ self.old.scope }
-        ensures ok { OnOk result (self.new.edits ≡ self.old.edits ++ call.SetSpan span ∷ []) }
+        ensures ok { OnOk result (self.new.edits ≡ self.old.edits ++ call.SetSpan (S.span_key span) ∷ []) }
         ensures err { OnErr result (self.new.edits ≡ self.old.edits) }
     {
-        self.keep(ScopeEdit::SetSpan(span))
+        self.keep(ScopeEdit::SetSpan(span.into_span_key()))
     }
 }

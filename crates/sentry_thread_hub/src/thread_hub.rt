@@ -7,7 +7,6 @@ use rand_core::{Rng, SeedableRng};
 use sentry_base::protocol::{Draw, Fresh, Refusal, SampleRate, SpanId, TraceId, Uuid};
 use sentry_clock::Clock;
 use std::alloc::AllocError;
-use std::sync::Wait;
 
 /// A hub from which another one can be made.
 pub trait MakeFromTop: Sized + Drop {
@@ -17,7 +16,7 @@ pub trait MakeFromTop: Sized + Drop {
     /// A hub with the client and a copy of the scope of the other one's top layer.
     ///
     /// What the engine refuses; `OutOfMemory`.
-    fn make_from_top<R: Wait>(rt: &R, other: &Self) -> Result<Self, Refusal>
+    fn make_from_top(other: &Self) -> Result<Self, Refusal>
         ensures { IfOk result (is_from_top other.now) };
 }
 
@@ -58,18 +57,13 @@ impl<H: MakeFromTop, K: Drop, G: SeedableRng + Drop> ThreadHub<H, K, G> {
     /// thread. The generator is the one of the seed `start`.
     ///
     /// What `make_from_top` refuses; `OutOfMemory`.
-    pub fn from_main<R: Wait>(
-        rt: &R,
-        main: H,
-        clock: K,
-        start: G::Seed,
-    ) -> Result<ThreadHub<H, K, G>, Refusal>
+    pub fn from_main(main: H, clock: K, start: G::Seed) -> Result<ThreadHub<H, K, G>, Refusal>
         ensures main { IfOk result (λ thread. thread.main ≡ main) }
         ensures current { IfOk result (λ thread. H.is_from_top main thread.current) }
         ensures clock { IfOk result (λ thread. thread.clock ≡ clock) }
         ensures generator { IfOk result (λ thread. thread.generator ≡ G.of_seed (G.Seed.bytes start)) }
     {
-        let current = H::make_from_top(rt, &main)?;
+        let current = H::make_from_top(&main)?;
         Ok(ThreadHub {
             main,
             current,

@@ -2,12 +2,11 @@
 use crate::hub::Hub;
 use sentry_base::callbacks::{BreadcrumbCallback, EventCallback, LogCallback, MetricCallback};
 use sentry_base::protocol::Refusal;
-use sentry_lock::transport::Transport;
+use sentry_lock::core_lock::CoreLock;
 use sentry_options::clientoptions::ClientCallbacks;
 use sentry_options::integration::Integration;
 use sentry_options::sampler::TracesSampler;
 use sentry_plain::Shared;
-use std::sync::Wait;
 
 // The first integration of a name.
 fn find_integration<'a, I: Integration>(
@@ -22,27 +21,22 @@ fn find_integration<'a, I: Integration>(
     None
 }
 
-impl<P, E, I, B, L, M, S, T> Hub<P, ClientCallbacks<E, I, B, L, M, S>, T>
+impl<L, E, I, B, W, M, S> Hub<L>
 where
-    P: EventCallback + Drop,
+    L: CoreLock<Callbacks = ClientCallbacks<E, I, B, W, M, S>>,
     E: EventCallback + Drop,
     I: Integration + Drop,
     B: BreadcrumbCallback + Drop,
-    L: LogCallback + Drop,
+    W: LogCallback + Drop,
     M: MetricCallback + Drop,
     S: TracesSampler + Drop,
-    T: Transport + Drop,
 {
     // A share of the first integration of this name that the client of the top layer has.
-    pub(crate) fn integration<R: Wait>(
-        &self,
-        rt: &R,
-        name: &str,
-    ) -> Result<Option<Shared<I>>, Refusal> {
-        let Some(client) = self.client(rt)? else {
+    pub(crate) fn integration(&self, name: &str) -> Result<Option<Shared<I>>, Refusal> {
+        let Some(client) = self.client()? else {
             return Ok(None);
         };
-        let options = client.options(rt)?;
+        let options = client.options()?;
         match find_integration(options.get().callbacks.integrations.as_slice(), name) {
             None => Ok(None),
             Some(integration) => Ok(Some(integration.clone()?)),
@@ -54,15 +48,14 @@ where
     /// the lock.
     ///
     /// `Stale`: the hub isn't held, or its client isn't. `OutOfMemory`.
-    pub fn with_integration<R: Wait, A: Default, F: FnOnce(&I) -> A + Drop>(
+    pub fn with_integration<A: Default, F: FnOnce(&I) -> A + Drop>(
         &self,
-        rt: &R,
         name: &str,
         callback: F,
     ) -> Result<A, Refusal>
         requires { F.IsAlwaysCallable callback }
     {
-        match self.integration(rt, name)? {
+        match self.integration(name)? {
             None => Ok(A::default()),
             Some(integration) => Ok(callback(integration.get())),
         }

@@ -2,17 +2,16 @@
 ghost use Rattle.std.specs.Prelude.{◌≡◌, IfOk};
 
 use crate::hub::Hub;
-use sentry_base::callbacks::EventCallback;
 use sentry_base::protocol::Refusal;
-use sentry_engine::call::HubCall;
 use sentry_engine::engine::ScopeGuard;
+use sentry_lock::core_lock::CoreLock;
 use sentry_lock::scope_edits::ScopeEdits;
-use sentry_lock::transport::Transport;
-use sentry_options::clientoptions::Callbacks;
-use sentry_plain::Items;
-use sentry_scope::scope::ScopeEdit;
+use sentry_plain::Boxed;
+use sentry_scope::scope::{Scope, ScopeEdit};
 use std::alloc::AllocError;
-use std::sync::Wait;
+use std::error::Error;
+use std::fmt;
+use std::fmt::{Debug, Display};
 
 /// Why `with_scope` was refused, and what it had by then.
 pub struct WithScopeError<A> {
@@ -30,24 +29,103 @@ impl<A: Drop> From<WithScopeError<A>> for Refusal {
     ghost from_gives = { λ error refusal. refusal ≡ error.refusal };
 
     fn from(error: WithScopeError<A>) -> Refusal {
-        let WithScopeError {
-            refusal,
-            answer: _,
-            guard,
-        } = error;
-        if let Some(guard) = guard {
-            let (_hub, _depth) = guard.into_parts();
-        }
+        let (refusal, _) = error.into_refusal();
         refusal
     }
 }
 
-impl<P: EventCallback + Drop, C: Callbacks, T: Transport + Drop> Hub<P, C, T> {
+impl<A: Drop> WithScopeError<A> {
+    /// The refusal, and what the callback answered: a layer that could not be removed stays.
+    pub fn into_refusal(self) -> (Refusal, Option<A>)
+        ensures { result ≡ (self.refusal, self.answer) }
+    {
+        let WithScopeError {
+            refusal,
+            answer,
+            guard,
+        } = self;
+        if let Some(guard) = guard {
+            let (_hub, _depth) = guard.into_parts();
+        }
+        (refusal, answer)
+    }
+}
+
+impl<A: Drop> Drop for WithScopeError<A> {
+    fn drop(self) {
+        let WithScopeError {
+            refusal: _,
+            answer: _,
+            guard,
+        } = self;
+        if let Some(guard) = guard {
+            let (_hub, _depth) = guard.into_parts();
+        }
+    }
+}
+
+impl<A> Debug for WithScopeError<A> {
+    fn fmt<W: fmt::Write>(&self, f: &mut fmt::Formatter<W>) -> fmt::Result {
+        Debug::fmt(&self.refusal, f)
+    }
+}
+
+impl<A> Display for WithScopeError<A> {
+    fn fmt<W: fmt::Write>(&self, f: &mut fmt::Formatter<W>) -> fmt::Result {
+        Display::fmt(&self.refusal, f)
+    }
+}
+
+impl<A: Drop> Error for WithScopeError<A> {}
+
+/// Why a layer was not removed, and the guard that stands for it. A guard that is let go with it leaves its layer.
+pub struct PopScopeError {
+    pub refusal: Refusal,
+    pub guard: ScopeGuard,
+}
+
+impl Drop for PopScopeError {
+    fn drop(self) {
+        let PopScopeError { refusal: _, guard } = self;
+        let (_hub, _depth) = guard.into_parts();
+    }
+}
+
+impl PopScopeError {
+    /// The refusal and the guard.
+    pub fn into_parts(self) -> (Refusal, ScopeGuard) {
+        let PopScopeError { refusal, guard } = self;
+        (refusal, guard)
+    }
+}
+
+/// The refusal alone: the layer stays.
+impl From<PopScopeError> for Refusal {
+    fn from(error: PopScopeError) -> Refusal {
+        error.refusal
+    }
+}
+
+impl Debug for PopScopeError {
+    fn fmt<W: fmt::Write>(&self, f: &mut fmt::Formatter<W>) -> fmt::Result {
+        Debug::fmt(&self.refusal, f)
+    }
+}
+
+impl Display for PopScopeError {
+    fn fmt<W: fmt::Write>(&self, f: &mut fmt::Formatter<W>) -> fmt::Result {
+        Display::fmt(&self.refusal, f)
+    }
+}
+
+impl Error for PopScopeError {}
+
+impl<L: CoreLock> Hub<L> {
     /// Pushes a copy of the top layer. The guard stands for the new layer.
     ///
     /// `Stale`: the hub isn't held. `OutOfMemory`.
-    pub fn push_scope<R: Wait>(&self, rt: &R) -> Result<ScopeGuard, Refusal> {
-        self.core.push_scope(rt, self.key)
+    pub fn push_scope(&self) -> Result<ScopeGuard, Refusal> {
+        self.core.push_scope(self.key)
     }
 
     /// Removes the layer that a guard stands for. `now` is the moment in nanoseconds since the epoch. Each refusal hands
@@ -55,31 +133,19 @@ impl<P: EventCallback + Drop, C: Callbacks, T: Transport + Drop> Hub<P, C, T> {
     ///
     /// `Stale`: the guard's hub isn't held. `OutOfOrder`: the guard's layer isn't the top one, or is the only one.
     /// `OutOfMemory`.
-    pub fn pop_scope<R: Wait>(
-        &self,
-        rt: &R,
-        guard: ScopeGuard,
-        now: u64,
-    ) -> Result<(), (Refusal, ScopeGuard)> {
-        self.core.pop_scope(rt, guard, now)
+    pub fn pop_scope(&self, guard: ScopeGuard, now: u64) -> Result<(), PopScopeError> {
+        match self.core.pop_scope(guard, now) {
+            Ok(()) => Ok(()),
+            Err((refusal, guard)) => Err(PopScopeError { refusal, guard }),
+        }
     }
 
     /// Makes calls of setters on the scope of the top layer, all of them or none. `now` is the moment in nanoseconds
     /// since the epoch.
     ///
     /// `Stale`: the hub isn't held, or a span that is set isn't. `OutOfMemory`.
-    pub fn configure<R: Wait>(
-        &self,
-        rt: &R,
-        edits: Vec<ScopeEdit<P>>,
-        now: u64,
-    ) -> Result<(), Refusal> {
-        let call = HubCall::Configure {
-            hub: self.key,
-            edits: Items::from_vec(edits),
-            now,
-        };
-        self.done(rt, call)
+    pub fn configure(&self, edits: Vec<ScopeEdit<L::Processor>>, now: u64) -> Result<(), Refusal> {
+        self.lock().configure(edits, now)
     }
 
     /// Makes the calls of setters that a closure makes. The closure runs without the lock, and is lent a copy of the
@@ -89,62 +155,91 @@ impl<P: EventCallback + Drop, C: Callbacks, T: Transport + Drop> Hub<P, C, T> {
     /// `Stale`: the hub isn't held, or a span that is set isn't. `OutOfMemory`, also where the closure answers it: then
     /// no setter is called.
     pub fn configure_scope<
-        R: Wait,
         A: Drop,
-        F: FnOnce(&mut ScopeEdits<P>) -> Result<A, AllocError> + Drop,
-    >(&self, rt: &R, now: u64, configure: F) -> Result<A, Refusal>
+        F: FnOnce(&mut ScopeEdits<L::Processor>) -> Result<A, AllocError> + Drop,
+    >(&self, now: u64, configure: F) -> Result<A, Refusal>
         requires { F.IsAlwaysCallable configure }
     {
-        let mut edits = ScopeEdits::new(self.core.allocator(), self.scope(rt)?);
+        let scope = self.lock().scope()?;
+        self.configure_copy(scope, now, configure)
+    }
+
+    // Makes the calls of setters that a closure makes, which is lent this copy of the scope.
+    pub(crate) fn configure_copy<
+        A: Drop,
+        F: FnOnce(&mut ScopeEdits<L::Processor>) -> Result<A, AllocError> + Drop,
+    >(&self, scope: Boxed<Scope<L::Processor>>, now: u64, configure: F) -> Result<A, Refusal>
+        requires { F.IsAlwaysCallable configure }
+    {
+        let mut edits = ScopeEdits::new(self.core.allocator(), scope.into_inner());
         let answer = configure(&mut edits)?;
-        self.configure(rt, edits.into_edits().into_vec(), now)?;
+        self.configure(edits.into_edits().into_vec(), now)?;
         Ok(answer)
+    }
+
+    // Pushes a layer if the hub is active, and answers its guard and a copy of its scope.
+    pub(crate) fn push_active(
+        &self,
+    ) -> Result<Option<(ScopeGuard, Boxed<Scope<L::Processor>>)>, Refusal> {
+        let Some(active) = self.lock_active()? else {
+            return Ok(None);
+        };
+        Ok(Some(active.push_scope()?))
     }
 
     // Pushes a layer and configures its scope. Where that is refused, the layer is removed again.
     pub(crate) fn enter_scope<
-        R: Wait,
         A,
         B: Drop,
-        F: FnOnce(&mut ScopeEdits<P>) -> Result<B, AllocError> + Drop,
-    >(&self, rt: &R, now: u64, configure: F) -> Result<ScopeGuard, WithScopeError<A>>
+        F: FnOnce(&mut ScopeEdits<L::Processor>) -> Result<B, AllocError> + Drop,
+    >(&self, now: u64, configure: F) -> Result<ScopeGuard, WithScopeError<A>>
         requires { F.IsAlwaysCallable configure }
     {
-        let guard = match self.push_scope(rt) {
-            Ok(guard) => guard,
-            Err(refusal) => return Err(refuse_scope(refusal, None, None)),
-        };
-        match self.configure_scope(rt, now, configure) {
+        match self.lock().push_scope() {
+            Ok((guard, scope)) => self.configure_layer(guard, scope, now, configure),
+            Err(refusal) => Err(refuse_scope(refusal, None, None)),
+        }
+    }
+
+    // Configures the scope of a layer that was pushed, of which this is a copy. Where that is refused, the layer is removed
+    // again.
+    pub(crate) fn configure_layer<
+        A,
+        B: Drop,
+        F: FnOnce(&mut ScopeEdits<L::Processor>) -> Result<B, AllocError> + Drop,
+    >(
+        &self,
+        guard: ScopeGuard,
+        scope: Boxed<Scope<L::Processor>>,
+        now: u64,
+        configure: F,
+    ) -> Result<ScopeGuard, WithScopeError<A>>
+        requires { F.IsAlwaysCallable configure }
+    {
+        match self.configure_copy(scope, now, configure) {
             Ok(_) => Ok(guard),
-            Err(refusal) => Err(self.leave_refused(rt, guard, refusal, now)),
+            Err(refusal) => Err(self.leave_refused(guard, refusal, now)),
         }
     }
 
     // Removes a layer whose scope was not configured.
-    fn leave_refused<R: Wait, A>(
-        &self,
-        rt: &R,
-        guard: ScopeGuard,
-        refusal: Refusal,
-        now: u64,
-    ) -> WithScopeError<A> {
-        match self.pop_scope(rt, guard, now) {
+    fn leave_refused<A>(&self, guard: ScopeGuard, refusal: Refusal, now: u64) -> WithScopeError<A> {
+        match self.core.pop_scope(guard, now) {
             Ok(()) => refuse_scope(refusal, None, None),
             Err((_, guard)) => refuse_scope(refusal, None, Some(guard)),
         }
     }
 
     // Removes the layer once the callback has answered.
-    pub(crate) fn leave_scope<R: Wait, A>(
+    pub(crate) fn leave_scope<A>(
         &self,
-        rt: &R,
         guard: ScopeGuard,
         answer: A,
         now: u64,
     ) -> Result<A, WithScopeError<A>>
         ensures { IfOk result (λ same. same ≡ answer) }
     {
-        match self.pop_scope(rt, guard, now) {
+        match self.core.pop_scope(guard, now) {
             Ok(()) => Ok(answer),
             Err((refusal, guard)) => Err(refuse_scope(refusal, Some(answer), Some(guard))),
         }
@@ -158,19 +253,18 @@ impl<P: EventCallback + Drop, C: Callbacks, T: Transport + Drop> Hub<P, C, T> {
     /// `configure_scope`. Where the layer can't be removed, the refusal of `pop_scope` and the guard: `OutOfOrder`, if
     /// the callback left a layer on it, `OutOfMemory`.
     pub fn with_scope<
-        R: Wait,
         A,
         B: Drop,
-        F: FnOnce(&mut ScopeEdits<P>) -> Result<B, AllocError> + Drop,
+        F: FnOnce(&mut ScopeEdits<L::Processor>) -> Result<B, AllocError> + Drop,
         M: FnOnce() -> A + Drop,
-    >(&self, rt: &R, now: u64, configure: F, callback: M) -> Result<A, WithScopeError<A>>
+    >(&self, now: u64, configure: F, callback: M) -> Result<A, WithScopeError<A>>
         requires configure { F.IsAlwaysCallable configure }
         requires callback { M.IsAlwaysCallable callback }
         ensures { IfOk result (M.post callback) }
     {
-        let guard = self.enter_scope(rt, now, configure)?;
+        let guard = self.enter_scope(now, configure)?;
         let answer = callback();
-        self.leave_scope(rt, guard, answer, now)
+        self.leave_scope(guard, answer, now)
     }
 }
 

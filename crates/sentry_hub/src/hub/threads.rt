@@ -3,22 +3,18 @@ ghost use Rattle.std.specs.Prelude.{◌≡◌, ◌⊎◌, IfOk, IfSome, OnErr};
 ghost use Rattle.sentry_thread_hub.specs.Lends.{AnswersLent};
 
 use crate::hub::Hub;
-use sentry_base::callbacks::EventCallback;
 use sentry_base::protocol::Refusal;
 use sentry_clock::Clock;
-use sentry_engine::call::HubCall;
-use sentry_lock::transport::Transport;
-use sentry_options::clientoptions::Callbacks;
+use sentry_lock::core_lock::CoreLock;
 use sentry_thread_hub::hub_switch_guard::run_with;
 use sentry_thread_hub::thread_hub::ThreadHub;
 use std::alloc::AllocError;
-use std::sync::Wait;
 
-impl<P: EventCallback + Drop, C: Callbacks, T: Transport + Drop> Hub<P, C, T> {
+impl<L: CoreLock> Hub<L> {
     /// The current hub of the thread.
     ///
     /// An allocation may fail.
-    pub fn current<K, G>(thread: &ThreadHub<Hub<P, C, T>, K, G>) -> Result<Hub<P, C, T>, AllocError>
+    pub fn current<K, G>(thread: &ThreadHub<Hub<L>, K, G>) -> Result<Hub<L>, AllocError>
         ensures { IfOk result (λ hub. hub ≡ thread.now.current) }
     {
         let hub = thread.current.clone()?;
@@ -28,7 +24,7 @@ impl<P: EventCallback + Drop, C: Callbacks, T: Transport + Drop> Hub<P, C, T> {
     /// The main hub of the thread.
     ///
     /// An allocation may fail.
-    pub fn main<K, G>(thread: &ThreadHub<Hub<P, C, T>, K, G>) -> Result<Hub<P, C, T>, AllocError>
+    pub fn main<K, G>(thread: &ThreadHub<Hub<L>, K, G>) -> Result<Hub<L>, AllocError>
         ensures { IfOk result (λ hub. hub ≡ thread.now.main) }
     {
         let hub = thread.main.clone()?;
@@ -38,28 +34,24 @@ impl<P: EventCallback + Drop, C: Callbacks, T: Transport + Drop> Hub<P, C, T> {
     /// Gives the hub back, at the moment of the thread's clock. A session that no layer of another hub names ends.
     ///
     /// `Stale`: the hub isn't held. `ScopesOpen`: layers stand on its first one. `OutOfMemory`.
-    pub fn release<R: Wait, K: Clock, G>(
-        &self,
-        rt: &R,
-        thread: &mut ThreadHub<Hub<P, C, T>, K, G>,
-    ) -> Result<(), Refusal>
+    pub fn release<K: Clock, G>(&self, thread: &mut ThreadHub<Hub<L>, K, G>) -> Result<(), Refusal>
         ensures main { thread.new.main ≡ thread.old.main }
         ensures current { thread.new.current ≡ thread.old.current }
     {
         let now = thread.clock.now();
-        self.release_at(rt, now)
+        self.release_at(now)
     }
 
     // The same, with the moment.
-    pub(crate) fn release_at<R: Wait>(&self, rt: &R, now: u64) -> Result<(), Refusal> {
-        self.done(rt, HubCall::ReleaseHub { hub: self.key, now })
+    pub(crate) fn release_at(&self, now: u64) -> Result<(), Refusal> {
+        self.lock().release_hub(now)
     }
 
     /// Runs the closure, which is lent the current hub and the hubs of the thread.
     ///
     /// An allocation may fail: then it does not run.
-    pub fn with<K, G, A, F: FnOnce(&Hub<P, C, T>, &mut ThreadHub<Hub<P, C, T>, K, G>) -> A + Drop>(
-        thread: &mut ThreadHub<Hub<P, C, T>, K, G>,
+    pub fn with<K, G, A, F: FnOnce(&Hub<L>, &mut ThreadHub<Hub<L>, K, G>) -> A + Drop>(
+        thread: &mut ThreadHub<Hub<L>, K, G>,
         callback: F,
     ) -> Result<A, AllocError>
         requires { F.IsAlwaysCallable callback }
@@ -76,18 +68,17 @@ impl<P: EventCallback + Drop, C: Callbacks, T: Transport + Drop> Hub<P, C, T> {
     ///
     /// `Stale`: the hub isn't held. `OutOfMemory`.
     pub fn with_active<
-        R: Wait,
         K,
         G,
         A: Default,
-        F: FnOnce(&Hub<P, C, T>, &mut ThreadHub<Hub<P, C, T>, K, G>) -> A + Drop,
-    >(rt: &R, thread: &mut ThreadHub<Hub<P, C, T>, K, G>, callback: F) -> Result<A, Refusal>
+        F: FnOnce(&Hub<L>, &mut ThreadHub<Hub<L>, K, G>) -> A + Drop,
+    >(thread: &mut ThreadHub<Hub<L>, K, G>, callback: F) -> Result<A, Refusal>
         requires { F.IsAlwaysCallable callback }
         ensures answer { IfOk result (λ answer. AnswersLent F.FnOnce callback thread.old.current thread.old answer thread.new
             ⊎ (A.is_default answer × (thread.new ≡ thread.old))) }
         ensures refused { OnErr result (thread.new ≡ thread.old) }
     {
-        match Hub::active(rt, thread)? {
+        match Hub::active(thread)? {
             None => Ok(A::default()),
             Some(hub) => {
                 let answer = callback(&hub, thread);
@@ -97,14 +88,11 @@ impl<P: EventCallback + Drop, C: Callbacks, T: Transport + Drop> Hub<P, C, T> {
     }
 
     // The current hub of the thread, if it is active.
-    pub(crate) fn active<R: Wait, K, G>(
-        rt: &R,
-        thread: &ThreadHub<Hub<P, C, T>, K, G>,
-    ) -> Result<Option<Hub<P, C, T>>, Refusal>
+    pub(crate) fn active<K, G>(thread: &ThreadHub<Hub<L>, K, G>) -> Result<Option<Hub<L>>, Refusal>
         ensures { IfOk result (λ found. IfSome found (λ hub. hub ≡ thread.now.current)) }
     {
         let hub = Hub::current(thread)?;
-        if !hub.is_active(rt)? {
+        if !hub.is_active()? {
             return Ok(None);
         }
         Ok(Some(hub))
@@ -114,14 +102,9 @@ impl<P: EventCallback + Drop, C: Callbacks, T: Transport + Drop> Hub<P, C, T> {
     /// Afterwards the earlier one is current again.
     ///
     /// An allocation may fail: then it does not run.
-    pub fn run<
-        K: Drop,
-        G: Drop,
-        A,
-        F: FnOnce(&Hub<P, C, T>, &mut ThreadHub<Hub<P, C, T>, K, G>) -> A + Drop,
-    >(
-        hub: Hub<P, C, T>,
-        thread: &mut ThreadHub<Hub<P, C, T>, K, G>,
+    pub fn run<K: Drop, G: Drop, A, F: FnOnce(&Hub<L>, &mut ThreadHub<Hub<L>, K, G>) -> A + Drop>(
+        hub: Hub<L>,
+        thread: &mut ThreadHub<Hub<L>, K, G>,
         callback: F,
     ) -> Result<A, AllocError>
         requires { F.IsAlwaysCallable callback }

@@ -1,11 +1,12 @@
 //! Calls as values, under the lock.
 
-ghost use Rattle.std.specs.Prelude.{◌≡◌, Ok, true, IfOk, IfErr};
+ghost use Rattle.std.specs.Prelude.{◌≡◌, Ok, [], true, false, IfOk, IfErr};
 ghost use Rattle.sentry_calls.specs.Steps.{step, takes_no_memory};
 ghost use Rattle.sentry_state.specs.Outcomes.{DoesWith};
 ghost use Rattle.sentry_state.specs.declared.state.State.{State};
-ghost use Rattle.sentry_lock.specs.Locked.{DrainsFor};
+ghost use Rattle.sentry_lock.specs.Locked.{DrainsFor, ForgetsDropped};
 ghost use Rattle.sentry_lock.specs.Plain.{is_plain_call, can_hand_out, client_call_can_hand_out, hub_call_can_hand_out};
+ghost use Rattle.sentry_lock.specs.Words.{Drainers};
 
 use crate::handed::{Handed, Transports};
 use crate::locked::Core;
@@ -71,17 +72,23 @@ impl<P: EventCallback + Drop, C: Callbacks, T: Drop> Core<P, C, T> {
     // Makes one call of the engine.
     fn apply_call(&mut self, call: Call<P, C>) -> Answer<P, C>
         requires { is_plain_call call ≡ true }
-        ensures { DoesWith (takes_no_memory call) self.old.engine self.new.engine result (step P.gives C.meanings call) }
+        ensures does { DoesWith (takes_no_memory call) self.old.engine self.new.engine result (step P.gives C.meanings call) }
+        ensures silent { IfOk result (λ out. can_hand_out call ≡ false → out.sent ≡ []) }
+        ensures drainers { self.new.drainers ≡ self.old.drainers }
     {
         self.engine.apply(call)
     }
 
-    /// Makes one call, which isn't made by a method of its own.
-    pub(crate) fn apply(&mut self, call: Call<P, C>) -> Result<Handed<Reply<P, C>, T>, Refusal>
+    // Makes one call, which isn't made by a method of its own, and before which the losses were drained.
+    fn apply(&mut self, call: Call<P, C>) -> Result<Handed<Reply<P, C>, T>, Refusal>
         requires { is_plain_call call ≡ true }
         ensures done { IfOk result (λ handed. DoesWith (takes_no_memory call) self.old.engine self.new.engine
             (Ok handed.out) (step P.gives C.meanings call)) }
-        ensures refused { IfErr result (λ _. self.new.engine ≡ self.old.engine) }
+        ensures silent { IfOk result (λ handed. can_hand_out call ≡ false → handed.out.sent ≡ []) }
+        ensures forgets { IfOk result (λ _.
+            ForgetsDropped call self.old.engine self.new.engine self.old.drainers self.new.drainers) }
+        ensures refused { IfErr result (λ _. (self.new.engine ≡ self.old.engine)
+            × (self.new.drainers ≡ self.old.drainers)) }
     {
         let transports = self.transports_for(&call)?;
         let after = self.transports_after(&call)?;
@@ -90,15 +97,15 @@ impl<P: EventCallback + Drop, C: Callbacks, T: Drop> Core<P, C, T> {
         if let Some(after) = after {
             self.transports = after;
         }
-        if let Some(label) = dropped {
-            self.forget_unused(label);
-        }
+        self.forget_dropped(dropped);
         Ok(Handed { out, transports })
     }
 
     // Drains the words of all labels, if the call can hand out envelopes.
+    #[tactic(auto, unfolding(crate::specs::Locked::DrainsAll))]
     fn drain_for(&mut self, call: &Call<P, C>)
-        ensures { DrainsFor (can_hand_out call.now) self.old.tag self.old.drainers self.old.engine self.new.engine }
+        ensures { DrainsFor (can_hand_out call.now) self.old.tag self.old.engine self.new.engine
+            self.old.drainers self.new.drainers }
     {
         if can_hand_out(call) {
             self.drain_all();
@@ -112,11 +119,13 @@ impl<P: EventCallback + Drop, C: Callbacks, T: Drop> Core<P, C, T> {
         call: Call<P, C>,
     ) -> Result<Handed<Reply<P, C>, T>, Refusal>
         requires { is_plain_call call ≡ true }
-        ensures done { IfOk result (λ handed. (between : State P C)
-            × DrainsFor (can_hand_out call) self.old.tag self.old.drainers self.old.engine between
-            × DoesWith (takes_no_memory call) between self.new.engine (Ok handed.out) (step P.gives C.meanings call)) }
-        ensures refused { IfErr result (λ _.
-            DrainsFor (can_hand_out call) self.old.tag self.old.drainers self.old.engine self.new.engine) }
+        ensures done { IfOk result (λ handed. (between : State P C) × (drained : Drainers)
+            × DrainsFor (can_hand_out call) self.old.tag self.old.engine between self.old.drainers drained
+            × DoesWith (takes_no_memory call) between self.new.engine (Ok handed.out) (step P.gives C.meanings call)
+            × ForgetsDropped call between self.new.engine drained self.new.drainers) }
+        ensures silent { IfOk result (λ handed. can_hand_out call ≡ false → handed.out.sent ≡ []) }
+        ensures refused { IfErr result (λ _. DrainsFor (can_hand_out call) self.old.tag
+            self.old.engine self.new.engine self.old.drainers self.new.drainers) }
     {
         self.drain_for(&call);
         let handed = self.apply(call)?;

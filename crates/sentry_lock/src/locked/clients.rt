@@ -1,15 +1,17 @@
 //! Clients that come and go, with their transports and the drainers of their losses.
 
-ghost use Rattle.std.specs.Prelude.{◌≡◌, ◌+◌, ◌-◌, ◌^◌, List, None, Ok, Some, IfOk, IfErr, false};
+ghost use Rattle.std.specs.Prelude.{◌≡◌, ◌+◌, ◌-◌, ◌^◌, ◌⊎◌, List, None, Ok, Some, IfOk, IfErr, OnOk, OnErr, false};
 ghost use Rattle.std.specs.Option.{is_some};
 ghost use Rattle.sentry_base.specs.Losses.{no_losses};
 ghost use Rattle.sentry_base.specs.declared.protocol.envelope.Envelope.{Envelope};
 ghost use Rattle.sentry_base.specs.declared.protocol.keys.ClientKey.{ClientKey};
 ghost use Rattle.sentry_calls.specs.Clients as clients;
-ghost use Rattle.sentry_plain.specs.Tables.{value_at};
+ghost use Rattle.sentry_plain.specs.Tables.{value_at, put, replace_at};
 ghost use Rattle.sentry_state.specs.Books.{has_book};
 ghost use Rattle.sentry_state.specs.Outcomes.{Does};
 ghost use Rattle.sentry_state.specs.Worlds.{World, Stands};
+ghost use Rattle.sentry_lock.specs.Plain.{dropped_label};
+ghost use Rattle.sentry_lock.specs.Words.{AddsDrainer};
 
 use crate::client::ClientSetup;
 use crate::handed::Transports;
@@ -83,7 +85,7 @@ impl<P: EventCallback + Drop, C: Callbacks, T: Drop> Core<P, C, T> {
     }
 
     // The transports as they are once the call is done, if it changes them.
-    pub(crate) fn transports_after(
+    pub(super) fn transports_after(
         &self,
         call: &Call<P, C>,
     ) -> Result<Option<Transports<T>>, AllocError> {
@@ -106,7 +108,9 @@ impl<P: EventCallback + Drop, C: Callbacks, T: Drop> Core<P, C, T> {
     }
 
     // The label of the client that a call drops.
-    pub(crate) fn dropped_label(&self, call: &Call<P, C>) -> Option<Label> {
+    pub(super) fn dropped_label(&self, call: &Call<P, C>) -> Option<Label>
+        ensures { (world : World P C) → Stands self.now.engine world → result ≡ dropped_label call.now world }
+    {
         match call {
             Call::Client(ClientCall::DropClient(client)) => self.engine.client_label(*client),
             _ => None,
@@ -118,6 +122,8 @@ impl<P: EventCallback + Drop, C: Callbacks, T: Drop> Core<P, C, T> {
         ensures engine { self.new.engine ≡ self.old.engine }
         ensures tag { self.new.tag ≡ self.old.tag }
         ensures place { IfOk result (λ _. value_at self.new.drainers number ≡ Some None) }
+        ensures made { OnOk result (self.new.drainers ≡ put self.old.drainers number None) }
+        ensures refused { OnErr result (self.new.drainers ≡ self.old.drainers) }
     {
         self.drainers.insert(number, None)?;
         Ok(())
@@ -139,7 +145,9 @@ impl<P: EventCallback + Drop, C: Callbacks, T: Drop> Core<P, C, T> {
         requires none { drainer.taken ≡ no_losses }
         ensures done { IfOk result (λ out. Does self.old.engine self.new.engine (Ok out)
             (clients.add_client C.meanings options transport label now)) }
-        ensures refused { IfErr result (λ _. self.new.engine ≡ self.old.engine) }
+        ensures taken { OnOk result (self.new.drainers ≡ replace_at self.old.drainers label.number (Some drainer)) }
+        ensures refused { IfErr result (λ _. (self.new.engine ≡ self.old.engine)
+            × (self.new.drainers ≡ self.old.drainers)) }
     {
         match self.engine.add_client(options, transport, label, now) {
             Ok(out) => {
@@ -167,7 +175,10 @@ impl<P: EventCallback + Drop, C: Callbacks, T: Drop> Core<P, C, T> {
         requires none { drainer.taken ≡ no_losses }
         ensures done { IfOk result (λ out. Does self.old.engine self.new.engine (Ok out)
             (clients.add_client C.meanings options (is_some transport) label now)) }
-        ensures refused { IfErr result (λ _. self.new.engine ≡ self.old.engine) }
+        ensures drainer { OnOk result (AddsDrainer self.old.drainers self.new.drainers label.number drainer) }
+        ensures refused { IfErr result (λ _. (self.new.engine ≡ self.old.engine)
+            × ((self.new.drainers ≡ self.old.drainers)
+            ⊎ (self.new.drainers ≡ put self.old.drainers label.number None))) }
     {
         if label.tag != self.tag || self.engine.has_book(label) {
             return Err(Refusal::ForeignLosses);
@@ -198,7 +209,11 @@ impl<P: EventCallback + Drop, C: Callbacks, T: Drop> Core<P, C, T> {
         ensures done { IfOk result (λ reply. (sent : List (ClientKey × Envelope))
             × Does self.old.engine self.new.engine (Ok (record { reply = reply; sent = sent }))
             (clients.add_client C.meanings setup.options (is_some transport) setup.label now)) }
-        ensures refused { IfErr result (λ _. self.new.engine ≡ self.old.engine) }
+        ensures drainer { OnOk result
+            (AddsDrainer self.old.drainers self.new.drainers setup.label.number setup.drainer) }
+        ensures refused { IfErr result (λ _. (self.new.engine ≡ self.old.engine)
+            × ((self.new.drainers ≡ self.old.drainers)
+            ⊎ (self.new.drainers ≡ put self.old.drainers setup.label.number None))) }
     {
         let ClientSetup {
             options,

@@ -1,27 +1,43 @@
 //! The losses of labels: drained, reported, and ended.
 ghost use Rattle.std.specs.Prelude.{◌≡◌, MatchOption, IfOk, IfErr, Ok, Err, List, true, false, [], ◌⊎◌};
-ghost use Rattle.sentry_plain.specs.Tables.{entries_after};
+ghost use Rattle.sentry_plain.specs.Tables.{entries_after, without};
 ghost use Rattle.sentry_base.specs.declared.protocol.envelope.Envelope.{Envelope};
 ghost use Rattle.sentry_base.specs.declared.protocol.keys.ClientKey.{ClientKey};
 ghost use Rattle.sentry_calls.specs.Losses.{take_report};
 ghost use Rattle.sentry_state.specs.Outcomes.{Does};
 ghost use Rattle.sentry_state.specs.Worlds.{World, Stands};
-ghost use Rattle.sentry_lock.specs.Locked.{Absorbs, DrainsAndAbsorbs, DrainsEach, DrainsNext, EndsAndAbsorbs, FindsNoWords, IsHeld};
-ghost use Rattle.sentry_lock.specs.Words.{HasOpenWords};
+ghost use Rattle.sentry_lock.specs.Locked.{Absorbs, DrainsAll, DrainsAndAbsorbs, DrainsEach, DrainsNext, EndsAndAbsorbs, FindsNoWords, ForgetsUnused, IsHeld};
+ghost use Rattle.sentry_lock.specs.Words.{AreZero, HasOpenWords};
 
+use crate::handed::Transports;
 use crate::locked::Core;
 use crate::words::{StillHeld, drain_words, end_words};
 use sentry_base::callbacks::EventCallback;
-use sentry_base::protocol::{ClientReport, Label, Losses, Refusal};
+use sentry_base::protocol::{ClientReport, LOSS_QUANTITIES, Label, Losses, Refusal};
 use sentry_engine::engine::Engine;
 use sentry_options::clientoptions::Callbacks;
+use std::alloc::AllocError;
 
-// Absorbs losses under a label that a client names, which is never refused.
+// Whether nothing is lost. It looks at each quantity without a branch, which is the fastest way.
+fn is_nothing(losses: &Losses) -> bool
+    ensures { result ≡ true → AreZero losses.now.quantities }
+{
+    let mut zero = true;
+    for i in 0..LOSS_QUANTITIES {
+        zero &= losses.quantities[i] == 0;
+    }
+    zero
+}
+
+// Absorbs losses under a label that a client names, which is never refused. Where nothing is lost the book is left alone.
 fn absorb_held<P: Drop, C: Callbacks>(engine: &mut Engine<P, C>, label: Label, losses: &Losses)
     requires stands { ∥ ((world : World P C) × Stands engine.old world) ∥₁ }
     requires held { IsHeld true label engine.old }
     ensures { Absorbs label losses.now.quantities engine.old engine.new }
 {
+    if is_nothing(losses) {
+        return;
+    }
     drop(engine.absorb_losses(label, losses));
 }
 
@@ -71,7 +87,7 @@ impl<P: EventCallback + Drop, C: Callbacks, T: Drop> Core<P, C, T> {
     }
 
     /// Drains and absorbs for each label that a held client names, in the order of their numbers.
-    pub(crate) fn drain_all(&mut self)
+    pub(super) fn drain_all(&mut self)
         ensures { DrainsEach self.old.tag self.old.drainers self.old.engine self.new.engine
             self.old.drainers self.new.drainers }
     {
@@ -82,6 +98,17 @@ impl<P: EventCallback + Drop, C: Callbacks, T: Drop> Core<P, C, T> {
             };
             last = Some(number);
         }
+    }
+
+    /// Drains the words of all labels, and takes a share of the transports: what a call that can hand out envelopes does
+    /// before the engine's call, after which nothing may fail.
+    #[tactic(auto, unfolding(crate::specs::Locked::DrainsAll))]
+    pub(super) fn drained(&mut self) -> Result<Transports<T>, AllocError>
+        ensures { DrainsAll self.old.tag self.old.engine self.new.engine self.old.drainers self.new.drainers }
+    {
+        self.drain_all();
+        let transports = self.transports.clone()?;
+        Ok(transports)
     }
 
     /// Returns a report of the losses that are pending under a label, which then count as reported, or `None` if there
@@ -125,12 +152,24 @@ impl<P: EventCallback + Drop, C: Callbacks, T: Drop> Core<P, C, T> {
         Ok(true)
     }
 
-    // Forgets the drainer of a label that no client names any more.
-    pub(crate) fn forget_unused(&mut self, label: Label)
-        ensures { self.new.engine ≡ self.old.engine }
+    // Forgets the drainer of a label, unless a client names it.
+    fn forget_unused(&mut self, label: Label)
+        ensures engine { self.new.engine ≡ self.old.engine }
+        ensures drainers { (IsHeld true label self.new.engine × (self.new.drainers ≡ self.old.drainers))
+            ⊎ (IsHeld false label self.new.engine × (self.new.drainers ≡ without self.old.drainers label.number)) }
     {
         if !self.engine.has_book(label) {
             drop(self.drainers.remove(label.number));
+        }
+    }
+
+    /// The same, if a label is given.
+    pub(super) fn forget_dropped(&mut self, label: Option<Label>)
+        ensures engine { self.new.engine ≡ self.old.engine }
+        ensures drainers { ForgetsUnused label self.new.engine self.old.drainers self.new.drainers }
+    {
+        if let Some(label) = label {
+            self.forget_unused(label);
         }
     }
 }

@@ -1,13 +1,11 @@
-//! Calls that are made by methods of their own, with values lent or with guards: each is the engine's, beside a share of
-//! the transports.
+//! Calls on clients that are made by methods of their own, and those with guards of layers: each is the engine's, beside a
+//! share of the transports.
 
-ghost use Rattle.std.specs.Prelude.{◌≡◌, Ok, IfOk, IfErr, List, option_copied};
-ghost use Rattle.sentry_base.specs.declared.protocol.envelope.Envelope.{Envelope};
-ghost use Rattle.sentry_base.specs.declared.protocol.keys.ClientKey.{ClientKey};
+ghost use Rattle.std.specs.Prelude.{◌≡◌, Ok, IfOk, IfErr, option_copied};
 ghost use Rattle.sentry_calls.specs.Clients as clients;
 ghost use Rattle.sentry_calls.specs.Layers as layers;
 ghost use Rattle.sentry_calls.specs.Telemetry as telemetry;
-ghost use Rattle.sentry_state.specs.Outcomes.{Does};
+ghost use Rattle.sentry_lock.specs.Locked.{DrainsAll, DrainsAndDoes, Replies};
 
 use crate::handed::Handed;
 use crate::locked::Core;
@@ -27,28 +25,29 @@ impl<P: EventCallback + Drop, C: Callbacks, T: Drop> Core<P, C, T> {
         scope: Option<&Scope<P>>,
         fresh: Fresh,
     ) -> Result<Option<Boxed<Event>>, Refusal>
-        ensures done { IfOk result (λ reply. (sent : List (ClientKey × Envelope))
-            × Does self.old.engine self.new.engine (Ok (record { reply = reply; sent = sent }))
+        ensures done { IfOk result (λ reply. Replies self.old.engine self.new.engine reply
             (clients.prepare_event P.gives C.meanings client event (option_copied scope.entry) fresh)) }
         ensures refused { IfErr result (λ _. self.new.engine ≡ self.old.engine) }
+        ensures drainers { self.new.drainers ≡ self.old.drainers }
     {
         let out = self.engine.prepare_event(client, event, scope, fresh)?;
         Ok(out.reply)
     }
 
     /// Captures an event of a client.
-    pub(crate) fn capture_event(
+    pub(crate) fn client_capture_event(
         &mut self,
         client: ClientKey,
         event: Event,
         scope: Option<&Scope<P>>,
         fresh: Fresh,
     ) -> Result<Handed<Uuid, T>, Refusal>
-        ensures done { IfOk result (λ handed. Does self.old.engine self.new.engine (Ok handed.out)
-            (clients.client_capture_event P.gives C.meanings client event (option_copied scope.entry) fresh)) }
-        ensures refused { IfErr result (λ _. self.new.engine ≡ self.old.engine) }
+        ensures done { IfOk result (λ handed. DrainsAndDoes self.old.tag self.old.engine self.new.engine
+            self.old.drainers self.new.drainers (Ok handed.out) (clients.client_capture_event P.gives C.meanings client event (option_copied scope.entry) fresh)) }
+        ensures refused { IfErr result (λ _.
+            DrainsAll self.old.tag self.old.engine self.new.engine self.old.drainers self.new.drainers) }
     {
-        let transports = self.transports.clone()?;
+        let transports = self.drained()?;
         let out = self
             .engine
             .client_capture_event(client, event, scope, fresh)?;
@@ -59,17 +58,18 @@ impl<P: EventCallback + Drop, C: Callbacks, T: Drop> Core<P, C, T> {
     }
 
     /// Captures a log of a client.
-    pub(crate) fn capture_log(
+    pub(crate) fn client_capture_log(
         &mut self,
         client: ClientKey,
         log: Log,
         scope: &Scope<P>,
     ) -> Result<Handed<(), T>, Refusal>
-        ensures done { IfOk result (λ handed. Does self.old.engine self.new.engine (Ok handed.out)
-            (telemetry.client_capture_log C.meanings client log scope.now)) }
-        ensures refused { IfErr result (λ _. self.new.engine ≡ self.old.engine) }
+        ensures done { IfOk result (λ handed. DrainsAndDoes self.old.tag self.old.engine self.new.engine
+            self.old.drainers self.new.drainers (Ok handed.out) (telemetry.client_capture_log C.meanings client log scope.now)) }
+        ensures refused { IfErr result (λ _.
+            DrainsAll self.old.tag self.old.engine self.new.engine self.old.drainers self.new.drainers) }
     {
-        let transports = self.transports.clone()?;
+        let transports = self.drained()?;
         let out = self.engine.client_capture_log(client, log, scope)?;
         Ok(Handed {
             out,
@@ -78,18 +78,19 @@ impl<P: EventCallback + Drop, C: Callbacks, T: Drop> Core<P, C, T> {
     }
 
     /// Captures a metric of a client.
-    pub(crate) fn capture_metric(
+    pub(crate) fn client_capture_metric(
         &mut self,
         client: ClientKey,
         draft: MetricDraft,
         scope: &Scope<P>,
         now: u64,
     ) -> Result<Handed<(), T>, Refusal>
-        ensures done { IfOk result (λ handed. Does self.old.engine self.new.engine (Ok handed.out)
-            (telemetry.client_capture_metric C.meanings client draft scope.now now)) }
-        ensures refused { IfErr result (λ _. self.new.engine ≡ self.old.engine) }
+        ensures done { IfOk result (λ handed. DrainsAndDoes self.old.tag self.old.engine self.new.engine
+            self.old.drainers self.new.drainers (Ok handed.out) (telemetry.client_capture_metric C.meanings client draft scope.now now)) }
+        ensures refused { IfErr result (λ _.
+            DrainsAll self.old.tag self.old.engine self.new.engine self.old.drainers self.new.drainers) }
     {
-        let transports = self.transports.clone()?;
+        let transports = self.drained()?;
         let out = self
             .engine
             .client_capture_metric(client, draft, scope, now)?;
@@ -101,11 +102,12 @@ impl<P: EventCallback + Drop, C: Callbacks, T: Drop> Core<P, C, T> {
 
     /// Flushes the queues of a client.
     pub(crate) fn flush(&mut self, client: ClientKey) -> Result<Handed<(), T>, Refusal>
-        ensures done { IfOk result (λ handed. Does self.old.engine self.new.engine (Ok handed.out)
-            (clients.flush client)) }
-        ensures refused { IfErr result (λ _. self.new.engine ≡ self.old.engine) }
+        ensures done { IfOk result (λ handed. DrainsAndDoes self.old.tag self.old.engine self.new.engine
+            self.old.drainers self.new.drainers (Ok handed.out) (clients.flush client)) }
+        ensures refused { IfErr result (λ _.
+            DrainsAll self.old.tag self.old.engine self.new.engine self.old.drainers self.new.drainers) }
     {
-        let transports = self.transports.clone()?;
+        let transports = self.drained()?;
         let out = self.engine.flush(client)?;
         Ok(Handed {
             out,
@@ -115,11 +117,12 @@ impl<P: EventCallback + Drop, C: Callbacks, T: Drop> Core<P, C, T> {
 
     /// Closes a client.
     pub(crate) fn close(&mut self, client: ClientKey) -> Result<Handed<(), T>, Refusal>
-        ensures done { IfOk result (λ handed. Does self.old.engine self.new.engine (Ok handed.out)
-            (clients.close client)) }
-        ensures refused { IfErr result (λ _. self.new.engine ≡ self.old.engine) }
+        ensures done { IfOk result (λ handed. DrainsAndDoes self.old.tag self.old.engine self.new.engine
+            self.old.drainers self.new.drainers (Ok handed.out) (clients.close client)) }
+        ensures refused { IfErr result (λ _.
+            DrainsAll self.old.tag self.old.engine self.new.engine self.old.drainers self.new.drainers) }
     {
-        let transports = self.transports.clone()?;
+        let transports = self.drained()?;
         let out = self.engine.close(client)?;
         Ok(Handed {
             out,
@@ -129,10 +132,10 @@ impl<P: EventCallback + Drop, C: Callbacks, T: Drop> Core<P, C, T> {
 
     /// Pushes a copy of a hub's top layer.
     pub(crate) fn push_scope(&mut self, hub: HubKey) -> Result<ScopeGuard, Refusal>
-        ensures done { IfOk result (λ reply. (sent : List (ClientKey × Envelope))
-            × Does self.old.engine self.new.engine (Ok (record { reply = reply; sent = sent }))
+        ensures done { IfOk result (λ reply. Replies self.old.engine self.new.engine reply
             (layers.push_scope hub)) }
         ensures refused { IfErr result (λ _. self.new.engine ≡ self.old.engine) }
+        ensures drainers { self.new.drainers ≡ self.old.drainers }
     {
         let out = self.engine.push_scope(hub)?;
         Ok(out.reply)
@@ -144,11 +147,12 @@ impl<P: EventCallback + Drop, C: Callbacks, T: Drop> Core<P, C, T> {
         guard: ScopeGuard,
         now: u64,
     ) -> Result<Handed<(), T>, (Refusal, ScopeGuard)>
-        ensures done { IfOk result (λ handed. Does self.old.engine self.new.engine (Ok handed.out)
-            (layers.pop_scope guard.0 guard.1 now)) }
-        ensures refused { IfErr result (λ refused. (self.new.engine ≡ self.old.engine) × (refused.1 ≡ guard)) }
+        ensures done { IfOk result (λ handed. DrainsAndDoes self.old.tag self.old.engine self.new.engine
+            self.old.drainers self.new.drainers (Ok handed.out) (layers.pop_scope guard.0 guard.1 now)) }
+        ensures refused { IfErr result (λ refused.
+            DrainsAll self.old.tag self.old.engine self.new.engine self.old.drainers self.new.drainers × (refused.1 ≡ guard)) }
     {
-        let Ok(transports) = self.transports.clone() else {
+        let Ok(transports) = self.drained() else {
             return Err((Refusal::OutOfMemory, guard));
         };
         let out = self.engine.pop_scope(guard, now)?;

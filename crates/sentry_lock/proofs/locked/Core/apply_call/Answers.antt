@@ -1,5 +1,6 @@
 use Rattle.sentry_calls.specs.Steps.{step, takes_no_memory}
 use Rattle.sentry_lock.proofs.Keeps.{plain_keeps}
+use Rattle.sentry_lock.proofs.Silent.{sends_nothing}
 use Rattle.sentry_lock.proofs.Sound.{after_call}
 use Rattle.sentry_lock.proofs.locked.Core.apply_call.Goals as goal
 
@@ -11,3 +12,9 @@ invariant_of-self g c =
           (step g.P.EventCallback.gives g.C.Callbacks.meanings c.args.call) self.drainers c.apply.ensures (plain_keeps g.P.EventCallback.gives g.C.Callbacks.meanings c.args.call c.requires) self.sound;
       labelled = self.labelled;
     }
+
+pub returns-clause-silent : goal.returns-clause-silent
+returns-clause-silent g c =
+    let self = c.args.self.now in
+    sends_nothing g.P.EventCallback.gives g.C.Callbacks.meanings (takes_no_memory c.args.call) c.args.call self.engine
+    c.apply.new.self c.apply.result self.drainers c.apply.ensures self.sound

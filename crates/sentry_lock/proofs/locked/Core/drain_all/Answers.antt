@@ -1,5 +1,4 @@
-use Rattle.std.proofs.Common.{refl, ap, ◌≡◌, ◌+◌, length, arith}
-use Rattle.sentry_plain.specs.Tables.{entries_after}
+use Rattle.std.proofs.Common.{refl, ap, length, arith}
 use Rattle.sentry_lock.proofs.Walks.{after_none, leads_first}
 use Rattle.sentry_lock.proofs.locked.Core.drain_all.Goals as goal
 

@@ -1,0 +1,5 @@
+//! The options of a client from the environment of a program.
+#![tactic(auto)]
+
+pub mod decimals;
+pub mod environment;

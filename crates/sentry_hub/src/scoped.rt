@@ -1,0 +1,271 @@
+//! Work that is run in a scope, on a hub or under a span, which ends after it whatever it answers. Its error is the answer,
+//! or else what is refused at the end.
+ghost use Rattle.std.specs.Prelude.{◌≡◌};
+
+use crate::api::{start_transaction, with_scope};
+use crate::hub::Hub;
+use crate::performance::{Span, Transaction, TransactionOrSpan};
+use rand_core::Rng;
+use sentry_base::protocol::{Refusal, SpanStatus, TransactionOrSpanKey};
+use sentry_clock::Clock;
+use sentry_lock::core_lock::CoreLock;
+use sentry_lock::scope_edits::{IntoSpanKey, ScopeEdits};
+use sentry_scope::scope::ScopeEdit;
+use sentry_thread_hub::hub_switch_guard::HubSwitchGuard;
+use sentry_thread_hub::thread_hub::ThreadHub;
+use sentry_trace::performance::TransactionContext;
+use std::alloc::{AllocError, Global};
+
+// What the work answers, or else what was refused at its end.
+fn settle<A: Drop, E: From<Refusal> + Drop>(
+    answer: Result<A, E>,
+    ended: Result<(), Refusal>,
+) -> Result<A, E> {
+    let answer = answer?;
+    match ended {
+        Ok(()) => Ok(answer),
+        Err(refusal) => Err(E::from(refusal)),
+    }
+}
+
+// The first refusal.
+fn first(one: Result<(), Refusal>, other: Result<(), Refusal>) -> Result<(), Refusal> {
+    match one {
+        Ok(()) => other,
+        Err(refusal) => Err(refusal),
+    }
+}
+
+/// Runs the work as `with_scope` does.
+pub fn in_scope<
+    L: CoreLock,
+    K: Clock + Drop,
+    G: Drop,
+    A: Drop,
+    B: Drop,
+    E: From<Refusal> + Drop,
+    F: FnOnce(&mut ScopeEdits<L::Processor>) -> Result<B, AllocError> + Drop,
+    M: FnOnce(&mut ThreadHub<Hub<L>, K, G>) -> Result<A, E> + Drop,
+>(thread: &mut ThreadHub<Hub<L>, K, G>, configure: F, work: M) -> Result<A, E>
+    requires configure { F.IsAlwaysCallable configure }
+    requires work { M.IsAlwaysCallable work }
+    ensures { thread.new.current ≡ thread.old.current }
+{
+    match with_scope(thread, configure, work) {
+        Ok(answer) => answer,
+        Err(error) => {
+            let (refusal, answer) = error.into_refusal();
+            match answer {
+                Some(Err(error)) => Err(error),
+                _ => Err(E::from(refusal)),
+            }
+        }
+    }
+}
+
+// A hub that is made from the top of the main one, and a value of it more.
+fn make_hub<L: CoreLock, K, G>(
+    thread: &ThreadHub<Hub<L>, K, G>,
+) -> Result<(Hub<L>, Hub<L>), Refusal> {
+    let hub = Hub::new_from_top(&thread.main)?;
+    let same = hub.clone()?;
+    Ok((hub, same))
+}
+
+/// Runs the work while a new hub is the current one, which is made from the top of the main hub and is given back after
+/// it. If the work leaves layers on it, that is refused: `ScopesOpen`.
+pub fn in_new_hub<
+    L: CoreLock,
+    K: Clock + Drop,
+    G: Drop,
+    A: Drop,
+    E: From<Refusal> + Drop,
+    F: FnOnce(&mut ThreadHub<Hub<L>, K, G>) -> Result<A, E> + Drop,
+>(thread: &mut ThreadHub<Hub<L>, K, G>, work: F) -> Result<A, E>
+    requires { F.IsAlwaysCallable work }
+    ensures { thread.new.current ≡ thread.old.current }
+{
+    let (hub, same) = make_hub(thread)?;
+    let mut guard = HubSwitchGuard::new(thread, same);
+    let answer = work(guard.thread_hub());
+    drop(guard);
+    settle(answer, hub.release(thread))
+}
+
+// What is active on the hub while the work runs, and what was before.
+#[derive(Drop)]
+struct Active<L, S> {
+    hub: Hub<L>,
+    span: S,
+    before: Option<TransactionOrSpanKey>,
+}
+
+// The call of the setter of a span.
+fn list_span<P: Drop>(
+    alloc: Global,
+    span: Option<TransactionOrSpanKey>,
+) -> Result<Vec<ScopeEdit<P>>, AllocError> {
+    let mut edits = Vec::new(alloc);
+    edits.push(ScopeEdit::SetSpan(span))?;
+    Ok(edits)
+}
+
+// Sets the active span of a hub.
+fn set_active<L: CoreLock>(
+    hub: &Hub<L>,
+    span: Option<TransactionOrSpanKey>,
+    now: u64,
+) -> Result<(), Refusal> {
+    let edits = list_span(hub.core().allocator(), span)?;
+    hub.configure(edits, now)
+}
+
+// The same, and answers the one of before.
+fn activate<L: CoreLock>(
+    hub: &Hub<L>,
+    span: Option<TransactionOrSpanKey>,
+    now: u64,
+) -> Result<Option<TransactionOrSpanKey>, Refusal> {
+    let before = hub.scope()?.get_span();
+    set_active(hub, span, now)?;
+    Ok(before)
+}
+
+// Makes the span of before the active one again, or none where that is no longer held.
+fn restore<L: CoreLock>(
+    hub: &Hub<L>,
+    before: Option<TransactionOrSpanKey>,
+    now: u64,
+) -> Result<(), Refusal> {
+    match set_active(hub, before, now) {
+        Err(Refusal::Stale) => set_active(hub, None, now),
+        restored => restored,
+    }
+}
+
+// Starts a transaction and makes it the active one.
+fn enter_transaction<L: CoreLock, K: Clock, G: Rng>(
+    thread: &mut ThreadHub<Hub<L>, K, G>,
+    context: TransactionContext,
+) -> Result<Active<L, Transaction<L>>, Refusal>
+    ensures current { thread.new.current ≡ thread.old.current }
+{
+    let hub = Hub::current(thread)?;
+    let span = start_transaction(thread, context)?;
+    let key = TransactionOrSpanKey::Transaction(span.key());
+    match activate(&hub, Some(key), thread.clock.now()) {
+        Ok(before) => Ok(Active { hub, span, before }),
+        Err(refusal) => {
+            drop(span.discard());
+            Err(refusal)
+        }
+    }
+}
+
+// The transaction of work that failed has the status `InternalError`, unless the work has set one.
+fn note_failed_transaction<L: CoreLock>(
+    transaction: &Transaction<L>,
+    has_failed: bool,
+) -> Result<(), Refusal> {
+    if !has_failed || transaction.get_status()?.is_some() {
+        return Ok(());
+    }
+    transaction.set_status(SpanStatus::InternalError)
+}
+
+// The same of a span.
+fn note_failed_span<L: CoreLock>(span: &Span<L>, has_failed: bool) -> Result<(), Refusal> {
+    if !has_failed || span.get_status()?.is_some() {
+        return Ok(());
+    }
+    span.set_status(SpanStatus::InternalError)
+}
+
+/// Runs the work under a transaction, which is active on the current hub until it is finished and forgotten after the
+/// work. If the work answers an error, and has set no status, the transaction is finished with the status
+/// `InternalError`. Afterwards what was active before is active again, if it is still held.
+///
+/// The error of the work, or else what is refused: `StillNamed`, if the work leaves a layer that names the transaction, or
+/// holds a span of it.
+pub fn in_transaction<
+    L: CoreLock,
+    K: Clock + Drop,
+    G: Rng + Drop,
+    A: Drop,
+    E: From<Refusal> + Drop,
+    F: FnOnce(&mut ThreadHub<Hub<L>, K, G>, &Transaction<L>) -> Result<A, E> + Drop,
+>(thread: &mut ThreadHub<Hub<L>, K, G>, context: TransactionContext, work: F) -> Result<A, E>
+    requires { F.IsAlwaysCallable work }
+    ensures { thread.new.current ≡ thread.old.current }
+{
+    let Active { hub, span, before } = enter_transaction(thread, context)?;
+    let mut guard = HubSwitchGuard::new(thread, hub);
+    let answer = work(guard.thread_hub(), &span);
+    let thread = guard.thread_hub();
+    let moment = thread.clock.now();
+    let noted = note_failed_transaction(&span, answer.is_err());
+    let finished = first(noted, span.finish_with_timestamp(thread, moment));
+    let restored = restore(&thread.current, before, moment);
+    let ended = first(first(finished, restored), span.discard());
+    settle(answer, ended)
+}
+
+// Starts a child and makes it the active one.
+fn enter_span<L: CoreLock, K: Clock, G: Rng>(
+    thread: &mut ThreadHub<Hub<L>, K, G>,
+    parent: Option<TransactionOrSpanKey>,
+    op: &str,
+    description: &str,
+) -> Result<Active<L, Span<L>>, Refusal>
+    ensures current { thread.new.current ≡ thread.old.current }
+{
+    let hub = Hub::current(thread)?;
+    let Some(parent) = parent else {
+        return Err(Refusal::Stale);
+    };
+    let parent = TransactionOrSpan::new(hub.core(), parent)?;
+    let span = parent.start_child(op, description, thread.fresh())?;
+    let key = TransactionOrSpanKey::Span(span.key());
+    match activate(&hub, Some(key), thread.clock.now()) {
+        Ok(before) => Ok(Active { hub, span, before }),
+        Err(refusal) => {
+            drop(span.discard());
+            Err(refusal)
+        }
+    }
+}
+
+/// Runs the work under a child of a transaction or span, as `in_transaction` does under a transaction.
+///
+/// The error of the work, or else what is refused: `Stale`, if there is no parent, `StillNamed`, if the work leaves a layer
+/// that names the span.
+pub fn in_span<
+    L: CoreLock,
+    K: Clock + Drop,
+    G: Rng + Drop,
+    S: IntoSpanKey,
+    A: Drop,
+    E: From<Refusal> + Drop,
+    F: FnOnce(&mut ThreadHub<Hub<L>, K, G>, &Span<L>) -> Result<A, E> + Drop,
+>(
+    thread: &mut ThreadHub<Hub<L>, K, G>,
+    parent: S,
+    op: &str,
+    description: &str,
+    work: F,
+) -> Result<A, E>
+    requires { F.IsAlwaysCallable work }
+    ensures { thread.new.current ≡ thread.old.current }
+{
+    let parent = parent.into_span_key();
+    let Active { hub, span, before } = enter_span(thread, parent, op, description)?;
+    let mut guard = HubSwitchGuard::new(thread, hub);
+    let answer = work(guard.thread_hub(), &span);
+    let thread = guard.thread_hub();
+    let moment = thread.clock.now();
+    let noted = note_failed_span(&span, answer.is_err());
+    let finished = first(noted, span.finish_with_timestamp(moment));
+    let restored = restore(&thread.current, before, moment);
+    let ended = first(first(finished, restored), span.discard());
+    settle(answer, ended)
+}

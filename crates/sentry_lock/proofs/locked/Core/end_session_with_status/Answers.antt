@@ -1,0 +1,13 @@
+use Rattle.std.proofs.Common.{false}
+use Rattle.sentry_lock.proofs.KeepsHubs.{end_session_with_status_keeps}
+use Rattle.sentry_lock.proofs.Sound.{after_call}
+use Rattle.sentry_lock.proofs.locked.Core.end_session_with_status.Goals as goal
+
+pub invariant_of-self : goal.invariant_of-self
+invariant_of-self g c =
+    let self = c.drained.new.self in
+    record {
+      sound = after_call false self.engine c.end_session_with_status.new.self c.end_session_with_status.result _ self.drainers c.end_session_with_status.ensures
+          (λ world. end_session_with_status_keeps g.P.EventCallback.gives g.C.Callbacks.meanings c.args.hub c.args.status c.args.now world) self.sound;
+      labelled = self.labelled;
+    }

@@ -1,0 +1,13 @@
+use Rattle.std.proofs.Common.{false}
+use Rattle.sentry_lock.proofs.KeepsSpans.{set_extra_keeps}
+use Rattle.sentry_lock.proofs.Sound.{after_call}
+use Rattle.sentry_lock.proofs.locked.Core.set_extra.Goals as goal
+
+pub invariant_of-self : goal.invariant_of-self
+invariant_of-self g c =
+    let self = c.args.self.now in
+    record {
+      sound = after_call false self.engine c.set_extra.new.self c.set_extra.result _ self.drainers c.set_extra.ensures
+          (λ world. set_extra_keeps g.P.EventCallback.gives g.C.Callbacks.meanings c.args.transaction c.args.key.now c.args.value world) self.sound;
+      labelled = self.labelled;
+    }

@@ -1,0 +1,119 @@
+//! The lock of a core, as one trait with the types of the core, and the lock with what waits for it.
+use crate::locked::Core;
+use crate::transport::Transport;
+use crate::under_lock::UnderLock;
+use sentry_base::callbacks::EventCallback;
+use sentry_options::clientoptions::Callbacks;
+use std::alloc::{AllocError, Global};
+use std::convert::Infallible;
+use std::sync::{Mutex, MutexGuard, Wait};
+
+/// What waits for a lock, by a runtime that it keeps.
+pub trait Gate {
+    /// Waits until the gate is free, and takes it.
+    fn enter<'a>(&self, gate: &'a Mutex<()>) -> MutexGuard<'a, ()>;
+
+    /// Waits for ever.
+    fn never(&self) -> Infallible;
+}
+
+/// Waits by a runtime.
+#[derive(Drop)]
+pub struct Waiting<R>(pub R);
+
+impl<R: Wait> Gate for Waiting<R> {
+    fn enter<'a>(&self, gate: &'a Mutex<()>) -> MutexGuard<'a, ()> {
+        gate.lock(&self.0)
+    }
+
+    fn never(&self) -> Infallible {
+        for _ in self.0.forever() {}
+        unreachable!()
+    }
+}
+
+/// What waits, in a box, which hides the runtime.
+pub type BoxedGate = Box<dyn Gate + Send + Sync + Drop>;
+
+/// Forwards both calls.
+impl Gate for BoxedGate {
+    fn enter<'a>(&self, gate: &'a Mutex<()>) -> MutexGuard<'a, ()> {
+        Gate::enter(&**self, gate)
+    }
+
+    fn never(&self) -> Infallible {
+        Gate::never(&**self)
+    }
+}
+
+/// What holds the lock of a core. It is given up when this is dropped.
+pub struct CoreGuard<'a, U> {
+    pub under: MutexGuard<'a, U>,
+    gate: MutexGuard<'a, ()>,
+}
+
+impl<U> Drop for CoreGuard<'_, U> {
+    fn drop(self) {
+        let CoreGuard { under, gate } = self;
+        drop(under);
+        drop(gate);
+    }
+}
+
+/// The lock of a core. It keeps what waits for it, so that no call is handed a runtime. What is generic in the processors,
+/// callbacks and transports of a core is generic in its lock alone.
+pub trait CoreLock: Drop {
+    type Processor: EventCallback + Drop;
+
+    type Callbacks: Callbacks;
+
+    type Transport: Transport + Drop;
+
+    /// Takes the lock. While the guard is held every other call on this core waits.
+    fn lock(&self) -> CoreGuard<'_, UnderLock<Self::Processor, Self::Callbacks, Self::Transport>>;
+}
+
+/// A core under its lock, and what waits for the lock. Whoever takes the core has entered the gate.
+#[derive(Drop)]
+pub struct Locked<P, C, T, W> {
+    gate: Mutex<()>,
+    core: Mutex<UnderLock<P, C, T>>,
+    wait: W,
+}
+
+impl<P: EventCallback + Drop, C: Callbacks, T: Transport + Drop, W: Gate + Drop> Locked<
+    P,
+    C,
+    T,
+    W,
+> {
+    /// A core that holds nothing. The keys of its engine carry the tag, by which those of another one are refused.
+    ///
+    /// An allocation may fail.
+    pub fn new(wait: W, alloc: Global, tag: u64) -> Result<Locked<P, C, T, W>, AllocError> {
+        let core = Mutex::new(UnderLock::new(Core::new(alloc, tag)?));
+        Ok(Locked {
+            gate: Mutex::new(()),
+            core,
+            wait,
+        })
+    }
+}
+
+impl<P: EventCallback + Drop, C: Callbacks, T: Transport + Drop, W: Gate + Drop> CoreLock
+    for Locked<P, C, T, W> {
+    type Processor = P;
+
+    type Callbacks = C;
+
+    type Transport = T;
+
+    fn lock(&self) -> CoreGuard<'_, UnderLock<P, C, T>> {
+        let gate = self.wait.enter(&self.gate);
+        match self.core.try_lock() {
+            Some(under) => CoreGuard { under, gate },
+            // Whoever holds the core has entered the gate, and no one waits for the core itself.
+            None => match self.wait.never() {},
+        }
+    }
+}
