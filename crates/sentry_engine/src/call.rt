@@ -4,7 +4,7 @@ ghost use Rattle.sentry_base.specs.declared.protocol.refusal.Refusal.TheVariants
 ghost use Rattle.sentry_calls.specs.Steps.{step, takes_no_memory};
 ghost use Rattle.sentry_engine.specs.Ends.{AtEnd, EndsIn};
 ghost use Rattle.sentry_laws.specs.OwnCalls.{IsIsolated, KeepsOptions};
-ghost use Rattle.sentry_laws.specs.PushPop.{PopUndoesPush};
+ghost use Rattle.sentry_laws.specs.PushPop.{PushesAreUndone};
 ghost use Rattle.sentry_laws.specs.Reachable.{
   NumbersAreFree,
   BooksAreOfClients,
@@ -14,8 +14,11 @@ ghost use Rattle.sentry_laws.specs.Reachable.{
 };
 ghost use Rattle.sentry_laws.specs.Reports.{LabelsAddUp};
 ghost use Rattle.sentry_laws.specs.SentItems.{SendsAcceptedLogs, SendsAcceptedMetrics};
-ghost use Rattle.sentry_laws.specs.Sessions.{StatusStays, EndsOnce};
+ghost use Rattle.sentry_laws.specs.SentItems.{SendsLogsAtEachCall, SendsMetricsAtEachCall};
+ghost use Rattle.sentry_laws.specs.Accepted.{AcceptsLogsByCalls, AcceptsMetricsByCalls};
+ghost use Rattle.sentry_laws.specs.Sessions.{SecondEndsAreSilent};
 ghost use Rattle.sentry_laws.specs.Traces.{KeptSpansAreInTrace, HeldSpansAreInTrace};
+ghost use Rattle.sentry_laws.specs.Updates.{StatusesStay};
 ghost use Rattle.sentry_state.specs.Outcomes.{DoesWith};
 ghost use Rattle.sentry_state.specs.Worlds.{World, Stands, first_world};
 
@@ -48,9 +51,9 @@ impl<P: EventCallback + Drop, C: Callbacks> Engine<P, C> {
     ///
     /// The laws of `sentry_laws` hold of these calls and answers: a hub shows what its own calls did (`hubs`), options
     /// of clients stay (`options`), accepted logs and metrics are sent (`logs`, `metrics`), spans are in the trace of
-    /// their transaction (`traces`), reports add up (`reports`), and what is named is held, as each session that is held
-    /// is named (`worlds`). The laws of parts of a run hold too: a pop undoes its push (`layers`), a session's end stays
-    /// (`status`) and is told once (`once`).
+    /// their transaction (`traces`), reports add up (`reports`), a pop undoes its push (`layers`), the status of a session
+    /// that ended stays (`status`), a second end is silent (`once`), and what is named is held, as each session that is
+    /// held is named (`worlds`). `runs_split` takes a run apart.
     ///
     /// `OutOfMemory`: no memory for the list of answers; then no call was made.
     pub fn run(
@@ -65,9 +68,13 @@ impl<P: EventCallback + Drop, C: Callbacks> Engine<P, C> {
         ensures options { IfOk result (λ end. AtEnd P.gives C.meanings tag calls.items end.1.items
             (λ last run. KeepsOptions C.meanings calls.items end.1.items last)) }
         ensures logs { IfOk result (λ end. AtEnd P.gives C.meanings tag calls.items end.1.items
-            (λ last run. SendsAcceptedLogs calls.items end.1.items last)) }
+            (λ last run. SendsAcceptedLogs calls.items end.1.items last
+            × SendsLogsAtEachCall P.gives C.meanings (first_world tag) calls.items end.1.items last run
+            × AcceptsLogsByCalls P.gives C.meanings (first_world tag) calls.items end.1.items last run)) }
         ensures metrics { IfOk result (λ end. AtEnd P.gives C.meanings tag calls.items end.1.items
-            (λ last run. SendsAcceptedMetrics calls.items end.1.items last)) }
+            (λ last run. SendsAcceptedMetrics calls.items end.1.items last
+            × SendsMetricsAtEachCall P.gives C.meanings (first_world tag) calls.items end.1.items last run
+            × AcceptsMetricsByCalls P.gives C.meanings (first_world tag) calls.items end.1.items last run)) }
         ensures traces { IfOk result (λ end. AtEnd P.gives C.meanings tag calls.items end.1.items
             (λ last run. KeptSpansAreInTrace last × HeldSpansAreInTrace last)) }
         ensures reports { IfOk result (λ end. AtEnd P.gives C.meanings tag calls.items end.1.items
@@ -75,9 +82,12 @@ impl<P: EventCallback + Drop, C: Callbacks> Engine<P, C> {
         ensures worlds { IfOk result (λ end. AtEnd P.gives C.meanings tag calls.items end.1.items
             (λ last run. NumbersAreFree last × BooksAreOfClients last × ClientsAreHeld last
             × ActiveSpansAreHeld last × SessionsAreNamed last)) }
-        ensures layers { PopUndoesPush P.gives C.meanings }
-        ensures status { StatusStays P.gives C.meanings }
-        ensures once { EndsOnce P.gives C.meanings }
+        ensures layers { IfOk result (λ end. AtEnd P.gives C.meanings tag calls.items end.1.items
+            (λ last run. PushesAreUndone P.gives C.meanings (first_world tag) calls.items end.1.items last run)) }
+        ensures status { IfOk result (λ end. AtEnd P.gives C.meanings tag calls.items end.1.items
+            (λ last run. StatusesStay P.gives C.meanings (first_world tag) calls.items end.1.items last run)) }
+        ensures once { IfOk result (λ end. AtEnd P.gives C.meanings tag calls.items end.1.items
+            (λ last run. SecondEndsAreSilent P.gives C.meanings (first_world tag) calls.items end.1.items last run)) }
         ensures refused { IfErr result (λ refusal. refusal ≡ OutOfMemory) }
     {
         let mut engine = Engine::new(alloc, tag);

@@ -27,11 +27,11 @@ use Rattle.sentry_calls.specs.declared.call.hubs.HubCall.TheVariants.{NewHub, Ne
 use Rattle.sentry_calls.specs.declared.call.Reply.{Reply}
 use Rattle.sentry_calls.specs.declared.call.Reply.TheVariants as reply
 use Rattle.sentry_calls.specs.Steps.{step}
-use Rattle.sentry_laws.specs.OwnCalls.{Effect, client_added, client_cloned, hub_made, hub_made_from, hub_changed, hub_released, losses_absorbed, report_taken, session_started, effects, client_effects, hub_effects, on_client, on_hub, on_report}
+use Rattle.sentry_laws.proofs.Effects.{Effect, client_added, client_cloned, hub_made, hub_made_from, hub_changed, hub_released, losses_absorbed, report_taken, session_begun, client_dropped, item_came, effects, client_effects, hub_effects, on_client, on_hub, on_report}
 use Rattle.sentry_laws.proofs.Trails.{is_own, own_effects, TellsBy}
 use Rattle.sentry_laws.proofs.Calls.{told_step}
 use Rattle.sentry_laws.specs.SentItems.{handed_in}
-use Rattle.sentry_laws.specs.Changes.{Change, Changes, nothing, one, both, after_arrival, envelopes_on_arrival, makes_hub, makes_hub_from, changes_hub, leaves_hub, notes_event_id, releases_hub, adds_client, clones_client, drops_client, arrives, mails, loses, takes_report, absorbs, starts_session, changes_session, ends_session, starts_transaction, starts_span, changes_spans}
+use Rattle.sentry_laws.proofs.Changes.{Change, Changes, nothing, one, both, after_arrival, envelopes_on_arrival, makes_hub, makes_hub_from, changes_hub, leaves_hub, notes_event_id, releases_hub, adds_client, clones_client, drops_client, arrives, accepts, accepts_none, mails, loses, takes_report, absorbs, starts_none, starts_session, changes_session, ends_session, starts_transaction, starts_span, changes_spans}
 use Rattle.sentry_laws.specs.Losses.{absorbed, leaves_absorbed}
 use Rattle.sentry_laws.proofs.Increasing.{IsIncreasing, increasing_replaced, increasing_without, without_if}
 use Rattle.sentry_laws.proofs.Found.{found_replaced, same_number}
@@ -164,17 +164,23 @@ module _ {P C : Type 0} {meanings : C → Meanings} where
   books_change (adds_client world client now queues open_ of_engine) h = absurd cc
   books_change (clones_client world original client now found) h = unchanged world.books
   books_change (drops_client world key client label found same none) h = removed _ world.books label.number
-  books_change (arrives world key client arrival is_off found open_) h =
+  books_change (arrives world key client arrival is_off found open_ came) h =
       sending_books client.label (send key client (envelopes_on_arrival arrival client)
       (with_client_state world key (after_arrival arrival client))).sent
       (with_client_state world key (after_arrival arrival client))
-  books_change (mails world key client envelope found occupied none) h =
+  books_change (accepts world key client arrival is_log is_off found open_ came) h =
+      sending_books client.label (send key client (envelopes_on_arrival arrival client)
+      (with_client_state world key (after_arrival arrival client))).sent
+      (with_client_state world key (after_arrival arrival client))
+  books_change (mails world key client envelope found occupied none told_) h =
       with_silent world client.label report_point (λ history i. refl)
   books_change (loses world key client losses found) h = with_silent world client.label (engine_losses losses)
       (λ history i. refl)
   books_change (takes_report world label has) h = with_silent world label report_point (λ history i. refl)
   books_change (absorbs world label losses has) h = absurd cc
-  books_change (starts_session world start) h = unchanged world.books
+  books_change (starts_none world number id) h = unchanged world.books
+  books_change (accepts_none world is_log) h = unchanged world.books
+  books_change (starts_session world number start) h = unchanged world.books
   books_change (changes_session world number old new later found same) h = unchanged world.books
   books_change (ends_session world number) h = unchanged world.books
   books_change (starts_transaction world state new_) h = unchanged world.books
@@ -202,7 +208,9 @@ module _ {P C : Type 0} where
   silent_own (hub_released number) h = refl
   silent_own (losses_absorbed label losses) h = absurd cc
   silent_own (report_taken label report) h = absurd cc
-  silent_own (session_started number) h = refl
+  silent_own (session_begun number id) h = refl
+  silent_own (client_dropped number) h = refl
+  silent_own (item_came is_log) h = refl
 
   loud-by : (b : Bool) (effect : Effect P C) (rest own : List (Effect P C)) → is_own effect ≡ b
       → (list_any is_loud own ≡ false → list_any is_loud rest ≡ false)

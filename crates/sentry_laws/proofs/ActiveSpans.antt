@@ -38,8 +38,8 @@ use Rattle.sentry_state.specs.Worlds.{World, map_values, span_table, starting_wo
 use Rattle.sentry_calls.specs.Runs.{Run}
 use Rattle.sentry_calls.specs.declared.call.Call.{Call}
 use Rattle.sentry_calls.specs.declared.call.Reply.{Reply}
-use Rattle.sentry_laws.specs.OwnCalls.{Effect, LayerChange, scope_edited, breadcrumbs_came, client_bound, layer_pushed, layer_popped, session_named, change_layers, add_under}
-use Rattle.sentry_laws.specs.Changes.{Change, SpanChange, changes_transaction, changes_span, keeps_span, drops_transaction, drops_span, held_options, IsAllowed, after_arrival, envelopes_on_arrival, makes_hub, makes_hub_from, changes_hub, leaves_hub, notes_event_id, releases_hub, adds_client, clones_client, drops_client, arrives, mails, loses, takes_report, absorbs, starts_session, changes_session, ends_session, starts_transaction, starts_span, changes_spans}
+use Rattle.sentry_laws.proofs.Effects.{Effect, LayerChange, scope_edited, breadcrumbs_came, client_bound, layer_pushed, layer_popped, session_named, change_layers, add_under}
+use Rattle.sentry_laws.proofs.Changes.{Change, SpanChange, changes_transaction, changes_span, keeps_span, drops_transaction, drops_span, held_options, IsAllowed, after_arrival, envelopes_on_arrival, makes_hub, makes_hub_from, changes_hub, leaves_hub, notes_event_id, releases_hub, adds_client, clones_client, drops_client, arrives, accepts, accepts_none, mails, loses, takes_report, absorbs, starts_none, starts_session, changes_session, ends_session, starts_transaction, starts_span, changes_spans}
 use Rattle.sentry_laws.specs.Reachable.{ActiveSpansAreHeld}
 use Rattle.sentry_laws.proofs.Found.{same_number, found_put, found_replaced, found_without, all_by, all_without}
 use Rattle.sentry_laws.proofs.Keeping.{kept_by_run}
@@ -349,16 +349,23 @@ module _ {P C : Type 0} (meanings : C → Meanings) where
   held_by (adds_client world client now queues open_ of_engine) n h = record { numbers = n; held = h.held }
   held_by (clones_client world original client now found) n h = record { numbers = n; held = h.held }
   held_by (drops_client world key client label found same none) n h = record { numbers = n; held = h.held }
-  held_by (arrives world key client arrival is_off found open_) n h =
+  held_by (arrives world key client arrival is_off found open_ came) n h =
       held_sending client.label (send key client (envelopes_on_arrival arrival client)
       (with_client_state world key (after_arrival arrival client))).sent
       (with_client_state world key (after_arrival arrival client)) n
       (record { numbers = client_numbered world key (after_arrival arrival client) h.numbers; held = h.held })
-  held_by (mails world key client envelope found occupied plain) n h = record { numbers = n; held = h.held }
+  held_by (accepts world key client arrival is_log is_off found open_ came) n h =
+      held_sending client.label (send key client (envelopes_on_arrival arrival client)
+      (with_client_state world key (after_arrival arrival client))).sent
+      (with_client_state world key (after_arrival arrival client)) n
+      (record { numbers = client_numbered world key (after_arrival arrival client) h.numbers; held = h.held })
+  held_by (mails world key client envelope found occupied plain told_) n h = record { numbers = n; held = h.held }
   held_by (loses world key client losses found) n h = record { numbers = n; held = h.held }
   held_by (takes_report world label has) n h = record { numbers = n; held = h.held }
   held_by (absorbs world label losses has) n h = record { numbers = n; held = h.held }
-  held_by (starts_session world start) n h = record { numbers = n; held = h.held }
+  held_by (starts_none world number id) n h = record { numbers = n; held = h.held }
+  held_by (accepts_none world is_log) n h = record { numbers = n; held = h.held }
+  held_by (starts_session world number start) n h = record { numbers = n; held = h.held }
   held_by (changes_session world number old new later found same) n h = record { numbers = n; held = h.held }
   held_by (ends_session world number) n h = record { numbers = n; held = h.held }
   held_by (starts_transaction world state new_) n h =

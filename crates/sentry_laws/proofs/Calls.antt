@@ -1,7 +1,7 @@
 -- Each call is a sequence of changes.
 use Rattle.std.proofs.Common.{◌≡◌, refl, ap, ◌∙◌, sym, ℕ, ◌-◌, ◌^◌, List, [], ◌∷◌, Bool, true, false, inl, length, arith}
 use Rattle.std.proofs.lemmas.Bool.Decides.{nat_tests}
-use Rattle.std.specs.Prelude.{Option, Some, None, if◌then◌else◌, nat_lt, ◌==◌, ◌&&◌, not}
+use Rattle.std.specs.Prelude.{Option, Some, None, if◌then◌else◌, nat_lt, ◌==◌, ◌&&◌, not, unwrap_or}
 use Rattle.std.specs.List.{list_any}
 use Rattle.std.specs.Option.{option_map, option_and_then}
 use Rattle.sentry_plain.specs.Texts.{Bytes}
@@ -21,8 +21,10 @@ use Rattle.sentry_base.specs.declared.protocol.log.Log.{Log}
 use Rattle.sentry_base.specs.declared.protocol.metric.MetricDraft.{MetricDraft}
 use Rattle.sentry_base.specs.declared.protocol.refusal.Refusal.TheVariants.{Stale, StillNamed, ForeignLosses, Full, OutOfOrder, ScopesOpen}
 use Rattle.sentry_base.specs.declared.protocol.session.SessionStatus.{SessionStatus}
+use Rattle.sentry_base.specs.declared.protocol.user.User.{User}
 use Rattle.sentry_options.specs.Meanings.{Meanings, call_on_each}
 use Rattle.sentry_options.specs.declared.clientoptions.ClientOptions.{ClientOptions}
+use Rattle.sentry_options.specs.declared.clientoptions.plain.PlainOptions.{PlainOptions}
 use Rattle.sentry_scope.specs.declared.scope.Scope as declared_scope
 use Rattle.sentry_scope.specs.declared.scope.edit.ScopeEdit.{ScopeEdit}
 use Rattle.sentry_scope.specs.declared.scope.stack.Stack.{Stack}
@@ -30,19 +32,20 @@ use Rattle.sentry_scope.specs.declared.scope.stack.StackLayer.{StackLayer}
 use Rattle.sentry_scope.specs.EditLists.{all_name_held_spans, renames_after}
 use Rattle.sentry_scope.specs.Scopes.{edit_all}
 use Rattle.sentry_scope.specs.Stacks.{depth, push, pop, stack_of_any}
-use Rattle.sentry_sessions.specs.Sessions.{start_of}
+use Rattle.sentry_sessions.specs.Sessions.{start_of, distinct_id_of}
+use Rattle.sentry_sessions.specs.declared.session.record.SessionStart.{SessionStart}
 use Rattle.sentry_pipeline.specs.Pipeline.{loss_reason}
 use Rattle.sentry_pipeline.specs.Pipeline as pipeline
 use Rattle.sentry_hub_table.specs.declared.hub.Hub.{Hub}
 use Rattle.sentry_state.specs.Worlds.{World, ClientState, plain_client, span_table}
-use Rattle.sentry_state.specs.Outcomes.{client_at, hub_at, is_held_or_none, with_stack, with_scope, with_client}
+use Rattle.sentry_state.specs.Outcomes.{client_at, hub_at, is_held_or_none, reply_with, with_stack, with_scope, with_client}
 use Rattle.sentry_span_table.specs.SpanTables.{has_transaction_of, is_held}
 use Rattle.sentry_calls.specs.Clients.{holds_active_span}
 use Rattle.sentry_state.specs.Clients.{new_client, is_client_named, has_session_of}
 use Rattle.sentry_state.specs.Changes.{with_session, with_breadcrumbs, is_session_number_left, next_hub_key}
 use Rattle.sentry_state.specs.Books.{has_book}
 use Rattle.sentry_sending.specs.SessionEnds.{release_session}
-use Rattle.sentry_captures.specs.Captures.{capture, captured_id, capture_event, message_event, capture_named_session, update_along, attachments_of}
+use Rattle.sentry_captures.specs.Captures.{capture, captured_id, capture_event, message_event, capture_named_session, attachments_of}
 use Rattle.sentry_queues.specs.declared.flushes.Flush.TheVariants.{All, Due, Closing}
 use Rattle.sentry_queues.specs.Flushes.{flush_queues}
 use Rattle.sentry_queues.specs.Telemetry.{client_log, client_metric}
@@ -62,15 +65,16 @@ use Rattle.sentry_calls.specs.Losses as losses
 use Rattle.sentry_calls.specs.Sessions as sessions
 use Rattle.sentry_calls.specs.Telemetry as telemetry
 use Rattle.sentry_calls.specs.Steps.{step, client_step, hub_step}
-use Rattle.sentry_laws.specs.OwnCalls.{Effect, scope_edited, breadcrumbs_came, client_bound, layer_pushed, layer_popped, hub_changed, hub_released, losses_absorbed, report_taken, effects, client_effects, hub_effects, change_layers, add_under}
-use Rattle.sentry_laws.specs.Changes.{one, held_options, makes_hub, makes_hub_from, changes_hub, leaves_hub, notes_event_id, releases_hub, adds_client, clones_client, drops_client, mails, takes_report, absorbs}
+use Rattle.sentry_laws.proofs.Effects.{Effect, scope_edited, breadcrumbs_came, client_bound, layer_pushed, layer_popped, hub_changed, hub_released, losses_absorbed, report_taken, session_begun, client_dropped, item_came, effects, client_effects, hub_effects, change_layers, add_under}
+use Rattle.sentry_laws.proofs.Changes.{one, held_options, makes_hub, makes_hub_from, changes_hub, leaves_hub, notes_event_id, releases_hub, adds_client, clones_client, drops_client, mails, takes_report, absorbs, starts_none, accepts_none}
 use Rattle.sentry_laws.specs.SentItems.{handed_in}
 use Rattle.sentry_laws.proofs.SpanTrails.{quiet_names, told_span_step}
-use Rattle.sentry_laws.proofs.Trails.{found_under, Told, told_trail, told_named, told_nothing, told_some, told_client, told_let, told_let_client, told_require, told_if, told_sending, told_mapped, quiet_last, quiet_more}
+use Rattle.sentry_sending.specs.Sending.{Sending, reply_sending}
+use Rattle.sentry_laws.proofs.Trails.{found_under, Sends, Told, told_trail, told_named, told_nothing, told_some, told_client, told_let, told_let_client, told_require, told_if, told_sending, told_mapped, quiet_last}
 use Rattle.sentry_laws.proofs.SendingTrails.{flushes, flush_hubs, flushed_client, keeps_log, keeps_metric, ends, releases, replaces, found_released, release_spans}
 use Rattle.sentry_laws.proofs.Naming.{hub_replaced_named}
 use Rattle.sentry_laws.proofs.Releases.{all_released_named, popped_named, hub_released_named, renamed_named, replaced_named}
-use Rattle.sentry_laws.proofs.CaptureTrails.{fate_of, captures, loses_if_any, captures_session, found_captured}
+use Rattle.sentry_laws.proofs.CaptureTrails.{fate_of, captures, captures_with_session, loses_if_any, found_captured}
 
 abbrev quiet : {P C T : Type 0} → T → List (Effect P C)
 quiet reply = []
@@ -105,6 +109,18 @@ same_depth : (deep given : ℕ) → (deep == given && nat_lt 0 given) ≡ true �
 same_depth deep given top = let same : (deep == given) ≡ true = and_left (deep == given) (nat_lt 0 given) top in grind
     (arith, nat_tests)
 
+started_id : (client : ClientKey) (options : PlainOptions) (user : Option User) (id : List ℕ) (now : ℕ)
+    (start : SessionStart) (release : Option Bytes) → option_map (λ release. record {
+      client = client;
+      session_id = id;
+      distinct_id = distinct_id_of user;
+      started = now;
+      attributes = record { release = release; environment = options.environment };
+    }) release ≡ Some start → start.session_id ≡ id
+started_id client options user id now start None e = absurd cc
+started_id client options user id now start (Some release) e =
+    ap (λ (o : Option SessionStart). unwrap_or (option_map (λ (s : SessionStart). s.session_id) o) id) (sym e)
+
 module _ {P C : Type 0} (meanings : C → Meanings) where
   found_hub : (key : HubKey) (world : World P C) (hub : Hub P) → hub_at world key ≡ Some hub
       → value_at world.hubs key.number ≡ Some hub
@@ -132,7 +148,8 @@ module _ {P C : Type 0} (meanings : C → Meanings) where
       told_require meanings None Full (nat_lt world.next.client (2 ^ 64 - 1)) (λ left.
       told_trail meanings None _ (one (clones_client world key client now found)) refl refl))
 
-  told_drop : (key : ClientKey) (world : World P C) → Told meanings None world quiet (clients.drop_client key world)
+  told_drop : (key : ClientKey) (world : World P C)
+      → Told meanings None world (λ _. client_dropped key.number ∷ []) (clients.drop_client key world)
   unfolding clients.drop_client
   told_drop key world =
       told_client meanings None Stale (client_at world key) _ (λ client found.
@@ -187,7 +204,7 @@ module _ {P C : Type 0} (meanings : C → Meanings) where
       told_client meanings (Some envelope) Stale (client_at world key) _ (λ client found.
       told_if meanings (Some envelope) client.occupied
       (λ occupied. told_trail meanings (Some envelope) tt
-      (one (mails world key client envelope found occupied (inl refl))) refl refl)
+      (one (mails world key client envelope found occupied (inl refl) (λ none. absurd cc))) refl refl)
       (λ empty. told_nothing meanings (Some envelope) tt refl))
 
   -- ---- events
@@ -212,7 +229,8 @@ module _ {P C : Type 0} (meanings : C → Meanings) where
         told_client meanings None Stale (client_at world key) _ (λ client found.
         told_require meanings None Stale (holds_active_span world scope) (λ active.
         told_trail meanings None _ (captures meanings None refl world key client found None (attachments_of scope) _ _
-        (fate_of gives meanings (span_table world) (plain_client client) scope fresh event)) refl refl))
+        (fate_of gives meanings (span_table world) (plain_client client) scope fresh event) (λ told_ e. absurd cc))
+        refl refl))
 
     told_capture : (key : HubKey) (event : Event) (fresh : Fresh) (world : World P C) → Told meanings None world quiet
         (capture_event gives meanings key event fresh world)
@@ -226,11 +244,9 @@ module _ {P C : Type 0} (meanings : C → Meanings) where
         fresh event in
         let session = capture_named_session world hub.stack.top.session (plain_client client) made in
         told_trail meanings None (captured_id made.event) (quiet_last meanings None
-        (quiet_more meanings None
-        (captures meanings None refl world client_key client held (update_along session)
-        hub.stack.top.scope.attachments made.event made.entry
+        (captures_with_session meanings None refl world client_key client held hub.stack.top.session
+        hub.stack.top.scope.attachments made
         (fate_of gives meanings (span_table world) (plain_client client) (Some hub.stack.top.scope) fresh event))
-        (captures_session meanings None world client.label made.entry hub.stack.top.session (plain_client client) made))
         (notes_event_id _ key.number hub (record hub { last_event_id = Some (captured_id made.event) })
         (found_captured world client.label made.entry hub.stack.top.session session key.number hub
         (found_hub key world hub found)) refl)) refl refl)))
@@ -248,50 +264,59 @@ module _ {P C : Type 0} (meanings : C → Meanings) where
 
   -- ---- logs and metrics
 
+  told_came : {world : World P C} {sending : Sending P C} (is_log : Bool)
+      → Sends meanings None world (item_came is_log ∷ []) sending
+      → Told meanings None world (λ _. item_came is_log ∷ []) (reply_sending {T = Unit {0}} tt sending)
+  told_came is_log s = told_trail meanings None tt s.changes refl refl
+
+  told_came_none : (is_log : Bool) (world : World P C)
+      → Told meanings None world (λ _. item_came is_log ∷ []) (reply_with {T = Unit {0}} tt [] world)
+  told_came_none is_log world = told_trail meanings None tt (one (accepts_none world is_log)) refl refl
+
   told_client_log : (key : ClientKey) (log : Log) (scope : declared_scope.Scope P) (world : World P C)
-      → Told meanings None world quiet (telemetry.client_capture_log meanings key log scope world)
+      → Told meanings None world (λ _. item_came true ∷ []) (telemetry.client_capture_log meanings key log scope world)
   unfolding telemetry.client_capture_log
   told_client_log key log scope world =
       told_client meanings None Stale (client_at world key) _ (λ client found.
       told_require meanings None Stale (is_held (span_table world) scope.span) (λ active.
-      told_sending meanings None tt
+      told_came true
       (keeps_log meanings key client (client_log meanings (span_table world) (plain_client client) scope log)
-      world found) refl))
+      world found)))
 
   told_client_metric : (key : ClientKey) (draft : MetricDraft) (scope : declared_scope.Scope P) (now : ℕ)
-      (world : World P C) → Told meanings None world quiet
+      (world : World P C) → Told meanings None world (λ _. item_came false ∷ [])
       (telemetry.client_capture_metric meanings key draft scope now world)
   unfolding telemetry.client_capture_metric
   told_client_metric key draft scope now world =
       told_client meanings None Stale (client_at world key) _ (λ client found.
       told_require meanings None Stale (is_held (span_table world) scope.span) (λ active.
-      told_sending meanings None tt
+      told_came false
       (keeps_metric meanings key client (client_metric meanings (span_table world) (plain_client client)
-      scope now draft) world found) refl))
+      scope now draft) world found)))
 
-  told_log : (key : HubKey) (log : Log) (world : World P C) → Told meanings None world quiet
+  told_log : (key : HubKey) (log : Log) (world : World P C) → Told meanings None world (λ _. item_came true ∷ [])
       (telemetry.capture_log meanings key log world)
   unfolding telemetry.capture_log
   told_log key log world =
       told_some meanings None Stale (hub_at world key) (λ hub found.
-      told_let meanings None hub.stack.top.client (λ none. told_nothing meanings None _ refl) (λ client_key named_.
-      told_let_client meanings None (client_at world client_key) _ _ (λ none. told_nothing meanings None _ refl)
+      told_let meanings None hub.stack.top.client (λ none. told_came_none true world) (λ client_key named_.
+      told_let_client meanings None (client_at world client_key) _ _ (λ none. told_came_none true world)
       (λ client held.
-      told_sending meanings None tt
+      told_came true
       (keeps_log meanings client_key client (client_log meanings (span_table world) (plain_client client)
-      hub.stack.top.scope log) world held) refl)))
+      hub.stack.top.scope log) world held))))
 
-  told_metric : (key : HubKey) (draft : MetricDraft) (now : ℕ) (world : World P C) → Told meanings None world quiet
+  told_metric : (key : HubKey) (draft : MetricDraft) (now : ℕ) (world : World P C) → Told meanings None world (λ _. item_came false ∷ [])
       (telemetry.capture_metric meanings key draft now world)
   unfolding telemetry.capture_metric
   told_metric key draft now world =
       told_some meanings None Stale (hub_at world key) (λ hub found.
-      told_let meanings None hub.stack.top.client (λ none. told_nothing meanings None _ refl) (λ client_key named_.
-      told_let_client meanings None (client_at world client_key) _ _ (λ none. told_nothing meanings None _ refl)
+      told_let meanings None hub.stack.top.client (λ none. told_came_none false world) (λ client_key named_.
+      told_let_client meanings None (client_at world client_key) _ _ (λ none. told_came_none false world)
       (λ client held.
-      told_sending meanings None tt
+      told_came false
       (keeps_metric meanings client_key client (client_metric meanings (span_table world) (plain_client client)
-      hub.stack.top.scope now draft) world held) refl)))
+      hub.stack.top.scope now draft) world held))))
 
   -- ---- losses
 
@@ -429,7 +454,7 @@ module _ {P C : Type 0} (meanings : C → Meanings) where
       (λ n h. renamed_named renames _ (hub_replaced_named (release_session key.number hub now world).after key.number
       (with_session hub None) (with_scope (with_session hub None) (edit_all edits hub.stack.top.scope))
       (found_released key.number hub now world here) (λ k named. named)
-      (all_released_named key.number hub now world here n h))))
+      (all_released_named key.number hub now world here n h))) (λ n h. absurd cc))
       (λ keeps. told_trail meanings None tt
       (quiet_names meanings
       (one (changes_hub world key.number hub (with_scope hub (edit_all edits hub.stack.top.scope)) (scope_edited edits)
@@ -456,7 +481,7 @@ module _ {P C : Type 0} (meanings : C → Meanings) where
       (changes_hub _ key.number (with_session hub None) (with_stack hub (pop hub.stack)) (layer_popped given)
       (found_released key.number hub now world here)
       (popped_same hub.stack.below hub.stack (with_session hub None).stack (above_ground (depth hub.stack) given top))
-      (same_depth (depth hub.stack) given top))) refl (popped_named key.number hub now world here)))
+      (same_depth (depth hub.stack) given top))) refl (popped_named key.number hub now world here) (λ n h. absurd cc)))
 
   told_release : (key : HubKey) (now : ℕ) (world : World P C)
       → Told meanings None world (λ _. hub_released key.number ∷ []) (layers.release_hub key now world)
@@ -470,7 +495,7 @@ module _ {P C : Type 0} (meanings : C → Meanings) where
       (found_released key.number hub now world (found_hub key world hub found))
       (none_below (depth hub.stack) alone))) refl
       (hub_released_named key.number hub now world (found_hub key world hub found)
-      (none_below (depth hub.stack) alone))))
+      (none_below (depth hub.stack) alone)) (λ n h. absurd cc)))
 
   told_bind : (key : HubKey) (client : Option ClientKey) (world : World P C)
       → Told meanings None world (λ _. hub_changed key.number (client_bound client) ∷ [])
@@ -485,20 +510,28 @@ module _ {P C : Type 0} (meanings : C → Meanings) where
 
   -- ---- sessions
 
-  told_start : (key : HubKey) (fresh : Fresh) (world : World P C) → Told meanings None world quiet
-      (sessions.start_session key fresh world)
+  begins_none : (key : HubKey) (fresh : Fresh) (world : World P C)
+      → Told meanings None world (λ _. session_begun key.number fresh.uuid ∷ []) (reply_with {T = Unit {0}} tt [] world)
+  begins_none key fresh world = told_named meanings None tt (one (starts_none world key.number fresh.uuid)) refl
+      (λ n h. h) (λ n h. absurd cc)
+
+  told_start : (key : HubKey) (fresh : Fresh) (world : World P C)
+      → Told meanings None world (λ _. session_begun key.number fresh.uuid ∷ []) (sessions.start_session key fresh world)
   unfolding sessions.start_session
   told_start key fresh world =
       told_some meanings None Stale (hub_at world key) (λ hub found.
-      told_let meanings None hub.stack.top.client (λ none. told_nothing meanings None _ refl) (λ client_key named_.
-      told_let_client meanings None (client_at world client_key) _ _ (λ none. told_nothing meanings None _ refl)
+      told_let meanings None hub.stack.top.client (λ none. begins_none key fresh world) (λ client_key named_.
+      told_let_client meanings None (client_at world client_key) _ _ (λ none. begins_none key fresh world)
       (λ client held.
       told_let meanings None (start_of client_key client.options.plain hub.stack.top.scope.user fresh.uuid fresh.now)
-      (λ none. told_nothing meanings None _ refl) (λ start is.
+      (λ none. begins_none key fresh world) (λ start is.
       told_require meanings None Full (is_session_number_left world) (λ left.
       told_named meanings None tt (replaces meanings key.number hub fresh.now start world
-      (found_hub key world hub found)).changes refl
-      (replaced_named key.number hub fresh.now start world (found_hub key world hub found)))))))
+      (found_hub key world hub found)).changes
+      (ap (λ id. session_begun key.number id ∷ [])
+      (started_id client_key client.options.plain hub.stack.top.scope.user fresh.uuid fresh.now start
+      client.options.plain.release is))
+      (replaced_named key.number hub fresh.now start world (found_hub key world hub found)) (λ n h. h))))))
 
   told_end : (key : HubKey) (status : SessionStatus) (now : ℕ) (world : World P C) → Told meanings None world quiet
       (sessions.end_session_with_status key status now world)

@@ -1,8 +1,8 @@
 -- What becomes of events, as changes.
-use Rattle.std.proofs.Common.{◌≡◌, refl, ap, ◌∙◌, ℕ, List, [], ◌∷◌, ◌++◌, Bool, true, false, inr}
+use Rattle.std.proofs.Common.{◌≡◌, refl, ap, ◌∙◌, subst, ℕ, List, [], ◌∷◌, ◌++◌, Bool, true, false, inr}
 use Rattle.std.specs.Prelude.{Option, Some, None, if◌then◌else◌, nat_lt, ◌||◌}
 use Rattle.std.specs.List.{list_any}
-use Rattle.std.specs.Option.{option_map}
+use Rattle.std.specs.Option.{option_map, option_or}
 use Rattle.sentry_plain.specs.Tables.{value_at}
 use Rattle.sentry_base.specs.Callbacks.{Partial}
 use Rattle.sentry_base.specs.Envelopes.{with_item, empty_envelope}
@@ -24,7 +24,7 @@ use Rattle.sentry_options.specs.declared.clientoptions.choices.EventSamplingStra
 use Rattle.sentry_options.specs.declared.clientoptions.choices.EventSamplingStrategy.TheVariants.{FixedRate}
 use Rattle.sentry_client_reports.specs.LossBooks.{LossEntry, report_point}
 use Rattle.sentry_scope.specs.declared.scope.Scope.{Scope}
-use Rattle.sentry_sessions.specs.Sessions.{SessionEntry, event_reached, handed_out}
+use Rattle.sentry_sessions.specs.Sessions.{SessionEntry, SessionEnd, event_reached, handed_out, end_of, end_status, hand_out, pending_update}
 use Rattle.sentry_pipeline.specs.Pipeline.{Prepared, continue_or_drop, fill_if_any, process_if_any, sample, loss_reason, with_id, with_sdk, sdk_info, with_defaults}
 use Rattle.sentry_pipeline.specs.Pipeline as pipeline
 use Rattle.sentry_pipeline.specs.declared.pipeline.Place.{Place}
@@ -33,12 +33,14 @@ use Rattle.sentry_pipeline.specs.declared.pipeline.Preparation.TheVariants.{Kept
 use Rattle.sentry_span_table.specs.declared.table.records.SpanTable.{SpanTable}
 use Rattle.sentry_state.specs.declared.state.Client.{Client}
 use Rattle.sentry_hub_table.specs.declared.hub.Hub.{Hub}
-use Rattle.sentry_state.specs.Worlds.{World, ClientState, SessionState, plain_session}
+use Rattle.sentry_state.specs.Worlds.{World, ClientState, SessionState, plain_client, plain_session}
 use Rattle.sentry_state.specs.Outcomes.{client_at, session_at}
 use Rattle.sentry_state.specs.Books.{pending_report, with_entry_if_any}
-use Rattle.sentry_captures.specs.Captures.{Capture, capture, capture_of_prepared, lost_event, capture_entry, event_to_send, captured_envelopes, with_update, with_attachments, capture_session, with_reached, takes_update, SessionCapture, capture_named_session, with_captured_session}
-use Rattle.sentry_laws.specs.Changes.{Changes, nothing, one, mails, loses, changes_session, is_batch_or_report}
+use Rattle.sentry_captures.specs.Captures.{Capture, capture, capture_of_prepared, lost_event, capture_entry, event_to_send, captured_envelopes, with_update, with_attachments, capture_session, with_reached, takes_update, SessionCapture, capture_named_session, update_along, with_captured_session}
+use Rattle.sentry_laws.proofs.Changes.{Changes, IsOfHeld, ItemIsOfHeld, AreOfHeld, status_of, nothing, one, both, mails, loses, changes_session, is_batch_or_report}
+use Rattle.sentry_laws.proofs.Tables.{own_replaced}
 use Rattle.sentry_laws.proofs.Trails.{found_under}
+use Rattle.sentry_laws.proofs.SendingTrails.{pending_told}
 
 -- an event is sent with the pending report, or lost, or neither, and only an occupied slot sends
 pub data Fate (occupied : Bool) : Option Event → Option LossEntry → Type 0 where
@@ -120,19 +122,41 @@ updated : (update : Option SessionUpdate) (event : Event) → list_any is_batch_
 updated None event = refl
 updated (Some update) event = refl
 
+-- ---- the update of a session goes along with an event
+
+module _ {P C : Type 0} (world : World P C) where
+  held_more : (items : List EnvelopeItem) (added : EnvelopeItem) → AreOfHeld world items → ItemIsOfHeld world added
+      → AreOfHeld world (items ++ added ∷ [])
+  held_more [] added h k = (k, tt)
+  held_more (first ∷ rest) added h k = (h.0, held_more rest added h.1 k)
+
+  held_attached : (attachments : List Attachment) (envelope : Envelope) → AreOfHeld world envelope.items
+      → AreOfHeld world (with_attachments attachments envelope).items
+  held_attached [] envelope h = h
+  held_attached (attachment ∷ rest) envelope h = held_attached rest (with_item envelope (item.Attachment attachment))
+      (held_more envelope.items (item.Attachment attachment) h tt)
+
+  held_updated : (update : Option SessionUpdate) (event : Event)
+      → ((told : SessionUpdate) → update ≡ Some told → IsOfHeld world told)
+      → AreOfHeld world (with_update update (with_item empty_envelope (item.Event event))).items
+  held_updated None event h = (tt, tt)
+  held_updated (Some update) event h = (tt, (h update refl, tt))
+
 module _ {P C : Type 0} (meanings : C → Meanings) (given : Option Envelope) where
   -- the envelopes of a capture and its entry in the book
   pub captures : given ≡ None → (world : World P C) (key : ClientKey) (client : ClientState C)
       → client_at world key ≡ Some client
       → (update : Option SessionUpdate) (attachments : List Attachment) (event : Option Event)
       (entry : Option LossEntry) → Fate client.occupied event entry
+      → ((told : SessionUpdate) → update ≡ Some told → IsOfHeld world told)
       → Changes meanings given world [] (captured_envelopes key update attachments (pending_report world client.label)
       event) (with_entry_if_any world client.label entry)
-  captures own world key client found update attachments event entry ignored = nothing world
-  captures own world key client found update attachments event entry (lost reason) =
+  captures own world key client found update attachments event entry ignored held = nothing world
+  captures own world key client found update attachments event entry (lost reason) held =
       one (loses world key client _ found)
-  captures own world key client found update attachments event entry (goes sent occupied) =
-      one (mails world key client _ found occupied (inr (own, attached attachments _ (updated update sent))))
+  captures own world key client found update attachments event entry (goes sent occupied) held =
+      one (mails world key client _ found occupied (inr (own, attached attachments _ (updated update sent)))
+      (λ none. held_attached world attachments _ (held_updated world update sent held)))
 
   pub loses_if_any : (world : World P C) (key : ClientKey) (client : ClientState C) → client_at world key ≡ Some client
       → (reason : Option Reason)
@@ -207,3 +231,99 @@ module _ {P C : Type 0} (meanings : C → Meanings) (given : Option Envelope) wh
   captures_session world label entry (Some key) client made =
       captured-found world (with_entry_if_any world label entry) key (takes_update client made) made.reached
       (session_at world key) refl (entry_sessions world label entry)
+
+-- ---- the update of a captured session
+
+-- a hand-out leaves the status
+handed_status : (b : Bool) (history : List SessionEntry)
+    → end_status (end_of (if b then handed_out ∷ history else history)) ≡ end_status (end_of history)
+handed_status true history = ap end_status (no_end (end_of history))
+  where
+    no_end : (end : Option SessionEnd) → option_or end None ≡ end
+    no_end None = refl
+    no_end (Some end) = refl
+handed_status false history = refl
+
+handed_told : (session : SessionState) (update : SessionUpdate)
+    → pending_update (plain_session session) ≡ Some update
+    → (session.start.session_id ≡ update.session_id)
+    × (end_status (end_of (hand_out (plain_session session) session.history)) ≡ update.status)
+handed_told session update e =
+    let told_ = pending_told session.start session.history update e in
+    (told_.0, handed_status (plain_session session).dirty session.history ∙ told_.1)
+
+captured_told : (takes : Bool) (reached : Option Event) (before : SessionState) (update : SessionUpdate)
+    → (capture_session takes reached before).update ≡ Some update
+    → ((capture_session takes reached before).after.start.session_id ≡ update.session_id)
+    × (status_of (capture_session takes reached before).after ≡ update.status)
+unfolding capture_session
+captured_told true reached before update e = handed_told (with_reached reached before) update e
+captured_told false reached before update e = absurd cc
+
+module _ {P C : Type 0} where
+  along_told : (world : World P C) (key : SessionKey) (takes : Bool) (reached : Option Event) (o : Option SessionState)
+      → session_at world key ≡ o → (update : SessionUpdate)
+      → update_along (option_map (capture_session takes reached) o) ≡ Some update
+      → IsOfHeld (with_captured_session world (Some key) (option_map (capture_session takes reached) o)) update
+  along_told world key takes reached None found update e = absurd cc
+  along_told world key takes reached (Some before) found update e =
+      let told_ = captured_told takes reached before update e in
+      let here = found_under world.tag world.sessions key.tag key.number before found in (
+        key.number,
+        (capture_session takes reached before).after,
+        own_replaced world.sessions key.number (capture_session takes reached before).after before here,
+        told_.0,
+        told_.1,
+      )
+
+  update_told : (world : World P C) (name : Option SessionKey) (client : Client C) (made : Capture)
+      (update : SessionUpdate) → update_along (capture_named_session world name client made) ≡ Some update
+      → IsOfHeld (with_captured_session world name (capture_named_session world name client made)) update
+  update_told world None client made update e = absurd cc
+  update_told world (Some key) client made update e =
+      along_told world key (takes_update client made) made.reached (session_at world key) refl update e
+
+  client_beside : (world : World P C) (name : Option SessionKey) (captured : Option SessionCapture) (key : ClientKey)
+      → client_at (with_captured_session world name captured) key ≡ client_at world key
+  client_beside world None captured key = refl
+  client_beside world (Some name) None key = refl
+  client_beside world (Some name) (Some captured) key = refl
+
+  report_beside : (world : World P C) (name : Option SessionKey) (captured : Option SessionCapture) (label : Label)
+      → pending_report (with_captured_session world name captured) label ≡ pending_report world label
+  report_beside world None captured label = refl
+  report_beside world (Some name) None label = refl
+  report_beside world (Some name) (Some captured) label = refl
+
+  entry_beside : (world : World P C) (name : Option SessionKey) (captured : Option SessionCapture) (label : Label)
+      (entry : Option LossEntry)
+      → with_entry_if_any (with_captured_session world name captured) label entry
+      ≡ with_captured_session (with_entry_if_any world label entry) name captured
+  entry_beside world None captured label entry = refl
+  entry_beside world (Some name) None label entry = refl
+  entry_beside world (Some name) (Some captured) label None = refl
+  entry_beside world (Some name) (Some captured) label (Some entry) = refl
+
+module _ {P C : Type 0} (meanings : C → Meanings) (given : Option Envelope) where
+  -- a capture on a hub: what reaches the session, and then the envelopes and the entry in the book
+  pub captures_with_session : given ≡ None → (world : World P C) (key : ClientKey) (client : ClientState C)
+      → client_at world key ≡ Some client → (name : Option SessionKey) (attachments : List Attachment) (made : Capture)
+      → Fate client.occupied made.event made.entry
+      → Changes meanings given world []
+      (captured_envelopes key (update_along (capture_named_session world name (plain_client client) made)) attachments
+      (pending_report world client.label) made.event)
+      (with_captured_session (with_entry_if_any world client.label made.entry) name
+      (capture_named_session world name (plain_client client) made))
+  captures_with_session own world key client found name attachments made fate =
+      let captured = capture_named_session world name (plain_client client) made in
+      let middle = with_captured_session world name captured in
+      subst (λ (w : World P C). Changes meanings given world [] (captured_envelopes key (update_along captured)
+      attachments (pending_report world client.label) made.event) w)
+      (entry_beside world name captured client.label made.entry)
+      (subst (λ report. Changes meanings given world [] (captured_envelopes key (update_along captured) attachments
+      report made.event) (with_entry_if_any middle client.label made.entry))
+      (report_beside world name captured client.label)
+      (both (captures_session meanings given world client.label None name (plain_client client) made)
+      (captures meanings given own middle key client (client_beside world name captured key ∙ found)
+      (update_along captured) attachments made.event made.entry fate
+      (update_told world name (plain_client client) made))))

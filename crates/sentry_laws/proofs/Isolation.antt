@@ -28,8 +28,9 @@ use Rattle.sentry_calls.specs.declared.call.Call.{Call}
 use Rattle.sentry_calls.specs.declared.call.Reply.{Reply}
 use Rattle.sentry_calls.specs.Runs.{May, Run}
 use Rattle.sentry_calls.specs.Steps.{step}
-use Rattle.sentry_laws.specs.OwnCalls.{Effect, LayerChange, scope_edited, breadcrumbs_came, client_bound, layer_pushed, layer_popped, session_named, hub_changed, hub_made, hub_made_from, hub_released, client_added, client_cloned, effects, onto, all_effects, change_layers, add_under, options_after, layers_after, nameless, without_sessions, IsIsolated, KeepsOptions}
-use Rattle.sentry_laws.specs.Changes.{Change, Changes, nothing, one, both, held_options, IsAllowed, after_arrival, Arrival, log_came, metric_came, session_ended, flush_came, makes_hub, makes_hub_from, changes_hub, leaves_hub, notes_event_id, releases_hub, adds_client, clones_client, drops_client, arrives, mails, loses, takes_report, absorbs, starts_session, changes_session, ends_session, starts_transaction, starts_span, changes_spans}
+use Rattle.sentry_laws.proofs.Effects.{item_came, Effect, LayerChange, scope_edited, breadcrumbs_came, client_bound, layer_pushed, layer_popped, session_named, hub_changed, hub_made, hub_made_from, hub_released, client_added, client_cloned, effects, onto, all_effects, change_layers, add_under, options_after, layers_after}
+use Rattle.sentry_laws.specs.OwnCalls.{nameless, without_sessions}
+use Rattle.sentry_laws.proofs.Changes.{Change, Changes, nothing, one, both, held_options, IsAllowed, after_arrival, Arrival, log_came, metric_came, session_ended, flush_came, makes_hub, makes_hub_from, changes_hub, leaves_hub, notes_event_id, releases_hub, adds_client, clones_client, drops_client, arrives, accepts, accepts_none, mails, loses, takes_report, absorbs, starts_none, starts_session, changes_session, ends_session, starts_transaction, starts_span, changes_spans}
 use Rattle.std.specs.BTreeMap.{is_at}
 use Rattle.std.specs.Ordering.{nat_cmp}
 use Rattle.sentry_client_reports.specs.LossBooks.{LossEntry}
@@ -566,6 +567,11 @@ module _ {P C : Type 0} (meanings : C → Meanings) where
       ap (λ (o : Option (Stack P)). if k == world.next.hub then o else layers_after meanings told k)
       (sym (ap (option_map top_alone) (layers_at told world maker hub a found)))
 
+  agrees_came : (told : List (Effect P C)) (is_log : Bool) (world : World P C) → Agrees told world
+      → Agrees (item_came is_log ∷ told) world
+  agrees_came told is_log world a =
+      record { layers = a.layers; options = a.options; held = a.held; hubs = a.hubs; clients = a.clients }
+
   agrees_change : {f : Option Envelope} {old new : World P C} {some : List (Effect P C)} {sent : List
       (ClientKey × Envelope)} → Change meanings f old some sent new
       → (told : List (Effect P C)) → Agrees told old → Agrees (own_onto some told) new
@@ -593,10 +599,13 @@ module _ {P C : Type 0} (meanings : C → Meanings) where
   agrees_change (drops_client world key client label found same none) told a =
       let d = agrees_dropped told world key (own_tag key world client found) none a in
       record { layers = d.layers; options = d.options; held = d.held; hubs = d.hubs; clients = d.clients }
-  agrees_change (arrives world key client arrival is_off found open_) told a =
+  agrees_change (arrives world key client arrival is_off found open_ came) told a =
       agrees_sending told client.label _ _ (agrees_client told world key client (after_arrival arrival client) found
       (arrival_options arrival client) a)
-  agrees_change (mails world key client envelope found occupied none) told a =
+  agrees_change (accepts world key client arrival is_log is_off found open_ came) told a =
+      agrees_came told is_log _ (agrees_sending told client.label _ _ (agrees_client told world key client (after_arrival arrival client) found
+      (arrival_options arrival client) a))
+  agrees_change (mails world key client envelope found occupied none told_) told a =
       record { layers = a.layers; options = a.options; held = a.held; hubs = a.hubs; clients = a.clients }
   agrees_change (loses world key client losses found) told a = record {
     layers = a.layers;
@@ -622,7 +631,11 @@ module _ {P C : Type 0} (meanings : C → Meanings) where
     hubs = a.hubs;
     clients = a.clients;
   }
-  agrees_change (starts_session world start) told a = record {
+  agrees_change (starts_none world number id) told a =
+      record { layers = a.layers; options = a.options; held = a.held; hubs = a.hubs; clients = a.clients }
+  agrees_change (accepts_none world is_log) told a =
+      record { layers = a.layers; options = a.options; held = a.held; hubs = a.hubs; clients = a.clients }
+  agrees_change (starts_session world number start) told a = record {
     layers = a.layers;
     options = a.options;
     held =
@@ -716,16 +729,19 @@ module _ {P C : Type 0} (gives : P → Partial) (meanings : C → Meanings) wher
         clients = tt;
       }
 
-  pub isolated : (tag start : ℕ) (calls : List (Call P C)) (answers : List (Result (Out (Reply P C)) Refusal))
-      (last : World P C)
-      → Run gives meanings (starting_world tag start) calls answers last → IsIsolated meanings calls answers last
-  isolated tag start calls answers last run =
+  pub isolated_by_effects : (tag start : ℕ) (calls : List (Call P C))
+      (answers : List (Result (Out (Reply P C)) Refusal)) (last : World P C)
+      → Run gives meanings (starting_world tag start) calls answers last → (number : ℕ)
+      → option_map bare (value_at last.hubs number) ≡ layers_after meanings (all_effects meanings calls answers []) number
+  isolated_by_effects tag start calls answers last run =
       (agrees_run calls answers (starting_world tag start) last [] (agrees_first tag start) run).layers
 
-  pub keeps_options : (tag start : ℕ) (calls : List (Call P C)) (answers : List (Result (Out (Reply P C)) Refusal))
-      (last : World P C)
-      → Run gives meanings (starting_world tag start) calls answers last → KeepsOptions meanings calls answers last
-  keeps_options tag start calls answers last run =
+  pub options_by_effects : (tag start : ℕ) (calls : List (Call P C))
+      (answers : List (Result (Out (Reply P C)) Refusal)) (last : World P C)
+      → Run gives meanings (starting_world tag start) calls answers last → (key : ClientKey) (client : ClientState C)
+      → client_at last key ≡ Some client
+      → options_after (all_effects meanings calls answers []) key ≡ Some client.options
+  options_by_effects tag start calls answers last run =
       (agrees_run calls answers (starting_world tag start) last [] (agrees_first tag start) run).options
 
   -- each client that a layer names is held

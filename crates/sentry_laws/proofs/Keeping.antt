@@ -12,8 +12,8 @@ use Rattle.sentry_calls.specs.declared.call.Call.{Call}
 use Rattle.sentry_calls.specs.declared.call.Reply.{Reply}
 use Rattle.sentry_calls.specs.Runs.{May, Run}
 use Rattle.sentry_calls.specs.Steps.{step}
-use Rattle.sentry_laws.specs.Changes.{Change, Changes, nothing, one, both}
-use Rattle.sentry_laws.specs.OwnCalls.{Effect, effects}
+use Rattle.sentry_laws.proofs.Changes.{Change, Changes, nothing, one, both}
+use Rattle.sentry_laws.proofs.Effects.{Effect, effects}
 use Rattle.sentry_laws.specs.SentItems.{handed_in}
 use Rattle.sentry_laws.proofs.Trails.{Trail, TellsBy}
 use Rattle.sentry_laws.proofs.Calls.{told_step}

@@ -20,8 +20,8 @@ use Rattle.sentry_state.specs.Worlds.{World, ClientState, starting_world}
 use Rattle.sentry_calls.specs.declared.call.Call.{Call}
 use Rattle.sentry_calls.specs.declared.call.Reply.{Reply}
 use Rattle.sentry_calls.specs.Runs.{Run}
-use Rattle.sentry_laws.specs.OwnCalls.{Effect}
-use Rattle.sentry_laws.specs.Changes.{Change, Arrival, log_came, metric_came, session_ended, flush_came, after_arrival, envelopes_on_arrival, makes_hub, makes_hub_from, changes_hub, leaves_hub, notes_event_id, releases_hub, adds_client, clones_client, drops_client, arrives, mails, loses, takes_report, absorbs, starts_session, changes_session, ends_session, starts_transaction, starts_span, changes_spans}
+use Rattle.sentry_laws.proofs.Effects.{Effect}
+use Rattle.sentry_laws.proofs.Changes.{Change, Arrival, log_came, metric_came, session_ended, flush_came, after_arrival, envelopes_on_arrival, makes_hub, makes_hub_from, changes_hub, leaves_hub, notes_event_id, releases_hub, adds_client, clones_client, drops_client, arrives, accepts, accepts_none, mails, loses, takes_report, absorbs, starts_none, starts_session, changes_session, ends_session, starts_transaction, starts_span, changes_spans}
 use Rattle.sentry_laws.specs.Reachable.{BooksAreOfClients}
 use Rattle.sentry_laws.proofs.Tables.{AreBelow, below_put, below_replaced, below_without}
 use Rattle.sentry_laws.proofs.Found.{same_number, found_put, found_replaced}
@@ -307,17 +307,25 @@ module _ {P C : Type 0} (meanings : C → Meanings) where
       }))
       (sym same)
       (dropped_books world key.number client (found_under world.tag world.clients key.tag key.number client found) h)
-  books_change (arrives world key client arrival is_off found open_) h =
+  books_change (arrives world key client arrival is_off found open_ came) h =
       sending_books client.label (send key client (envelopes_on_arrival arrival client)
       (with_client_state world key (after_arrival arrival client))).sent
       (with_client_state world key (after_arrival arrival client))
       (changed_books world key.number client (after_arrival arrival client)
       (found_under world.tag world.clients key.tag key.number client found) (arrival_label arrival client) h)
-  books_change (mails world key client envelope found occupied none) h = entered_books world client.label report_point h
+  books_change (accepts world key client arrival is_log is_off found open_ came) h =
+      sending_books client.label (send key client (envelopes_on_arrival arrival client)
+      (with_client_state world key (after_arrival arrival client))).sent
+      (with_client_state world key (after_arrival arrival client))
+      (changed_books world key.number client (after_arrival arrival client)
+      (found_under world.tag world.clients key.tag key.number client found) (arrival_label arrival client) h)
+  books_change (mails world key client envelope found occupied none told_) h = entered_books world client.label report_point h
   books_change (loses world key client losses found) h = entered_books world client.label (engine_losses losses) h
   books_change (takes_report world label has) h = entered_books world label report_point h
   books_change (absorbs world label losses has) h = entered_books world label (drained_losses losses) h
-  books_change (starts_session world start) h = unmoved world _ refl refl refl refl h
+  books_change (starts_none world number id) h = unmoved world _ refl refl refl refl h
+  books_change (accepts_none world is_log) h = unmoved world _ refl refl refl refl h
+  books_change (starts_session world number start) h = unmoved world _ refl refl refl refl h
   books_change (changes_session world number old new later found same) h = unmoved world _ refl refl refl refl h
   books_change (ends_session world number) h = unmoved world _ refl refl refl refl h
   books_change (starts_transaction world state new_) h = unmoved world _ refl refl refl refl h

@@ -1,3 +1,5 @@
+pub mod Effects
+pub mod Changes
 pub mod Tables
 pub mod Found
 pub mod Increasing
@@ -13,10 +15,17 @@ pub mod SpanTrails
 pub mod Releases
 pub mod Calls
 pub mod Isolation
+pub mod Dropping
+pub mod Shown
 pub mod SentBatches
 pub mod SentKinds
+pub mod PartsOfRuns
 pub mod PushPop
 pub mod Sessions
+pub mod SecondEnds
+pub mod ToldUpdates
+pub mod Updates
+pub mod Accepted
 pub mod Wrong
 pub mod Losses
 pub mod OwnAlone

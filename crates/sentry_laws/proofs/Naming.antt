@@ -20,12 +20,12 @@ use Rattle.sentry_sending.specs.Sending.{send, after_sending}
 use Rattle.sentry_state.specs.Changes.{with_client_state}
 use Rattle.sentry_state.specs.Outcomes.{session_at}
 use Rattle.sentry_state.specs.Worlds.{World, SessionState}
-use Rattle.sentry_laws.specs.OwnCalls.{Effect, LayerChange, scope_edited, breadcrumbs_came, client_bound, layer_pushed, layer_popped, session_named, hub_changed, hub_released, session_started, change_layers, add_under}
-use Rattle.sentry_laws.specs.Changes.{Change, Changes, nothing, one, both, held_options, after_arrival, envelopes_on_arrival, makes_hub, makes_hub_from, changes_hub, leaves_hub, notes_event_id, releases_hub, adds_client, clones_client, drops_client, arrives, mails, loses, takes_report, absorbs, starts_session, changes_session, ends_session, starts_transaction, starts_span, changes_spans}
+use Rattle.sentry_laws.proofs.Effects.{Effect, LayerChange, scope_edited, breadcrumbs_came, client_bound, layer_pushed, layer_popped, session_named, hub_changed, hub_released, session_begun, change_layers, add_under}
+use Rattle.sentry_laws.proofs.Changes.{Change, Changes, nothing, one, both, held_options, after_arrival, envelopes_on_arrival, makes_hub, makes_hub_from, changes_hub, leaves_hub, notes_event_id, releases_hub, adds_client, clones_client, drops_client, arrives, accepts, accepts_none, mails, loses, takes_report, absorbs, starts_none, starts_session, changes_session, ends_session, starts_transaction, starts_span, changes_spans}
 use Rattle.sentry_laws.specs.Reachable.{SessionsAreNamed}
 use Rattle.sentry_laws.proofs.Tables.{AreBelow}
 use Rattle.sentry_laws.proofs.Found.{same_number, found_replaced, found_without}
-use Rattle.sentry_laws.proofs.Tests.{passes_put, passes_raised, or_left, or_rest, any_first, any_second}
+use Rattle.sentry_laws.proofs.Tests.{passes_put, passes_raised, or_left, or_right, or_rest, any_first, any_second}
 use Rattle.sentry_laws.proofs.Numbered.{IsNumbered, numbered_changes}
 
 -- ---- effects by which a session starts, or a layer gives one up
@@ -35,8 +35,32 @@ module _ {P C : Type 0} where
   is_unnaming (hub_changed number (session_named session)) = true
   is_unnaming (hub_changed number (layer_popped given)) = true
   is_unnaming (hub_released number) = true
-  is_unnaming (session_started number) = true
+  is_unnaming (session_begun number id) = true
   is_unnaming _ = false
+
+-- ---- effects by which a layer names another session
+
+module _ {P C : Type 0} where
+  abbrev pub is_naming : ℕ → Effect P C → Bool
+  is_naming n (hub_changed number (session_named (Some key))) = n == number
+  is_naming n _ = false
+
+  abbrev pub is_begun : ℕ → Effect P C → Bool
+  is_begun n (session_begun number id) = n == number
+  is_begun n _ = false
+
+  calm_unnamed : (n : ℕ) (effect : Effect P C) → is_unnaming effect ≡ false → is_naming n effect ≡ false
+  calm_unnamed n (hub_changed number (session_named None)) h = refl
+  calm_unnamed n (hub_changed number (session_named (Some key))) h = absurd cc
+  calm_unnamed n _ h = refl
+
+  -- where no session starts and no layer gives one up, no layer names another one
+  pub unnamed : (n : ℕ) (some : List (Effect P C)) → list_any is_unnaming some ≡ false
+      → list_any (is_naming n) some ≡ false
+  unnamed n [] h = refl
+  unnamed n (effect ∷ rest) h =
+      ap (λ b. b || list_any (is_naming n) rest) (calm_unnamed n effect (or_left (is_unnaming effect) _ h))
+      ∙ unnamed n rest (or_right (is_unnaming effect) _ h)
 
 -- ---- sessions that are found
 
@@ -153,15 +177,21 @@ module _ {P C : Type 0} (meanings : C → Meanings) where
   named_change (adds_client world client now queues open_ of_engine) calm n h = h
   named_change (clones_client world original client now found) calm n h = h
   named_change (drops_client world key client label found same none) calm n h = h
-  named_change (arrives world key client arrival is_off found open_) calm n h =
+  named_change (arrives world key client arrival is_off found open_ came) calm n h =
       named_sending client.label (send key client (envelopes_on_arrival arrival client)
       (with_client_state world key (after_arrival arrival client))).sent
       (with_client_state world key (after_arrival arrival client)) h
-  named_change (mails world key client envelope found occupied plain) calm n h = h
+  named_change (accepts world key client arrival is_log is_off found open_ came) calm n h =
+      named_sending client.label (send key client (envelopes_on_arrival arrival client)
+      (with_client_state world key (after_arrival arrival client))).sent
+      (with_client_state world key (after_arrival arrival client)) h
+  named_change (mails world key client envelope found occupied plain told_) calm n h = h
   named_change (loses world key client losses found) calm n h = h
   named_change (takes_report world label has) calm n h = h
   named_change (absorbs world label losses has) calm n h = h
-  named_change (starts_session world start) calm n h = absurd cc
+  named_change (starts_none world number id) calm n h = h
+  named_change (accepts_none world is_log) calm n h = h
+  named_change (starts_session world number start) calm n h = absurd cc
   named_change (changes_session world number old new later found same) calm n h =
       λ key session at.
       let before = replaced_before world.sessions number key.number old new session (key.tag == world.tag) found at in

@@ -11,8 +11,8 @@ use Rattle.sentry_span_table.specs.declared.table.records.SpanRecord.{SpanRecord
 use Rattle.sentry_state.specs.Changes.{with_client_state}
 use Rattle.sentry_state.specs.Clients.{clone_from}
 use Rattle.sentry_state.specs.Worlds.{World, ClientState, starting_world}
-use Rattle.sentry_laws.specs.OwnCalls.{Effect}
-use Rattle.sentry_laws.specs.Changes.{Change, Changes, nothing, one, both, SpanChange, changes_transaction, changes_span, keeps_span, drops_transaction, drops_span, after_arrival, envelopes_on_arrival, makes_hub, makes_hub_from, changes_hub, leaves_hub, notes_event_id, releases_hub, adds_client, clones_client, drops_client, arrives, mails, loses, takes_report, absorbs, starts_session, changes_session, ends_session, starts_transaction, starts_span, changes_spans}
+use Rattle.sentry_laws.proofs.Effects.{Effect}
+use Rattle.sentry_laws.proofs.Changes.{Change, Changes, nothing, one, both, SpanChange, changes_transaction, changes_span, keeps_span, drops_transaction, drops_span, after_arrival, envelopes_on_arrival, makes_hub, makes_hub_from, changes_hub, leaves_hub, notes_event_id, releases_hub, adds_client, clones_client, drops_client, arrives, accepts, accepts_none, mails, loses, takes_report, absorbs, starts_none, starts_session, changes_session, ends_session, starts_transaction, starts_span, changes_spans}
 use Rattle.sentry_laws.proofs.Tables.{AreBelow, below_put, below_replaced, below_without}
 
 module _ {P C : Type 0} where
@@ -167,7 +167,7 @@ module _ {P C : Type 0} (meanings : C → Meanings) where
         transactions = h.transactions;
         spans = h.spans;
       }
-  numbered_change (arrives world key client arrival is_off found open_) h =
+  numbered_change (arrives world key client arrival is_off found open_ came) h =
       numbered_sending client.label (send key client (envelopes_on_arrival arrival client)
       (with_client_state world key (after_arrival arrival client))).sent
       (with_client_state world key (after_arrival arrival client))
@@ -179,7 +179,19 @@ module _ {P C : Type 0} (meanings : C → Meanings) where
         transactions = h.transactions;
         spans = h.spans;
       })
-  numbered_change (mails world key client envelope found occupied plain) h =
+  numbered_change (accepts world key client arrival is_log is_off found open_ came) h =
+      numbered_sending client.label (send key client (envelopes_on_arrival arrival client)
+      (with_client_state world key (after_arrival arrival client))).sent
+      (with_client_state world key (after_arrival arrival client))
+      (record {
+        clients = below_replaced 0 world.next.client key.number (after_arrival arrival client)
+            world.clients h.clients;
+        hubs = h.hubs;
+        sessions = h.sessions;
+        transactions = h.transactions;
+        spans = h.spans;
+      })
+  numbered_change (mails world key client envelope found occupied plain told_) h =
       record {
         clients = h.clients;
         hubs = h.hubs;
@@ -212,7 +224,9 @@ module _ {P C : Type 0} (meanings : C → Meanings) where
     transactions = h.transactions;
     spans = h.spans;
   }
-  numbered_change (starts_session world start) h = record {
+  numbered_change (starts_none world number id) h = h
+  numbered_change (accepts_none world is_log) h = h
+  numbered_change (starts_session world number start) h = record {
     clients = h.clients;
     hubs = h.hubs;
     sessions =

@@ -8,7 +8,7 @@ use Rattle.sentry_options.specs.Meanings.{Meanings}
 use Rattle.sentry_options.specs.declared.clientoptions.ClientOptions.{ClientOptions}
 use Rattle.sentry_scope.specs.declared.scope.stack.Stack.{Stack}
 use Rattle.sentry_scope.specs.Stacks.{is_client, top_alone}
-use Rattle.sentry_laws.specs.OwnCalls.{Effect, LayerChange, client_added, client_cloned, hub_made, hub_made_from, hub_changed, hub_released, losses_absorbed, report_taken, session_started, options_after, layers_after, change_layers, own_alone, is_derived, OwnAloneSuffice}
+use Rattle.sentry_laws.specs.OwnCalls.{Effect, LayerChange, client_added, client_cloned, hub_made, hub_made_from, hub_changed, hub_released, options_after, layers_after, change_layers, own_alone, is_derived, OwnAloneSuffice}
 
 or_left : (a b : Bool) → (a || b) ≡ false → a ≡ false
 or_left true b h = h
@@ -42,9 +42,6 @@ module _ {P C : Type 0} (meanings : C → Meanings) (number : ℕ) where
       (own_alone number rest) key (λ told. refl) ∙ same_options rest key
   same_options (hub_released hub ∷ rest) key = skipped (number == hub) (hub_released hub) (own_alone number rest) key
       (λ told. refl) ∙ same_options rest key
-  same_options (losses_absorbed label losses ∷ rest) key = same_options rest key
-  same_options (report_taken label report ∷ rest) key = same_options rest key
-  same_options (session_started session ∷ rest) key = same_options rest key
 
   made-by : (b : Bool) (made : ℕ) (stack : Stack P) (all own : List (Effect P C)) → (number == made) ≡ b
       → layers_after meanings all number ≡ layers_after meanings own number
@@ -94,9 +91,6 @@ module _ {P C : Type 0} (meanings : C → Meanings) (number : ℕ) where
       (same_options rest) (alone rest none)
   alone (hub_released hub ∷ rest) none = released-by (number == hub) hub rest (own_alone number rest) refl
       (alone rest none)
-  alone (losses_absorbed label losses ∷ rest) none = alone rest none
-  alone (report_taken label report ∷ rest) none = alone rest none
-  alone (session_started session ∷ rest) none = alone rest none
 
 pub own_alone_suffice : (P C : Type 0) (meanings : C → Meanings) → OwnAloneSuffice P C meanings
 own_alone_suffice P C meanings some number none = alone meanings number some none

@@ -38,10 +38,11 @@ use Rattle.sentry_calls.specs.Layers as layer_calls
 use Rattle.sentry_calls.specs.Runs.{May, Run}
 use Rattle.sentry_calls.specs.Steps.{step, hub_step}
 use Rattle.sentry_span_calls.specs.Replies.{map_answer}
-use Rattle.sentry_laws.specs.OwnCalls.{Effect, LayerChange, scope_edited, breadcrumbs_came, client_bound, layer_pushed, layer_popped, session_named, hub_changed, hub_made, hub_made_from, hub_released, losses_absorbed, report_taken, session_started, client_added, client_cloned, effects, client_effects, hub_effects, on_client, on_hub, on_report, change_layers, add_under}
-use Rattle.sentry_laws.specs.Changes.{Change, Changes, nothing, one, both, held_options, IsAllowed, after_arrival, envelopes_on_arrival, makes_hub, makes_hub_from, changes_hub, leaves_hub, notes_event_id, releases_hub, adds_client, clones_client, drops_client, arrives, mails, loses, takes_report, absorbs, starts_session, changes_session, ends_session, starts_transaction, starts_span, changes_spans}
+use Rattle.sentry_laws.proofs.Effects.{Effect, LayerChange, scope_edited, breadcrumbs_came, client_bound, layer_pushed, layer_popped, session_named, hub_changed, hub_made, hub_made_from, hub_released, losses_absorbed, report_taken, session_begun, client_dropped, item_came, client_added, client_cloned, effects, client_effects, hub_effects, on_client, on_hub, on_report, change_layers, add_under}
+use Rattle.sentry_laws.proofs.Changes.{Change, Changes, nothing, one, both, held_options, IsAllowed, after_arrival, envelopes_on_arrival, makes_hub, makes_hub_from, changes_hub, leaves_hub, notes_event_id, releases_hub, adds_client, clones_client, drops_client, arrives, accepts, accepts_none, mails, loses, takes_report, absorbs, starts_none, starts_session, changes_session, ends_session, starts_transaction, starts_span, changes_spans}
 use Rattle.sentry_laws.specs.SentItems.{handed_in}
-use Rattle.sentry_laws.specs.PushPop.{pops, LeavesOpen, stack_at, PopUndoesPush}
+use Rattle.sentry_laws.specs.PartsOfRuns.{IfElse}
+use Rattle.sentry_laws.specs.PushPop.{pops, PopLeaves, UndoesPush, PushesAreUndone, stack_at, PopUndoesPush}
 use Rattle.sentry_laws.proofs.Tables.{AreBelow, below_put, below_replaced, below_without, own_replaced, others_put}
 use Rattle.sentry_laws.proofs.Found.{same_number, found_replaced, found_without}
 use Rattle.sentry_laws.proofs.SentBatches.{found_below}
@@ -49,7 +50,9 @@ use Rattle.sentry_laws.proofs.Tests.{any_first, any_second}
 use Rattle.sentry_laws.proofs.SendingTrails.{found_released}
 use Rattle.sentry_laws.proofs.Trails.{found_under, is_own, own_effects, Trail, TellsBy}
 use Rattle.sentry_laws.proofs.Calls.{told_step}
-use Rattle.sentry_laws.proofs.Isolation.{Agrees, agrees_run, agrees_first}
+use Rattle.sentry_laws.proofs.Keeping.{kept_by_call, kept_by_run}
+use Rattle.sentry_laws.proofs.Numbered.{IsNumbered, numbered_change, none_numbered}
+use Rattle.sentry_laws.proofs.PartsOfRuns.{from_each_call}
 
 or_left : (a b : Bool) → (a || b) ≡ false → a ≡ false
 or_left true b h = h
@@ -62,6 +65,10 @@ or_right false b h = h
 and_left : (a b : Bool) → (a && b) ≡ true → a ≡ true
 and_left true b h = refl
 and_left false b h = h
+
+and_right : (a b : Bool) → (a && b) ≡ true → b ≡ true
+and_right true b h = h
+and_right false b h = absurd cc
 
 equal : (a b : ℕ) → a ≡ b → (a == b) ≡ true
 equal a b e = grind (arith, nat_tests)
@@ -87,7 +94,7 @@ module _ {P : Type 0} where
           (restored-above layer above top)
 
   -- the layers but the last
-  abbrev front : StackLayer P → List (StackLayer P) → List (StackLayer P)
+  abbrev pub front : StackLayer P → List (StackLayer P) → List (StackLayer P)
   front x [] = []
   front x (y ∷ ys) = x ∷ front y ys
 
@@ -100,7 +107,7 @@ module _ {P : Type 0} where
   front-append x [] y ys = refl
   front-append x (z ∷ xs) y ys = ap (λ l. x ∷ l) (front-append z xs y ys)
 
-  popped_below : (base : List (StackLayer P)) (y : StackLayer P) (ys : List (StackLayer P)) (otherwise : Stack P)
+  pub popped_below : (base : List (StackLayer P)) (y : StackLayer P) (ys : List (StackLayer P)) (otherwise : Stack P)
       → (stack_of_any (base ++ y ∷ ys) otherwise).below ≡ base ++ front y ys
   popped_below [] y ys otherwise = front_of y ys
   popped_below (x ∷ xs) y ys otherwise = front_of x (xs ++ y ∷ ys) ∙ front-append x xs y ys
@@ -243,12 +250,17 @@ module _ {P C : Type 0} (meanings : C → Meanings) (n : ℕ) (base : List (Stac
       record { hub = o.hub; found = o.found; on = o.on; hubs = o.hubs }
   on_change (drops_client world key client label found same none) long h o =
       record { hub = o.hub; found = o.found; on = o.on; hubs = o.hubs }
-  on_change (arrives world key client arrival is_off found open_) long h o =
+  on_change (arrives world key client arrival is_off found open_ came) long h o =
       sending_on client.label (send key client (envelopes_on_arrival arrival client)
       (with_client_state world key (after_arrival arrival client))).sent
       (with_client_state world key (after_arrival arrival client))
       (record { hub = o.hub; found = o.found; on = o.on; hubs = o.hubs })
-  on_change (mails world key client envelope found occupied none) long h o =
+  on_change (accepts world key client arrival is_log is_off found open_ came) long h o =
+      sending_on client.label (send key client (envelopes_on_arrival arrival client)
+      (with_client_state world key (after_arrival arrival client))).sent
+      (with_client_state world key (after_arrival arrival client))
+      (record { hub = o.hub; found = o.found; on = o.on; hubs = o.hubs })
+  on_change (mails world key client envelope found occupied none told_) long h o =
       record { hub = o.hub; found = o.found; on = o.on; hubs = o.hubs }
   on_change (loses world key client losses found) long h o = record {
     hub = o.hub;
@@ -265,7 +277,9 @@ module _ {P C : Type 0} (meanings : C → Meanings) (n : ℕ) (base : List (Stac
     hubs =
         o.hubs;
   }
-  on_change (starts_session world start) long h o = record { hub = o.hub; found = o.found; on = o.on; hubs = o.hubs }
+  on_change (starts_none world number id) long h o = o
+  on_change (accepts_none world is_log) long h o = o
+  on_change (starts_session world number start) long h o = record { hub = o.hub; found = o.found; on = o.on; hubs = o.hubs }
   on_change (changes_session world number old new later found same) long h o =
       record { hub = o.hub; found = o.found; on = o.on; hubs = o.hubs }
   on_change (ends_session world number) long h o = record { hub = o.hub; found = o.found; on = o.on; hubs = o.hubs }
@@ -305,7 +319,9 @@ module _ {P C : Type 0} (meanings : C → Meanings) (n : ℕ) (base : List (Stac
   session_unpopped (hub_released number) h = refl
   session_unpopped (losses_absorbed label losses) h = refl
   session_unpopped (report_taken label report) h = refl
-  session_unpopped (session_started session) h = refl
+  session_unpopped (session_begun number id) h = refl
+  session_unpopped (client_dropped number) h = refl
+  session_unpopped (item_came is_log) h = refl
 
   unpopped-at : (b : Bool) (effect : Effect P C) (rest : List (Effect P C)) → is_own effect ≡ b
       → (list_any is_popped (own_effects rest) ≡ false → list_any is_popped rest ≡ false)
@@ -370,18 +386,6 @@ module _ {P C : Type 0} (gives : P → Partial) (meanings : C → Meanings) (n :
       ap (list_any (is_popped meanings n base)) trail.same ∙ call_unpopped meanings n base call out.reply keeps in
       subst (OnBase meanings n base) (sym may.1)
       (on_changes meanings n base trail.changes long (unpopped meanings n base trail.effects none) o)
-
-  on_run : (calls : List (Call P C)) (answers : List (Result (Out (Reply P C)) Refusal)) (world last : World P C)
-      → 0 < length base → LeavesOpen n (length base) calls answers
-      → Run gives meanings world calls answers last → OnBase {C = C} meanings n base world
-      → OnBase {C = C} meanings n base last
-  on_run [] [] world last long keeps run o = subst (OnBase meanings n base) (sym run) o
-  on_run (call ∷ calls) (Ok out ∷ answers) world last long keeps run o =
-      on_run calls answers run.0 last long keeps.1 run.2 (on_next call out world run.0 long keeps.0 run.1 o)
-  on_run (call ∷ calls) (Err refusal ∷ answers) world last long keeps run o =
-      on_run calls answers run.0 last long keeps run.2 (subst (OnBase meanings n base) (sym run.1.1) o)
-  on_run [] (answer ∷ answers) world last long keeps run o = absurd run
-  on_run (call ∷ calls) [] world last long keeps run o = absurd run
 
 module _ {P C : Type 0} where
   abbrev reply_in : Result (Out (Reply P C)) Refusal → Reply P C
@@ -484,22 +488,92 @@ module _ {P C : Type 0} (gives : P → Partial) (meanings : C → Meanings) wher
   closed_by middle last key given now closed may = closed_from middle last key given now closed (hub_at middle key)
       refl may.0 may.1
 
-  pub pop_undoes_push : PopUndoesPush gives meanings
+  -- the pop of the layer that stands on these leaves them
+  left_by : (n : ℕ) (stack : Stack P) (middle last : World P C) (given : ℕ) → Closed middle last n given
+      → given ≡ length (layers stack) → OnBase {C = C} meanings n (layers stack) middle → stack_at last n ≡ Some stack
   unfolding pop
-  pop_undoes_push tag start earlier between answers more first open_ middle last key deep now opened closed before pushed_ replied run keeps popped_ =
-      let a : Agrees meanings _ first = agrees_run gives meanings earlier answers (starting_world tag start) first []
-      (agrees_first gives meanings tag start) before in
-      let o : Opened first open_ key.number deep = opened_by first open_ key deep opened pushed_ replied a.hubs in
-      let base = layers o.hub.stack in
-      let long : 0 < length base = omega (arith, length-append o.hub.stack.below (o.hub.stack.top ∷ [])) in
-      let m : OnBase meanings key.number base middle =
-      on_run gives meanings key.number base between more open_ middle long
-      (subst (λ d. LeavesOpen key.number d between more) (sym o.deep_is) keeps) run o.on in
-      let c : Closed middle last key.number deep = closed_by middle last key deep now closed popped_ in
-      let same : m.hub ≡ c.hub = same_value (value_at middle.hubs key.number) m.hub c.hub m.found c.found in
+  left_by n stack middle last given c deep m =
+      let base = layers stack in
+      let same : m.hub ≡ c.hub = same_value (value_at middle.hubs n) m.hub c.hub m.found c.found in
       let below : c.hub.stack.below ≡ base ++ m.on.0 = sym (ap (λ (h : Hub P). h.stack.below) same) ∙ m.on.1 in
-      let none : m.on.0 ≡ [] = no_more base m.on.0 (sym (ap length below) ∙ (c.deep_is ∙ sym o.deep_is)) in
+      let none : m.on.0 ≡ [] = no_more base m.on.0 (sym (ap length below) ∙ (c.deep_is ∙ deep)) in
       let all : c.hub.stack.below ≡ base = below ∙ (ap (λ l. base ++ l) none ∙ append-nil base) in
       c.after ∙ (ap (λ (l : List (StackLayer P)). Some (stack_of_any l c.hub.stack)) all
-      ∙ (ap Some (restored o.hub.stack.below o.hub.stack.top c.hub.stack)
-      ∙ sym (ap (option_map (λ (h : Hub P). h.stack)) o.found)))
+      ∙ ap Some (restored stack.below stack.top c.hub.stack))
+
+  popped_hub : (n : ℕ) (stack : Stack P) (call : HubCall P) (out : Out (Reply P C)) (world next : World P C)
+      → pops {P = P} {C = C} n (length (layers stack)) (group.Hub call) ≡ true
+      → May gives meanings world (group.Hub call) (Ok out) next → OnBase {C = C} meanings n (layers stack) world
+      → stack_at next n ≡ Some stack
+  popped_hub n stack (PopScope hub given now) out world next is may m =
+      let number : hub.number ≡ n = same_number hub.number n (and_left (hub.number == n) _ is) in
+      let deep : given ≡ length (layers stack) =
+      same_number given (length (layers stack)) (and_right (hub.number == n) _ is) in
+      left_by n stack world next given
+      (subst (λ k. Closed world next k given) number (closed_by world next hub given now out may)) deep m
+  popped_hub n stack call out world next is may m = absurd cc
+
+  popped_by : (n : ℕ) (stack : Stack P) (call : Call P C) (out : Out (Reply P C)) (world next : World P C)
+      → pops n (length (layers stack)) call ≡ true → May gives meanings world call (Ok out) next
+      → OnBase {C = C} meanings n (layers stack) world → stack_at next n ≡ Some stack
+  popped_by n stack (group.Hub call) out world next is may m = popped_hub n stack call out world next is may m
+  popped_by n stack (group.Client call) out world next is may m = absurd cc
+  popped_by n stack (group.Span call) out world next is may m = absurd cc
+
+  restores : (n : ℕ) (stack : Stack P) (calls : List (Call P C)) (answers : List (Result (Out (Reply P C)) Refusal))
+      (world last : World P C) (run : Run gives meanings world calls answers last)
+      → OnBase {C = C} meanings n (layers stack) world
+      → PopLeaves gives meanings n (length (layers stack)) (Some stack) world calls answers last run
+  restores n stack [] answers world last run m = tt
+  restores n stack (call ∷ calls) [] world last run m = tt
+  restores n stack (call ∷ calls) (Err refusal ∷ answers) world last run m =
+      restores n stack calls answers run.0 last run.2
+      (subst (OnBase {C = C} meanings n (layers stack)) (sym run.1.1) m)
+  restores n stack (call ∷ calls) (Ok out ∷ answers) world last run m =
+      by_pop (pops n (length (layers stack)) call) refl
+      (λ keeps. restores n stack calls answers run.0 last run.2
+      (on_next gives meanings n (layers stack) call out world run.0 long keeps run.1 m))
+    where
+      long : 0 < length (layers stack)
+      long = omega (arith, length-append stack.below (stack.top ∷ []))
+
+      by_pop : (b : Bool) → pops n (length (layers stack)) call ≡ b
+          → (b ≡ false → PopLeaves gives meanings n (length (layers stack)) (Some stack) run.0 calls answers last run.2)
+          → IfElse b (stack_at run.0 n ≡ Some stack)
+          (PopLeaves gives meanings n (length (layers stack)) (Some stack) run.0 calls answers last run.2)
+      by_pop true e rest = popped_by n stack call out world run.0 e run.1 m
+      by_pop false e rest = rest refl
+
+  undone : (world : World P C) (calls : List (Call P C)) (answers : List (Result (Out (Reply P C)) Refusal))
+      (last : World P C) (run : Run gives meanings world calls answers last) → IsNumbered world
+      → UndoesPush gives meanings world calls answers last run
+  undone world [] answers last run n = tt
+  undone world (call ∷ calls) [] last run n = tt
+  undone world (call ∷ calls) (Err refusal ∷ answers) last run n = tt
+  undone world (call ∷ calls) (Ok out ∷ answers) last run n = λ hub depth is replied.
+      let pushed_ = subst (λ c. May gives meanings world c (Ok out) run.0) is run.1 in
+      let o : Opened world run.0 hub.number depth = opened_by world run.0 hub depth out pushed_ replied n.hubs in
+      subst (λ (s : Option (Stack P)). PopLeaves gives meanings hub.number depth s run.0 calls answers last run.2)
+      (sym (ap (option_map (λ (h : Hub P). h.stack)) o.found))
+      (subst (λ d. PopLeaves gives meanings hub.number d (Some o.hub.stack) run.0 calls answers last run.2) o.deep_is
+      (restores hub.number o.hub.stack calls answers run.0 last run.2 o.on))
+
+  pushes_undone : (calls : List (Call P C)) (answers : List (Result (Out (Reply P C)) Refusal)) (world last : World P C)
+      (run : Run gives meanings world calls answers last) → IsNumbered world
+      → PushesAreUndone gives meanings world calls answers last run
+  pushes_undone = from_each_call gives meanings (UndoesPush gives meanings) IsNumbered
+      (kept_by_call gives meanings IsNumbered (λ given old new some sent c. numbered_change meanings c)) undone
+
+  pub pop_undoes_push : PopUndoesPush gives meanings
+  pop_undoes_push tag start earlier calls before answers first last reached run =
+      pushes_undone calls answers first last run
+      (kept_by_run gives meanings IsNumbered (λ given old new some sent c. numbered_change meanings c) earlier before
+      (starting_world tag start) first reached (none_numbered tag start))
+
+  -- the pushes of a run from the start
+  pub all_pushes_undone : (tag start : ℕ) (calls : List (Call P C))
+      (answers : List (Result (Out (Reply P C)) Refusal)) (last : World P C)
+      (run : Run gives meanings (starting_world tag start) calls answers last)
+      → PushesAreUndone gives meanings (starting_world tag start) calls answers last run
+  all_pushes_undone tag start calls answers last run =
+      pushes_undone calls answers (starting_world tag start) last run (none_numbered tag start)

@@ -43,8 +43,8 @@ use Rattle.sentry_calls.specs.declared.call.hubs.HubCall.{HubCall}
 use Rattle.sentry_calls.specs.declared.call.hubs.HubCall.TheVariants.{NewHub, NewHubFromTop}
 use Rattle.sentry_calls.specs.declared.call.Reply.{Reply}
 use Rattle.sentry_calls.specs.declared.call.Reply.TheVariants as reply
-use Rattle.sentry_laws.specs.OwnCalls.{Effect, client_added, client_cloned, hub_made, hub_made_from, hub_changed, hub_released, losses_absorbed, report_taken, session_started, effects, client_effects, hub_effects, on_client, on_hub, on_report}
-use Rattle.sentry_laws.specs.Changes.{Change, Changes, nothing, one, both, is_batch_or_report, Arrival, log_came, metric_came, session_ended, flush_came, after_arrival, envelopes_on_arrival, makes_hub, makes_hub_from, changes_hub, leaves_hub, notes_event_id, releases_hub, adds_client, clones_client, drops_client, arrives, mails, loses, takes_report, absorbs, starts_session, changes_session, ends_session, starts_transaction, starts_span, changes_spans}
+use Rattle.sentry_laws.proofs.Effects.{Effect, client_added, client_cloned, hub_made, hub_made_from, hub_changed, hub_released, losses_absorbed, report_taken, session_begun, client_dropped, item_came, effects, client_effects, hub_effects, on_client, on_hub, on_report}
+use Rattle.sentry_laws.proofs.Changes.{Change, Changes, nothing, one, both, is_batch_or_report, Arrival, log_came, metric_came, session_ended, flush_came, after_arrival, envelopes_on_arrival, makes_hub, makes_hub_from, changes_hub, leaves_hub, notes_event_id, releases_hub, adds_client, clones_client, drops_client, arrives, accepts, accepts_none, mails, loses, takes_report, absorbs, starts_none, starts_session, changes_session, ends_session, starts_transaction, starts_span, changes_spans}
 use Rattle.sentry_laws.specs.Losses.{told_by, reported}
 use Rattle.sentry_laws.specs.Reports.{told_by_item, told_by_items, own_items, told_by_envelopes, has_label, told_by_reply, told_by_answer, history_of, told_since, ReportsAddUp}
 use Rattle.sentry_laws.specs.SentItems.{handed_in, batches_among}
@@ -199,7 +199,9 @@ module _ (label : Label) (i : ℕ) where
     session_silent (hub_changed number change) h = refl
     session_silent (hub_released number) h = refl
     session_silent (losses_absorbed other losses) h = refl
-    session_silent (session_started session) h = refl
+    session_silent (session_begun number id) h = refl
+    session_silent (client_dropped number) h = refl
+    session_silent (item_came is_log) h = refl
 
     own-by : (b : Bool) (effect : Effect P C) (rest : List (Effect P C)) → is_own effect ≡ b
         → told_by_effects (own_effects rest) ≡ told_by_effects rest
@@ -575,7 +577,7 @@ module _ (label : Label) (i : ℕ) where
             adds = λ own history at. a.adds own history (left-book (has_client_of other (without world.clients key.number))
                 other.number world history a.books at);
           })
-      adds_change (arrives world key client arrival is_off found open_) none books told a =
+      adds_change (arrives world key client arrival is_off found open_ came) none books told a =
           let arrived = with_client_state world key (after_arrival arrival client) in
           let middle : HasBooks arrived = changed_books world key.number client (after_arrival arrival client)
           (found_under world.tag world.clients key.tag key.number client found) (arrival_label arrival client)
@@ -595,7 +597,27 @@ module _ (label : Label) (i : ℕ) where
                 (a.labels k) at;
             adds = a.adds;
           }))
-      adds_change (mails world key client envelope found occupied plain) none books told a =
+      adds_change (accepts world key client arrival is_log is_off found open_ came) none books told a =
+          let arrived = with_client_state world key (after_arrival arrival client) in
+          let middle : HasBooks arrived = changed_books world key.number client (after_arrival arrival client)
+          (found_under world.tag world.clients key.tag key.number client found) (arrival_label arrival client)
+          a.books in
+          same_told (told + (told_by_envelopes i of_label None (send key client (envelopes_on_arrival arrival client)
+          arrived).sent + 0)) _ _
+          (ap (λ (o : Option Envelope). told +
+          (told_by_envelopes i of_label o (send key client (envelopes_on_arrival arrival client) arrived).sent + 0))
+          is_off)
+          (sending client.occupied told arrived key client.label (envelopes_on_arrival arrival client)
+          (entered_books arrived client.label report_point middle) (found_known world key client a.books found)
+          (a.labels key client found)
+          (no_reports arrival client) (record {
+            books = middle;
+            labels = λ k c at. client_changed world key.number client (after_arrival arrival client) k c
+                (found_under world.tag world.clients key.tag key.number client found) (arrival_label arrival client)
+                (a.labels k) at;
+            adds = a.adds;
+          }))
+      adds_change (mails world key client envelope found occupied plain told_) none books told a =
           same_told (told + told_now world client.label) _ _
           (sent_one given told world key client.label envelope (a.labels key client found)
           (report_told i low given (pending_report world client.label) envelope (silent plain)) 0 refl)
@@ -614,7 +636,9 @@ module _ (label : Label) (i : ℕ) where
       adds_change (absorbs world other losses has) none books told a =
           same_told told (told + 0) _ (no_more told) (silent_entry told world other (drained_losses losses) books has
           (λ held. refl) a)
-      adds_change (starts_session world start) none books told a = still told world _ books refl refl refl a
+      adds_change (starts_none world number id) none books told a = still told world _ books refl refl refl a
+      adds_change (accepts_none world is_log) none books told a = still told world _ books refl refl refl a
+      adds_change (starts_session world number start) none books told a = still told world _ books refl refl refl a
       adds_change (changes_session world number old new later found same) none books told a =
           still told world _ books refl refl refl a
       adds_change (ends_session world number) none books told a = still told world _ books refl refl refl a

@@ -1,5 +1,5 @@
 -- What is sent, and how sessions end, as changes.
-use Rattle.std.proofs.Common.{◌≡◌, refl, ap, ◌∙◌, sym, subst, ℕ, ◌+◌, List, [], ◌∷◌, Bool, true, false, cond, arith}
+use Rattle.std.proofs.Common.{◌≡◌, ◌≢◌, refl, ap, ◌∙◌, sym, subst, ℕ, ◌+◌, List, [], ◌∷◌, Bool, true, false, cond, arith}
 use Rattle.std.specs.Prelude.{Option, Some, None, if◌then◌else◌, ◌==◌}
 use Rattle.sentry_plain.specs.Tables.{value_at, replace_at, without}
 use Rattle.sentry_base.specs.declared.protocol.envelope.Envelope.{Envelope}
@@ -12,7 +12,11 @@ use Rattle.sentry_base.specs.declared.protocol.session.SessionStatus.{SessionSta
 use Rattle.sentry_base.specs.declared.protocol.session.SessionUpdate.{SessionUpdate}
 use Rattle.sentry_options.specs.Meanings.{Meanings}
 use Rattle.sentry_sessions.specs.SessionQueues.{enqueued, envelopes_on}
-use Rattle.sentry_sessions.specs.Sessions.{closed, session_of, pending_update}
+use Rattle.sentry_sessions.specs.Sessions.{SessionEntry, SessionEnd, crash, closing, closed, closing_status, end_of, end_status, session_of, pending_update, update_of}
+use Rattle.sentry_base.specs.declared.protocol.session.SessionStatus.TheVariants as session_status
+use Rattle.std.specs.BTreeMap.{is_at}
+use Rattle.std.specs.Ordering.{nat_cmp}
+use Rattle.std.specs.Option.{option_or}
 use Rattle.sentry_sessions.specs.declared.session.record.SessionStart.{SessionStart}
 use Rattle.sentry_hub_table.specs.declared.hub.Hub.{Hub}
 use Rattle.sentry_state.specs.declared.state.NextNumbers.{NextNumbers}
@@ -25,8 +29,8 @@ use Rattle.sentry_sending.specs.Sessions.{replace_session}
 use Rattle.sentry_queues.specs.declared.flushes.Flush.{Flush}
 use Rattle.sentry_queues.specs.Flushes.{flush_queues, flushed_envelopes, after_flush}
 use Rattle.sentry_queues.specs.Telemetry.{accept_log, accept_metric, keep_log, keep_metric}
-use Rattle.sentry_laws.specs.OwnCalls.{hub_changed, session_named, session_started}
-use Rattle.sentry_laws.specs.Changes.{Changes, one, both, log_came, metric_came, session_ended, flush_came, changes_hub, arrives, loses, starts_session, ends_session}
+use Rattle.sentry_laws.proofs.Effects.{hub_changed, session_named, session_begun, item_came}
+use Rattle.sentry_laws.proofs.Changes.{Changes, IsArrival, nothing, one, both, log_came, metric_came, session_ended, flush_came, changes_hub, arrives, accepts, accepts_none, loses, starts_session, changes_session, ends_session}
 use Rattle.sentry_laws.proofs.Tables.{own_replaced}
 use Rattle.sentry_laws.proofs.Parts.{flush_part, queue_update_part, release_part}
 use Rattle.sentry_laws.proofs.Trails.{found_under, Sends, sends_some, sends_unless, quiet_last}
@@ -213,49 +217,157 @@ module _ {P C : Type 0} (next : NextNumbers) where
       end_unnamed_but hub.stack.top.session now
       (record world { hubs = replace_at world.hubs number (with_session hub None) })
 
+-- ---- the sessions are not read where an update is queued
+
+module _ {P C : Type 0} (sessions : List (ℕ × SessionState)) where
+  -- the same is sent, and the same is left but for the sessions
+  record SameButSessions (one_ other : Sending P C) : Type 0 where
+    sent : other.sent ≡ one_.sent
+    after : other.after ≡ record one_.after { sessions = sessions }
+
+  after_but_sessions : (label : Label) (sent : List (ClientKey × Envelope)) (world : World P C) → after_sending label sent
+      (record world { sessions = sessions }) ≡ record (after_sending label sent world) { sessions = sessions }
+  after_but_sessions label [] world = refl
+  after_but_sessions label (first ∷ rest) world = refl
+
+  some_but_sessions : {X : Type 0} (world : World P C) (o : Option X) (go other : X → Sending P C)
+      → ((x : X) → SameButSessions (go x) (other x)) → SameButSessions (send_some world o go)
+      (send_some (record world { sessions = sessions }) o other)
+  some_but_sessions world None go other h = record { sent = refl; after = refl }
+  some_but_sessions world (Some x) go other h = h x
+
+  unless_but_sessions : (world : World P C) (b : Bool) (go other : Sending P C) → SameButSessions go other
+      → SameButSessions (if b then send_nothing world else go)
+      (if b then send_nothing (record world { sessions = sessions }) else other)
+  unless_but_sessions world true go other h = record { sent = refl; after = refl }
+  unless_but_sessions world false go other h = h
+
+  update_but_sessions : (key : ClientKey) (update : SessionUpdate) (world : World P C)
+      → SameButSessions (queue_update key update world) (queue_update key update (record world { sessions = sessions }))
+  unfolding queue_update
+  update_but_sessions key update world = some_but_sessions world (client_at world key) _ _ (λ client.
+      let queued = with_client_state world key (with_client_entry (enqueued update) client) in
+      let sending = send key client (envelopes_on client.options.plain.session_mode update client.queues.sessions)
+      queued in
+      unless_but_sessions world client.closed _ _
+      (record { sent = refl; after = after_but_sessions client.label sending.sent queued }))
+
+-- ---- what is told of a session that was closed
+
+closing_ended : (status : Option SessionStatus) → closing_status status ≢ session_status.Ok
+closing_ended None e = absurd cc
+closing_ended (Some session_status.Crashed) e = absurd cc
+closing_ended (Some session_status.Abnormal) e = absurd cc
+closing_ended (Some session_status.Exited) e = absurd cc
+closing_ended (Some session_status.Ok) e = absurd cc
+
+closed_ended : (end : Option SessionEnd) (status : Option SessionStatus) (now : ℕ)
+    → end_status (option_or end (Some (closing status now))) ≢ session_status.Ok
+closed_ended None status now = closing_ended status
+closed_ended (Some crash) status now = λ e. absurd cc
+closed_ended (Some (closing first moment)) status now = closing_ended first
+
+pending-by : (b : Bool) (told update : SessionUpdate) → (if b then Some told else None) ≡ Some update → told ≡ update
+pending-by true told update e = cc
+pending-by false told update e = absurd cc
+
+-- an update that is pending has the id of the session, and its status
+pub pending_told : (start : SessionStart) (history : List SessionEntry) (update : SessionUpdate)
+    → pending_update (session_of start history) ≡ Some update
+    → (start.session_id ≡ update.session_id) × (end_status (end_of history) ≡ update.status)
+unfolding session_of
+pending_told start history update e =
+    let same = pending-by (session_of start history).dirty (update_of (session_of start history)) update e in
+    (ap (λ (u : SessionUpdate). u.session_id) same, ap (λ (u : SessionUpdate). u.status) same)
+
+without-at : (b : Bool) (n : ℕ) (x : SessionState) (e : ℕ × SessionState) (es : List (ℕ × SessionState))
+    → is_at (nat_cmp n) e.0 ≡ b → without (replace_at es n x) n ≡ without es n
+    → without (cond b ((e.0, x) ∷ es) (e ∷ replace_at es n x)) n ≡ cond b es (e ∷ without es n)
+without-at true n x e es q h = ap (λ t. cond t es ((e.0, x) ∷ without es n)) q
+without-at false n x e es q h =
+    ap (λ t. cond t (replace_at es n x) (e ∷ without (replace_at es n x) n)) q ∙ ap (λ l. e ∷ l) h
+
+-- what was replaced is removed
+without_replaced : (m : List (ℕ × SessionState)) (n : ℕ) (x : SessionState)
+    → without (replace_at m n x) n ≡ without m n
+without_replaced [] n x = refl
+without_replaced (e ∷ es) n x = without-at (is_at (nat_cmp n) e.0) n x e es refl (without_replaced es n x)
+
 module _ {P C : Type 0} (meanings : C → Meanings) where
   -- ---- what comes to queues
 
-  queued : (key : ClientKey) (update : SessionUpdate) (world : World P C) → Sends meanings None world []
-      (queue_update key update world)
+  queued : (key : ClientKey) (update : SessionUpdate) (world : World P C) → IsArrival world (session_ended update)
+      → Sends meanings None world [] (queue_update key update world)
   unfolding queue_update
-  queued key update world =
+  queued key update world told_ =
       sends_some meanings None (client_at world key) (λ client found. sends_unless meanings None client.closed
-      (λ open_. record { changes = one (arrives world key client (session_ended update) refl found open_) }))
+      (λ open_. record { changes = one (arrives world key client (session_ended update) refl found open_ told_) }))
+
+  -- the same where other sessions are held
+  queued_beside : (client : ClientKey) (world : World P C) (sessions : List (ℕ × SessionState))
+      (o : Option SessionUpdate)
+      → ((update : SessionUpdate) → o ≡ Some update
+      → IsArrival (record world { sessions = sessions }) (session_ended update))
+      → Changes meanings None (record world { sessions = sessions }) []
+      (send_some world o (λ update. queue_update client update world)).sent
+      (record (send_some world o (λ update. queue_update client update world)).after { sessions = sessions })
+  queued_beside client world sessions None told_ = nothing (record world { sessions = sessions })
+  queued_beside client world sessions (Some update) told_ =
+      let but = update_but_sessions sessions client update world in
+      subst (λ s. Changes meanings None (record world { sessions = sessions }) [] s
+      (record (queue_update client update world).after { sessions = sessions })) but.sent
+      (subst (λ (w : World P C). Changes meanings None (record world { sessions = sessions }) []
+      (queue_update client update (record world { sessions = sessions })).sent w) but.after
+      (queued client update (record world { sessions = sessions }) (told_ update refl)).changes)
 
   pub flushes : (flush : Flush) (key : ClientKey) (world : World P C) → Sends meanings None world []
       (flush_queues flush key world)
   unfolding flush_queues
   flushes flush key world =
       sends_some meanings None (client_at world key) (λ client found. sends_unless meanings None client.closed
-      (λ open_. record { changes = one (arrives world key client (flush_came flush) refl found open_) }))
+      (λ open_. record { changes = one (arrives world key client (flush_came flush) refl found open_ tt) }))
 
-  accepts_log : (key : ClientKey) (log : Log) (world : World P C) → Sends meanings None world []
+  -- a log or a metric may come
+  comes_some : {X : Type 0} {world : World P C} (is_log : Bool) (o : Option X) {go : X → Sending P C}
+      → ((x : X) → o ≡ Some x → Sends meanings None world (item_came is_log ∷ []) (go x))
+      → Sends meanings None world (item_came is_log ∷ []) (send_some world o go)
+  comes_some {world = world} is_log None h = record { changes = one (accepts_none world is_log) }
+  comes_some is_log (Some x) h = h x refl
+
+  comes_unless : {world : World P C} (is_log b : Bool) {go : Sending P C}
+      → (b ≡ false → Sends meanings None world (item_came is_log ∷ []) go)
+      → Sends meanings None world (item_came is_log ∷ []) (if b then send_nothing world else go)
+  comes_unless {world} is_log true h = record { changes = one (accepts_none world is_log) }
+  comes_unless is_log false h = h refl
+
+  accepts_log : (key : ClientKey) (log : Log) (world : World P C) → Sends meanings None world (item_came true ∷ [])
       (accept_log key log world)
   unfolding accept_log
   accepts_log key log world =
-      sends_some meanings None (client_at world key) (λ client found. sends_unless meanings None client.closed
-      (λ open_. record { changes = one (arrives world key client (log_came log) refl found open_) }))
+      comes_some true (client_at world key) (λ client found. comes_unless true client.closed
+      (λ open_. record { changes = one (accepts world key client (log_came log) true refl found open_ tt) }))
 
-  accepts_metric : (key : ClientKey) (metric : Metric) (world : World P C) → Sends meanings None world []
-      (accept_metric key metric world)
+  accepts_metric : (key : ClientKey) (metric : Metric) (world : World P C) → Sends meanings None world
+      (item_came false ∷ []) (accept_metric key metric world)
   unfolding accept_metric
   accepts_metric key metric world =
-      sends_some meanings None (client_at world key) (λ client found. sends_unless meanings None client.closed
-      (λ open_. record { changes = one (arrives world key client (metric_came metric) refl found open_) }))
+      comes_some false (client_at world key) (λ client found. comes_unless false client.closed
+      (λ open_. record { changes = one (accepts world key client (metric_came metric) false refl found open_ tt) }))
 
   pub keeps_log : (key : ClientKey) (client : ClientState C) (log : Option Log) (world : World P C)
       → client_at world key ≡ Some client
-      → Sends meanings None world [] (keep_log key client.label log world)
+      → Sends meanings None world (item_came true ∷ []) (keep_log key client.label log world)
   unfolding keep_log
-  keeps_log key client None world found = record { changes = one (loses world key client _ found) }
+  keeps_log key client None world found =
+      record { changes = both (one (accepts_none world true)) (one (loses world key client _ found)) }
   keeps_log key client (Some log) world found = accepts_log key log world
 
   pub keeps_metric : (key : ClientKey) (client : ClientState C) (metric : Option Metric) (world : World P C)
       → client_at world key ≡ Some client
-      → Sends meanings None world [] (keep_metric key client.label metric world)
+      → Sends meanings None world (item_came false ∷ []) (keep_metric key client.label metric world)
   unfolding keep_metric
-  keeps_metric key client None world found = record { changes = one (loses world key client _ found) }
+  keeps_metric key client None world found =
+      record { changes = both (one (accepts_none world false)) (one (loses world key client _ found)) }
   keeps_metric key client (Some metric) world found = accepts_metric key metric world
 
   -- ---- sessions
@@ -264,12 +376,38 @@ module _ {P C : Type 0} (meanings : C → Meanings) where
       → Sends meanings None world [] (end_session key status now world)
   unfolding end_session
   ends key status now world =
-      sends_some meanings None (session_at world key) (λ session found. record {
-        changes = quiet_last meanings None
-            (sends_some meanings None (pending_update (session_of session.start (closed status now ∷ session.history)))
-            (λ update is. queued session.start.client update world)).changes
-            (ends_session _ key.number);
+      sends_some meanings None (session_at world key) (λ session found.
+      let here = found_under world.tag world.sessions key.tag key.number session found in
+      let closed_ : SessionState = record session { history = closed status now ∷ session.history } in
+      let sessions = replace_at world.sessions key.number closed_ in
+      let pending = pending_update (session_of session.start (closed status now ∷ session.history)) in
+      let sending = send_some world pending (λ update. queue_update session.start.client update world) in
+      let same : without sessions key.number ≡ without sending.after.sessions key.number =
+      without_replaced world.sessions key.number closed_
+      ∙ sym (ap (λ s. without s key.number)
+      (some_sessions world pending _ (λ update. queue_update_sessions session.start.client update world))) in
+      record {
+        changes = subst (λ s. Changes meanings None world [] sending.sent (record sending.after { sessions = s })) same
+            (quiet_last meanings None
+            (both (one (changes_session world key.number session closed_ (closed status now ∷ []) here refl))
+            (queued_beside session.start.client world sessions pending
+            (λ update is. closed_told world key status now session here update is)))
+            (ends_session (record sending.after { sessions = sessions }) key.number));
       })
+    where
+      closed_told : (world : World P C) (key : SessionKey) (status : Option SessionStatus) (now : ℕ)
+          (session : SessionState) → value_at world.sessions key.number ≡ Some session → (update : SessionUpdate)
+          → pending_update (session_of session.start (closed status now ∷ session.history)) ≡ Some update
+          → IsArrival (record world {
+            sessions = replace_at world.sessions key.number
+                (record session { history = closed status now ∷ session.history });
+          }) (session_ended update)
+      closed_told world key status now session here update is =
+          let closed_ : SessionState = record session { history = closed status now ∷ session.history } in
+          let told_ = pending_told session.start (closed status now ∷ session.history) update is in (
+            (key.number, closed_, own_replaced world.sessions key.number closed_ session here, told_.0, told_.1),
+            subst (λ s. s ≢ session_status.Ok) told_.1 (closed_ended (end_of session.history) status now),
+          )
 
   ends_unnamed : (name : Option SessionKey) (now : ℕ) (world : World P C) → Sends meanings None world []
       (end_unnamed_session name now world)
@@ -288,7 +426,7 @@ module _ {P C : Type 0} (meanings : C → Meanings) where
 
   pub replaces : (number : ℕ) (hub : Hub P) (now : ℕ) (start : SessionStart) (world : World P C)
       → value_at world.hubs number ≡ Some hub
-      → Sends meanings None world (session_started world.next.session ∷ hub_changed number (session_named None)
+      → Sends meanings None world (session_begun number start.session_id ∷ hub_changed number (session_named None)
       ∷ hub_changed number (session_named (Some (record {
         tag = world.tag;
         number =
@@ -312,7 +450,7 @@ module _ {P C : Type 0} (meanings : C → Meanings) where
       (releases number hub now (record begun { next = counted }) found).changes) in
       record {
         changes = subst (λ (n : NextNumbers). Changes meanings None world
-            (session_started world.next.session ∷ hub_changed number (session_named None) ∷ hub_changed number
+            (session_begun number start.session_id ∷ hub_changed number (session_named None) ∷ hub_changed number
             (session_named (Some (record { tag = world.tag; number = n.session }))) ∷ []) released.sent
             (record released.after {
               next = record n { session = n.session + 1 };
@@ -321,7 +459,7 @@ module _ {P C : Type 0} (meanings : C → Meanings) where
                   (with_session hub (Some (record { tag = released.after.tag; number = n.session })));
             })) (sym same)
             (subst (λ t. Changes meanings None world
-            (session_started world.next.session ∷ hub_changed number (session_named None) ∷ hub_changed number
+            (session_begun number start.session_id ∷ hub_changed number (session_named None) ∷ hub_changed number
             (session_named (Some (record { tag = world.tag; number = world.next.session }))) ∷ []) released.sent
             (record released.after {
               next = counted;
@@ -329,7 +467,7 @@ module _ {P C : Type 0} (meanings : C → Meanings) where
                   replace_at released.after.hubs number
                   (with_session hub (Some (record { tag = t; number = world.next.session })));
             })) (sym tag)
-            (quiet_last meanings None (both (one (starts_session world start)) freed)
+            (quiet_last meanings None (both (one (starts_session world number start)) freed)
             (changes_hub (record released.after { next = counted }) number (with_session hub None)
             (with_session hub (Some (record { tag = world.tag; number = world.next.session })))
             (session_named (Some (record { tag = world.tag; number = world.next.session })))

@@ -24,9 +24,9 @@ use Rattle.sentry_batches.specs.declared.batcher.TheConstants.{BATCH_INTERVAL}
 use Rattle.sentry_calls.specs.declared.call.Call.{Call}
 use Rattle.sentry_calls.specs.declared.call.Reply.{Reply}
 use Rattle.sentry_calls.specs.Runs.{Run}
-use Rattle.sentry_laws.specs.Changes.{is_batch_or_report, after_arrival, envelopes_on_arrival, Arrival, log_came, metric_came, session_ended, flush_came}
-use Rattle.sentry_laws.specs.SentItems.{log_batch, metric_batch, batches_among, SendsAcceptedLogs, SendsAcceptedMetrics}
-use Rattle.sentry_laws.proofs.SentBatches.{limit_of, all_batches, all_batches-append, sends_accepted}
+use Rattle.sentry_laws.proofs.Changes.{is_batch_or_report, after_arrival, envelopes_on_arrival, Arrival, log_came, metric_came, session_ended, flush_came}
+use Rattle.sentry_laws.specs.SentItems.{log_batch, metric_batch, batches_among, SendsAcceptedLogs, SendsAcceptedMetrics, SendsLogsAtEachCall, SendsMetricsAtEachCall}
+use Rattle.sentry_laws.proofs.SentBatches.{limit_of, all_batches, all_batches-append, sends_accepted, sends_at_each_call}
 
 log_is : (i : EnvelopeItem) → is_batch_or_report i ≡ false → log_batch i ≡ None
 log_is (item.Logs logs) h = absurd cc
@@ -165,3 +165,17 @@ module _ {P C : Type 0} (gives : P → Partial) (meanings : C → Meanings) wher
       → Run gives meanings (starting_world tag start) calls answers last → SendsAcceptedMetrics calls answers last
   sends_metrics = sends_accepted metric_batch metric_is (λ report. refl) (λ queues. queues.metrics) (λ now. refl)
       metrics_on gives meanings
+
+  pub sends_logs_at_each_call : (tag start : ℕ) (calls : List (Call P C))
+      (answers : List (Result (Out (Reply P C)) Refusal)) (last : World P C)
+      (run : Run gives meanings (starting_world tag start) calls answers last)
+      → SendsLogsAtEachCall gives meanings (starting_world tag start) calls answers last run
+  sends_logs_at_each_call = sends_at_each_call log_batch log_is (λ report. refl) (λ queues. queues.logs) (λ now. refl)
+      logs_on gives meanings (λ client. refl)
+
+  pub sends_metrics_at_each_call : (tag start : ℕ) (calls : List (Call P C))
+      (answers : List (Result (Out (Reply P C)) Refusal)) (last : World P C)
+      (run : Run gives meanings (starting_world tag start) calls answers last)
+      → SendsMetricsAtEachCall gives meanings (starting_world tag start) calls answers last run
+  sends_metrics_at_each_call = sends_at_each_call metric_batch metric_is (λ report. refl) (λ queues. queues.metrics)
+      (λ now. refl) metrics_on gives meanings (λ client. refl)

@@ -1,5 +1,5 @@
 -- Sessions that have ended.
-use Rattle.std.proofs.Common.{◌≡◌, ◌<◌, ◌≤◌, refl, ap, ◌∙◌, sym, subst, ℕ, ◌+◌, List, [], ◌∷◌, ◌++◌, Bool, true, false, arith, append_assoc, ◌⊎◌, inl, inr}
+use Rattle.std.proofs.Common.{◌≡◌, ◌<◌, ◌≤◌, refl, ap, ◌∙◌, sym, subst, ℕ, ◌+◌, List, [], ◌∷◌, ◌++◌, Bool, true, false, arith, ◌⊎◌, inl, inr}
 use Rattle.std.proofs.lemmas.Bool.Decides.{nat_tests}
 use Rattle.std.specs.Prelude.{Option, Some, None, Result, Ok, Err, if◌then◌else◌, ◌==◌, length}
 use Rattle.std.specs.Option.{option_and_then}
@@ -19,13 +19,12 @@ use Rattle.sentry_scope.specs.declared.scope.stack.Stack.{Stack}
 use Rattle.sentry_scope.specs.declared.scope.stack.StackLayer.{StackLayer}
 use Rattle.sentry_scope.specs.Stacks.{pop, stack_of, stack_of_any}
 use Rattle.sentry_sessions.specs.Sessions.{SessionEntry}
-use Rattle.sentry_sessions.proofs.SessionLemmas.{ended_status_stays_is}
 use Rattle.sentry_hub_table.specs.declared.hub.Hub.{Hub}
 use Rattle.sentry_state.specs.declared.state.Out.{Out}
-use Rattle.sentry_state.specs.Worlds.{World, SessionState, plain_session, starting_world}
-use Rattle.sentry_state.specs.Outcomes.{Outcome, hub_at, session_at}
+use Rattle.sentry_state.specs.Worlds.{World, SessionState, starting_world}
+use Rattle.sentry_state.specs.Outcomes.{hub_at, session_at}
 use Rattle.sentry_state.specs.Changes.{with_client_state}
-use Rattle.sentry_sending.specs.Sending.{Sending, after_sending, send, send_nothing, reply_sending}
+use Rattle.sentry_sending.specs.Sending.{after_sending, send, send_nothing, reply_sending}
 use Rattle.sentry_calls.specs.declared.call.Call.{Call}
 use Rattle.sentry_calls.specs.declared.call.Call.TheVariants as group
 use Rattle.sentry_calls.specs.declared.call.hubs.HubCall.TheVariants.{EndSessionWithStatus}
@@ -33,18 +32,16 @@ use Rattle.sentry_calls.specs.declared.call.Reply.{Reply}
 use Rattle.sentry_calls.specs.declared.call.Reply.TheVariants as reply
 use Rattle.sentry_calls.specs.Sessions as session_calls
 use Rattle.sentry_sending.specs.SessionEnds.{end_session}
-use Rattle.sentry_laws.proofs.SendingTrails.{ended_gone}
 use Rattle.sentry_calls.specs.Runs.{May, Run}
 use Rattle.sentry_calls.specs.Steps.{step, hub_step}
 use Rattle.sentry_span_calls.specs.Replies.{map_answer}
-use Rattle.sentry_laws.specs.OwnCalls.{Effect, LayerChange, scope_edited, breadcrumbs_came, client_bound, layer_pushed, layer_popped, session_named, change_layers, add_under, effects}
-use Rattle.sentry_laws.specs.Changes.{Change, Changes, nothing, one, both, held_options, IsAllowed, IsGiven, after_arrival, envelopes_on_arrival, makes_hub, makes_hub_from, changes_hub, leaves_hub, notes_event_id, releases_hub, adds_client, clones_client, drops_client, arrives, mails, loses, takes_report, absorbs, starts_session, changes_session, ends_session, starts_transaction, starts_span, changes_spans}
+use Rattle.sentry_laws.proofs.Effects.{Effect, LayerChange, scope_edited, breadcrumbs_came, client_bound, layer_pushed, layer_popped, session_named, change_layers, add_under, effects}
+use Rattle.sentry_laws.proofs.Changes.{Change, Changes, nothing, one, both, held_options, IsAllowed, IsGiven, after_arrival, envelopes_on_arrival, makes_hub, makes_hub_from, changes_hub, leaves_hub, notes_event_id, releases_hub, adds_client, clones_client, drops_client, arrives, accepts, accepts_none, mails, loses, takes_report, absorbs, starts_none, starts_session, changes_session, ends_session, starts_transaction, starts_span, changes_spans}
 use Rattle.sentry_laws.specs.SentItems.{handed_in}
-use Rattle.sentry_laws.specs.Sessions.{StatusStays, EndsOnce}
 use Rattle.sentry_laws.proofs.Tables.{AreBelow, below_put, below_replaced, below_without, others_put}
-use Rattle.sentry_laws.proofs.Increasing.{IsIncreasing, increasing_put, increasing_replaced, increasing_without, gone_, without_if}
+use Rattle.sentry_laws.proofs.Increasing.{IsIncreasing, increasing_put, increasing_replaced, increasing_without, without_if}
 use Rattle.sentry_laws.proofs.Found.{same_number, found_put, found_replaced, found_without, all_by, all_without}
-use Rattle.sentry_laws.proofs.Trails.{found_under, Trail, TellsBy}
+use Rattle.sentry_laws.proofs.Trails.{Trail, TellsBy}
 use Rattle.sentry_laws.proofs.Calls.{told_step}
 
 -- ---- sessions that layers name
@@ -244,7 +241,7 @@ module _ (number low : ℕ) (Holds : Option SessionState → Type 0)
               w.given;
           holds = w.holds;
         }
-    watched_change (arrives world key client arrival is_off found open_) w =
+    watched_change (arrives world key client arrival is_off found open_ came) w =
         watched_sending client.label (send key client (envelopes_on_arrival arrival client)
         (with_client_state world key (after_arrival arrival client))).sent
         (with_client_state world key (after_arrival arrival client))
@@ -253,7 +250,16 @@ module _ (number low : ℕ) (Holds : Option SessionState → Type 0)
           given = w.given;
           holds = w.holds;
         })
-    watched_change (mails world key client envelope found occupied plain) w =
+    watched_change (accepts world key client arrival is_log is_off found open_ came) w =
+        watched_sending client.label (send key client (envelopes_on_arrival arrival client)
+        (with_client_state world key (after_arrival arrival client))).sent
+        (with_client_state world key (after_arrival arrival client))
+        (record {
+          counts = record { sessions = w.counts.sessions; hubs = w.counts.hubs; given = w.counts.given };
+          given = w.given;
+          holds = w.holds;
+        })
+    watched_change (mails world key client envelope found occupied plain told_) w =
         record {
           counts = record { sessions = w.counts.sessions; hubs = w.counts.hubs; given = w.counts.given };
           given =
@@ -281,7 +287,9 @@ module _ (number low : ℕ) (Holds : Option SessionState → Type 0)
               w.given;
           holds = w.holds;
         }
-    watched_change (starts_session world start) w = record {
+    watched_change (starts_none world number id) w = w
+    watched_change (accepts_none world is_log) w = w
+    watched_change (starts_session world number start) w = record {
       counts = record {
         sessions = increasing_put 0 world.next.session (record { start = start; history = [] }) world.sessions
             (omega arith) w.counts.sessions;
@@ -366,117 +374,52 @@ module _ (number low : ℕ) (Holds : Option SessionState → Type 0)
 -- ---- the laws
 
 module _ {P C : Type 0} (gives : P → Partial) (meanings : C → Meanings) where
-  counts_run : (tag start : ℕ) (calls : List (Call P C)) (answers : List (Result (Out (Reply P C)) Refusal))
+  pub first_counts : (tag start : ℕ) → Counts (starting_world {P = P} {C = C} tag start)
+  first_counts tag start = record { sessions = tt; hubs = tt; given = λ n hub at. absurd cc }
+
+  pub counts_run : (tag start : ℕ) (calls : List (Call P C)) (answers : List (Result (Out (Reply P C)) Refusal))
       (last : World P C) → Run gives meanings (starting_world tag start) calls answers last → Counts last
   counts_run tag start calls answers last run =
       (watched_run 0 0 (λ o. Unit {0}) (inr (λ o. tt)) tt (λ old new later same h. tt) gives meanings calls answers
       (starting_world tag start) last run
       (record {
-        counts = record { sessions = tt; hubs = tt; given = λ n hub at. absurd cc };
-        given =
-            omega arith;
+        counts = first_counts tag start;
+        given = omega arith;
         holds = tt;
       })).counts
 
-under-by : (b : Bool) (o : Option SessionState) → b ≡ true → (if b then o else None) ≡ None → o ≡ None
-under-by true o e h = h
-under-by false o e h = absurd cc
+pub under_by : (b : Bool) (o : Option SessionState) → b ≡ true → (if b then o else None) ≡ None → o ≡ None
+under_by true o e h = h
+under_by false o e h = absurd cc
 
-none_under : (b : Bool) (o : Option SessionState) → o ≡ None → (if b then o else None) ≡ None
+pub none_under : (b : Bool) (o : Option SessionState) → o ≡ None → (if b then o else None) ≡ None
 none_under true o h = h
 none_under false o h = refl
 
-equal_tags : (a b : ℕ) → a ≡ b → (a == b) ≡ true
+pub equal_tags : (a b : ℕ) → a ≡ b → (a == b) ≡ true
 equal_tags a b e = grind (arith, nat_tests)
 
-abbrev Grew : SessionState → SessionState → Type 0
-Grew origin session = (more : List SessionEntry) × (session ≡ record origin { history = more ++ origin.history })
-
-abbrev GrewIfAny : SessionState → Option SessionState → Type 0
-GrewIfAny origin None = Unit {0}
-GrewIfAny origin (Some session) = Grew origin session
-
-grew_more : (origin old new : SessionState) (later : List SessionEntry) → new ≡ record old {
-  history =
-      later ++ old.history;
-} → Grew origin old → Grew origin new
-grew_more origin old new later same g = (
-  later ++ g.0,
-  same ∙ (ap (λ (s : SessionState). record s { history = later ++ s.history }) g.1
-      ∙ ap (λ (l : List SessionEntry). record origin { history = l }) (sym (append_assoc later g.0 origin.history))),
-)
-
 module _ {P C : Type 0} (gives : P → Partial) (meanings : C → Meanings) where
-  pub status_stays : StatusStays gives meanings
-  status_stays tag start earlier calls before answers first last run run_on number session later below found ended found_later =
-      let w = watched_run number (number + 1) (GrewIfAny session) (inl (omega arith)) tt
-      (λ old new more same h. grew_more session old new more same h) gives meanings calls answers first last run_on
-      (record {
-        counts = counts_run gives meanings tag start earlier before first run;
-        given =
-            omega (arith, below);
-        holds = subst (GrewIfAny session) (sym found) ([], refl);
-      }) in
-      let g : Grew session later = subst (GrewIfAny session) found_later w.holds in
-      ap (λ (s : SessionState). (plain_session s).status) g.1
-      ∙ ended_status_stays_is session.start session.history g.0 ended
-
-  end_is : (key : HubKey) (status : SessionStatus) (now : ℕ) (world : World P C) (hub : Hub P) (session : SessionKey)
+  pub end_is : (key : HubKey) (status : SessionStatus) (now : ℕ) (world : World P C) (hub : Hub P) (session : SessionKey)
       → hub_at world key ≡ Some hub → hub.stack.top.session ≡ Some session
       → session_calls.end_session_with_status key status now world ≡ reply_sending tt
       (end_session session (Some status) now world)
   unfolding session_calls.end_session_with_status
   end_is key status now world hub session found is = rw found (rw is refl)
 
-  none_ended : (session : SessionKey) (status : SessionStatus) (now : ℕ) (world : World P C)
+  pub none_ended : (session : SessionKey) (status : SessionStatus) (now : ℕ) (world : World P C)
       → session_at world session ≡ None → end_session session (Some status) now world ≡ send_nothing world
   unfolding end_session
   none_ended session status now world none = rw none refl
 
-  end_after : (key : HubKey) (status : SessionStatus) (now : ℕ) (world : World P C)
+  pub end_after : (key : HubKey) (status : SessionStatus) (now : ℕ) (world : World P C)
       → (step gives meanings (group.Hub (EndSessionWithStatus key status now)) world).after ≡
       (session_calls.end_session_with_status key status now world).after
   unfolding hub_step
   end_after key status now world = refl
 
-  end_answer : (key : HubKey) (status : SessionStatus) (now : ℕ) (world : World P C)
+  pub end_answer : (key : HubKey) (status : SessionStatus) (now : ℕ) (world : World P C)
       → (step gives meanings (group.Hub (EndSessionWithStatus key status now)) world).answer ≡ map_answer
       (λ _. reply.Done) (session_calls.end_session_with_status key status now world).answer
   unfolding hub_step
   end_answer key status now world = refl
-
-  abbrev sent_in : Result (Out (Reply P C)) Refusal → List (ClientKey × Envelope)
-  sent_in (Ok out) = out.sent
-  sent_in (Err refusal) = []
-
-  pub ends_once : EndsOnce gives meanings
-  ends_once tag start earlier between answers more first ended middle last key again hub other session status second now later out next run found is ends run_on found_again is_again ends_again =
-      let c : Counts first = counts_run gives meanings tag start earlier answers first run in
-      let g : IsGiven first.tag first.next.session (Some session) =
-      subst (IsGiven first.tag first.next.session) is
-      (c.given key.number hub (found_under first.tag first.hubs key.tag key.number hub found)).0 in
-      let n = session.number in
-      let ended_is : ended ≡ (end_session session (Some status) now first).after =
-      ends.1 ∙ (end_after key status now first ∙ ap (λ (o : Outcome P C (Unit {0})). o.after)
-      (end_is key status now first hub session found is)) in
-      let gone_now : value_at ended.sessions n ≡ None =
-      ap (λ (w : World P C). value_at w.sessions n) ended_is
-      ∙ ended_gone session (Some status) now first (gone_ 0 n first.sessions c.sessions)
-      (λ h. under-by (session.tag == first.tag) (value_at first.sessions n) (equal_tags session.tag first.tag g.0) h) in
-      let w = watched_next n (n + 1) (λ o. Unit {0}) (inr (λ o. tt)) tt (λ old new later same h. tt) gives meanings
-      (group.Hub (EndSessionWithStatus key status now)) out first ended ends
-      (record { counts = c; given = omega (arith, g.1); holds = tt }) in
-      let v = watched_run n (n + 1) (λ (o : Option SessionState). o ≡ None) (inl (omega arith)) refl
-      (λ old new later same h. absurd cc) gives meanings between more ended middle run_on
-      (record { counts = w.counts; given = w.given; holds = gone_now }) in
-      let none : session_at middle session ≡ None = none_under (session.tag == middle.tag) (value_at middle.sessions n)
-      v.holds in
-      let outcome : session_calls.end_session_with_status again second later middle ≡ reply_sending tt
-      (send_nothing middle) =
-      end_is again second later middle other session found_again is_again ∙ ap (λ (s : Sending P C). reply_sending tt s)
-      (none_ended session second later middle none) in (
-        ap sent_in (sym ends_again.0
-            ∙ (end_answer again second later middle ∙ ap (λ (o : Outcome P C (Unit {0})). map_answer (λ _. reply.Done)
-            o.answer) outcome)),
-        ends_again.1 ∙ (end_after again second later middle ∙ ap (λ (o : Outcome P C (Unit {0})). o.after) outcome),
-      )

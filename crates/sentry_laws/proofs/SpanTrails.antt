@@ -49,8 +49,8 @@ use Rattle.sentry_state.specs.SpanChanges.{closed_transaction, finished_span, ne
 use Rattle.sentry_state.specs.Worlds.{World, ClientState, plain_client, span_table}
 use Rattle.sentry_trace.specs.declared.performance.context.TransactionContext.{TransactionContext}
 use Rattle.sentry_calls.specs.Hubs.{with_names}
-use Rattle.sentry_laws.specs.OwnCalls.{Effect}
-use Rattle.sentry_laws.specs.Changes.{Changes, nothing, one, both, is_batch_or_report, mails, loses, starts_transaction, starts_span, changes_spans, changes_transaction, changes_span, keeps_span, drops_transaction, drops_span}
+use Rattle.sentry_laws.proofs.Effects.{Effect}
+use Rattle.sentry_laws.proofs.Changes.{Changes, nothing, one, both, is_batch_or_report, AreOfHeld, mails, loses, starts_transaction, starts_span, changes_spans, changes_transaction, changes_span, keeps_span, drops_transaction, drops_span}
 use Rattle.sentry_laws.proofs.Tables.{own_replaced}
 use Rattle.sentry_laws.proofs.Trails.{found_under, Told, told_trail, told_nothing, told_some, told_let, told_let_client, told_require, told_if, told_mapped}
 
@@ -173,14 +173,14 @@ module _ {P C : Type 0} (meanings : C → Meanings) where
   -- an envelope of a client leaves its slot, if that is occupied
   mails_from : (b : Bool) (world middle : World P C) (key : ClientKey) (client : ClientState C) (envelope : Envelope)
       → middle.books ≡ world.books → client_at middle key ≡ Some client
-      → client.occupied ≡ b → list_any is_batch_or_report envelope.items ≡ false
+      → client.occupied ≡ b → list_any is_batch_or_report envelope.items ≡ false → AreOfHeld middle envelope.items
       → Changes meanings None middle [] (envelopes_from b key (report_in world.books client.label) (envelope ∷ []))
       (after_sending client.label (envelopes_from b key (report_in world.books client.label) (envelope ∷ [])) middle)
-  mails_from true world middle key client envelope same found occupied plain =
+  mails_from true world middle key client envelope same found occupied plain told_ =
       subst (λ books. Changes meanings None middle [] (envelopes_from true key (report_in books client.label)
       (envelope ∷ [])) (with_entry middle client.label report_point)) same
-      (one (mails middle key client envelope found occupied (inr (refl, plain))))
-  mails_from false world middle key client envelope same found occupied plain = nothing middle
+      (one (mails middle key client envelope found occupied (inr (refl, plain)) (λ none. told_)))
+  mails_from false world middle key client envelope same found occupied plain told_ = nothing middle
 
   -- ---- calls
 
@@ -261,7 +261,8 @@ module _ {P C : Type 0} (meanings : C → Meanings) where
       told_trail meanings None tt (both (closes key world)
       (mails_from client.occupied world (with_closed key world) unfinished.client client _
       (closed_books key.number (transaction_at world key) world)
-      (closed_client key.number (transaction_at world key) world unfinished.client ∙ client_found) refl refl)) refl refl)))))
+      (closed_client key.number (transaction_at world key) world unfinished.client ∙ client_found) refl refl (tt, tt)))
+      refl refl)))))
 
   told_discard : (name : TransactionOrSpanKey) (world : World P C) → Silent world (discard name world)
   unfolding discard

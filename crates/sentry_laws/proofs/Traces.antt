@@ -34,8 +34,8 @@ use Rattle.sentry_state.specs.Worlds.{World, map_values, span_table, starting_wo
 use Rattle.sentry_calls.specs.Runs.{Run}
 use Rattle.sentry_calls.specs.declared.call.Call.{Call}
 use Rattle.sentry_calls.specs.declared.call.Reply.{Reply}
-use Rattle.sentry_laws.specs.OwnCalls.{Effect}
-use Rattle.sentry_laws.specs.Changes.{Change, SpanChange, changes_transaction, changes_span, keeps_span, drops_transaction, drops_span, after_arrival, envelopes_on_arrival, makes_hub, makes_hub_from, changes_hub, leaves_hub, notes_event_id, releases_hub, adds_client, clones_client, drops_client, arrives, mails, loses, takes_report, absorbs, starts_session, changes_session, ends_session, starts_transaction, starts_span, changes_spans}
+use Rattle.sentry_laws.proofs.Effects.{Effect}
+use Rattle.sentry_laws.proofs.Changes.{Change, SpanChange, changes_transaction, changes_span, keeps_span, drops_transaction, drops_span, after_arrival, envelopes_on_arrival, makes_hub, makes_hub_from, changes_hub, leaves_hub, notes_event_id, releases_hub, adds_client, clones_client, drops_client, arrives, accepts, accepts_none, mails, loses, takes_report, absorbs, starts_none, starts_session, changes_session, ends_session, starts_transaction, starts_span, changes_spans}
 use Rattle.sentry_laws.specs.Traces.{KeptSpansAreInTrace, HeldSpansAreInTrace}
 use Rattle.sentry_laws.proofs.Found.{same_number, found_put, found_replaced, found_without, all_by, all_without}
 use Rattle.sentry_laws.proofs.Keeping.{kept_by_run}
@@ -345,7 +345,7 @@ module _ {P C : Type 0} (meanings : C → Meanings) where
   traced_by (clones_client world original client now found) n t = record { numbers = n; kept = t.kept; held = t.held }
   traced_by (drops_client world key client label found same none) n t =
       record { numbers = n; kept = t.kept; held = t.held }
-  traced_by (arrives world key client arrival is_off found open_) n t =
+  traced_by (arrives world key client arrival is_off found open_ came) n t =
       traced_sending client.label (send key client (envelopes_on_arrival arrival client)
       (with_client_state world key (after_arrival arrival client))).sent
       (with_client_state world key (after_arrival arrival client)) n
@@ -355,12 +355,24 @@ module _ {P C : Type 0} (meanings : C → Meanings) where
         held =
             t.held;
       })
-  traced_by (mails world key client envelope found occupied plain) n t =
+  traced_by (accepts world key client arrival is_log is_off found open_ came) n t =
+      traced_sending client.label (send key client (envelopes_on_arrival arrival client)
+      (with_client_state world key (after_arrival arrival client))).sent
+      (with_client_state world key (after_arrival arrival client)) n
+      (record {
+        numbers = client_numbered world key (after_arrival arrival client) t.numbers;
+        kept = t.kept;
+        held =
+            t.held;
+      })
+  traced_by (mails world key client envelope found occupied plain told_) n t =
       record { numbers = n; kept = t.kept; held = t.held }
   traced_by (loses world key client losses found) n t = record { numbers = n; kept = t.kept; held = t.held }
   traced_by (takes_report world label has) n t = record { numbers = n; kept = t.kept; held = t.held }
   traced_by (absorbs world label losses has) n t = record { numbers = n; kept = t.kept; held = t.held }
-  traced_by (starts_session world start) n t = record { numbers = n; kept = t.kept; held = t.held }
+  traced_by (starts_none world number id) n t = record { numbers = n; kept = t.kept; held = t.held }
+  traced_by (accepts_none world is_log) n t = record { numbers = n; kept = t.kept; held = t.held }
+  traced_by (starts_session world number start) n t = record { numbers = n; kept = t.kept; held = t.held }
   traced_by (changes_session world number old new later found same) n t =
       record { numbers = n; kept = t.kept; held = t.held }
   traced_by (ends_session world number) n t = record { numbers = n; kept = t.kept; held = t.held }

@@ -15,15 +15,19 @@ use Rattle.sentry_state.specs.Worlds.{World, ClientState, plain_client}
 use Rattle.sentry_state.specs.Outcomes.{Outcome, require_some, let_some, require, reply_with, value_under}
 use Rattle.sentry_sending.specs.Sending.{Sending, send_nothing, send_some, reply_sending}
 use Rattle.sentry_span_calls.specs.Replies.{map_reply, map_answer}
-use Rattle.sentry_laws.specs.OwnCalls.{Effect, hub_changed, session_named, session_started}
-use Rattle.sentry_laws.specs.Changes.{Change, Changes, nothing, one, both}
+use Rattle.sentry_laws.proofs.Effects.{Effect, hub_changed, session_named}
+use Rattle.sentry_laws.proofs.Changes.{Change, Changes, nothing, one, both}
 use Rattle.sentry_laws.specs.Reachable.{SessionsAreNamed}
 use Rattle.sentry_laws.proofs.Numbered.{IsNumbered}
-use Rattle.sentry_laws.proofs.Naming.{is_unnaming, names_kept}
+use Rattle.sentry_laws.proofs.Naming.{is_unnaming, is_naming, is_begun, unnamed, names_kept}
 
 under-at : {X : Type 0} (b : Bool) (o : Option X) (x : X) → cond b o None ≡ Some x → o ≡ Some x
 under-at true o x h = h
 under-at false o x h = absurd cc
+
+pub neither : {A : Type 0} (b : Bool) → b ≡ false → b ≡ true → A
+neither true e f = absurd cc
+neither false e f = absurd cc
 
 -- what is found under a key is found under its number
 pub found_under : {X : Type 0} (tag : ℕ) (entries : List (ℕ × X)) (key_tag number : ℕ) (x : X)
@@ -31,24 +35,26 @@ pub found_under : {X : Type 0} (tag : ℕ) (entries : List (ℕ × X)) (key_tag 
 found_under tag entries key_tag number x h = under-at (key_tag == tag) (value_at entries number) x h
 
 module _ {P C : Type 0} where
+  -- the effect is one that calls tell of
   abbrev pub is_own : Effect P C → Bool
   is_own (hub_changed number (session_named session)) = false
-  is_own (session_started number) = false
   is_own _ = true
 
-  -- the effects, sessions aside
+  -- the effects, names of sessions aside
   abbrev pub own_effects : List (Effect P C) → List (Effect P C)
   own_effects [] = []
   own_effects (effect ∷ rest) = cond (is_own effect) (effect ∷ own_effects rest) (own_effects rest)
 
 module _ {P C : Type 0} (meanings : C → Meanings) (given : Option Envelope) where
-  -- changes whose effects, sessions aside, are these, and after which each session that is held is named as before
+  -- changes whose effects, names of sessions aside, are these, and after which each session that is held is named as
+  -- before; a layer names another session only where one begins on its hub
   pub record Trail (world : World P C) (own : List (Effect P C)) (sent : List (ClientKey × Envelope))
       (after : World P C) : Type 0 where
     pub effects : List (Effect P C)
     pub changes : Changes meanings given world effects sent after
     pub same : own_effects effects ≡ own
     pub names : IsNumbered world → SessionsAreNamed world → SessionsAreNamed after
+    pub naming : (n : ℕ) → list_any (is_naming n) effects ≡ true → list_any (is_begun n) effects ≡ true
 
   abbrev pub TellsBy : {T : Type 0} → World P C → (T → List (Effect P C)) → Result (Out T) Refusal → World P C → Type 0
   TellsBy world own (Ok out) after = Trail world (own out.reply) out.sent after
@@ -82,16 +88,19 @@ module _ {P C : Type 0} (meanings : C → Meanings) (given : Option Envelope) wh
     pub told_named : (reply : T) {sent : List (ClientKey × Envelope)} {after : World P C} {effects : List (Effect P C)}
         → Changes meanings given world effects sent after → own_effects effects ≡ own reply
         → (IsNumbered world → SessionsAreNamed world → SessionsAreNamed after)
+        → ((n : ℕ) → list_any (is_naming n) effects ≡ true → list_any (is_begun n) effects ≡ true)
         → Told world own (reply_with reply sent after)
-    told_named reply {sent} {after} {effects} t same names =
-        record { tells = record { effects = effects; changes = t; same = same; names = names } }
+    told_named reply {sent} {after} {effects} t same names naming =
+        record { tells = record { effects = effects; changes = t; same = same; names = names; naming = naming } }
 
     -- by these changes no session starts, and no layer gives one up
     pub told_trail : (reply : T) {sent : List (ClientKey × Envelope)} {after : World P C} {effects : List (Effect P C)}
         → Changes meanings given world effects sent after → own_effects effects ≡ own reply
         → list_any is_unnaming effects ≡ false
         → Told world own (reply_with reply sent after)
-    told_trail reply t same calm = told_named reply t same (λ n h. names_kept meanings t calm n h)
+    told_trail reply {effects = effects} t same calm =
+        told_named reply t same (λ n h. names_kept meanings t calm n h)
+        (λ n h. neither (list_any (is_naming n) effects) (unnamed n effects calm) h)
 
     pub told_nothing : (reply : T) → own reply ≡ [] → Told world own (reply_with reply [] world)
     told_nothing reply same = told_trail reply (nothing world) (sym same) refl

@@ -1,8 +1,10 @@
+pub mod PartsOfRuns
 pub mod OwnCalls
-pub mod Changes
 pub mod SentItems
 pub mod PushPop
 pub mod Sessions
+pub mod Updates
+pub mod Accepted
 pub mod Wrong
 pub mod Losses
 pub mod Reachable

@@ -4,10 +4,7 @@ use Rattle.std.specs.Prelude.{◌≡◌, ℕ, Bool, true, false, Option, Some, N
 use Rattle.std.specs.Option.{option_map, option_and_then}
 use Rattle.sentry_plain.specs.Tables.{value_at}
 use Rattle.sentry_base.specs.declared.protocol.breadcrumb.Breadcrumb.{Breadcrumb}
-use Rattle.sentry_base.specs.declared.protocol.client_report.ClientReport.{ClientReport}
 use Rattle.sentry_base.specs.declared.protocol.keys.ClientKey.{ClientKey}
-use Rattle.sentry_base.specs.declared.protocol.keys.Label.{Label}
-use Rattle.sentry_base.specs.declared.protocol.keys.SessionKey.{SessionKey}
 use Rattle.sentry_base.specs.declared.protocol.refusal.Refusal.{Refusal}
 use Rattle.sentry_options.specs.Meanings.{Meanings, call_on_each}
 use Rattle.sentry_options.specs.declared.clientoptions.ClientOptions.{ClientOptions}
@@ -24,7 +21,7 @@ use Rattle.sentry_state.specs.declared.state.Out.{Out}
 use Rattle.sentry_calls.specs.declared.call.Call.{Call}
 use Rattle.sentry_calls.specs.declared.call.Call.TheVariants as group
 use Rattle.sentry_calls.specs.declared.call.clients.ClientCall.{ClientCall}
-use Rattle.sentry_calls.specs.declared.call.clients.ClientCall.TheVariants.{AddClient, Absorb, CloneClient, TakeReport}
+use Rattle.sentry_calls.specs.declared.call.clients.ClientCall.TheVariants.{AddClient, CloneClient}
 use Rattle.sentry_calls.specs.declared.call.hubs.HubCall.{HubCall}
 use Rattle.sentry_calls.specs.declared.call.hubs.HubCall.TheVariants.{NewHub, NewHubFromTop, ReleaseHub, Configure, AddBreadcrumbs, PushScope, PopScope, BindClient}
 use Rattle.sentry_calls.specs.declared.call.Reply.{Reply}
@@ -40,10 +37,7 @@ pub data LayerChange (P : Type 0) : Type 0 where
   -- the top layer has this client, or none
   client_bound : Option ClientKey → LayerChange P
   layer_pushed : LayerChange P
-  -- the top layer was popped, with so many layers below it
-  layer_popped : ℕ → LayerChange P
-  -- the top layer names this session, or none
-  session_named : Option SessionKey → LayerChange P
+  layer_popped : LayerChange P
 
 module _ {P C : Type 0} (meanings : C → Meanings) where
   -- breadcrumbs under a client with these options, or under none
@@ -67,8 +61,7 @@ module _ {P C : Type 0} (meanings : C → Meanings) where
       else add_under (option_and_then options stack.top.client) breadcrumbs stack
   change_layers options (client_bound client) stack = record stack { top = record stack.top { client = client } }
   change_layers options layer_pushed stack = push stack
-  change_layers options (layer_popped depth) stack = pop stack
-  change_layers options (session_named session) stack = record stack { top = record stack.top { session = session } }
+  change_layers options layer_popped stack = pop stack
 
 -- ---- what a call changes
 
@@ -81,21 +74,11 @@ pub data Effect (P C : Type 0) : Type 0 where
   hub_made_from : ℕ → ℕ → Effect P C
   hub_changed : ℕ → LayerChange P → Effect P C
   hub_released : ℕ → Effect P C
-  -- drained losses went into the book of a label
-  losses_absorbed : Label → List ℕ → Effect P C
-  -- the report of a label was taken, if there was one
-  report_taken : Label → Option ClientReport → Effect P C
-  -- a session started under this number
-  session_started : ℕ → Effect P C
 
 module _ {P C : Type 0} where
   abbrev pub on_client : Reply P C → (ClientKey → Effect P C) → List (Effect P C)
   on_client (reply.Client key) go = go key ∷ []
   on_client _ go = []
-
-  abbrev pub on_report : Reply P C → (Option ClientReport → Effect P C) → List (Effect P C)
-  on_report (reply.Report report) go = go report ∷ []
-  on_report _ go = []
 
   abbrev pub on_hub : Reply P C → (ℕ → Effect P C) → List (Effect P C)
   on_hub (reply.Hub key) go = go key.number ∷ []
@@ -122,8 +105,6 @@ module _ {P C : Type 0} (meanings : C → Meanings) where
   client_effects (AddClient options transport label now) made =
       on_client made (λ key. client_added key (set_up meanings options))
   client_effects (CloneClient client now) made = on_client made (λ key. client_cloned key client)
-  client_effects (Absorb label lost) made = losses_absorbed label lost.quantities ∷ []
-  client_effects (TakeReport label) made = on_report made (λ report. report_taken label report)
   client_effects call made = []
 
   -- what an accepted call on a hub with this reply changes
@@ -134,12 +115,12 @@ module _ {P C : Type 0} (meanings : C → Meanings) where
   hub_effects (Configure hub edits now) made = hub_changed hub.number (scope_edited edits) ∷ []
   hub_effects (AddBreadcrumbs hub breadcrumbs) made = hub_changed hub.number (breadcrumbs_came breadcrumbs) ∷ []
   hub_effects (PushScope hub) made = hub_changed hub.number layer_pushed ∷ []
-  hub_effects (PopScope hub depth now) made = hub_changed hub.number (layer_popped depth) ∷ []
+  hub_effects (PopScope hub depth now) made = hub_changed hub.number layer_popped ∷ []
   hub_effects (BindClient hub client) made = hub_changed hub.number (client_bound client) ∷ []
   hub_effects call made = []
 
-  -- what an accepted call with this reply changes in the clients' options, the hubs' layers and the books of losses;
-  -- sessions that start, and names of sessions, don't count
+  -- what an accepted call with this reply changes in the clients' options and the hubs' layers; names of sessions don't
+  -- count
   abbrev pub effects : Call P C → Reply P C → List (Effect P C)
   effects (group.Client call) made = client_effects call made
   effects (group.Hub call) made = hub_effects call made

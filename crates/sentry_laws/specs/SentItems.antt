@@ -13,6 +13,9 @@ use Rattle.sentry_base.specs.declared.protocol.refusal.Refusal.{Refusal}
 use Rattle.sentry_batches.specs.Batches.{BatchEntry, queued_items, accepted_items, items_of, IsBatch}
 use Rattle.sentry_state.specs.declared.state.Out.{Out}
 use Rattle.sentry_state.specs.Worlds.{World, ClientState, QueueHistories}
+use Rattle.sentry_base.specs.Callbacks.{Partial}
+use Rattle.sentry_options.specs.Meanings.{Meanings}
+use Rattle.sentry_calls.specs.Runs.{Run}
 use Rattle.sentry_calls.specs.declared.call.Call.{Call}
 use Rattle.sentry_calls.specs.declared.call.Call.TheVariants.{Client}
 use Rattle.sentry_calls.specs.declared.call.clients.ClientCall.TheVariants.{SendEnvelope}
@@ -68,6 +71,57 @@ module _ {T : Type 0} (batch_in : EnvelopeItem → Option (List T)) where
         ++ queued_items client.options.plain.max_batch_items (history client.queues)
         ≡ accepted_items (history client.queues))
         × AllByRecursion (IsBatch client.options.plain.max_batch_items) (batches_sent number calls answers)
+
+module _ {T : Type 0} where
+  -- these batches, followed by what waits, have the items that were accepted, in order; each has one item or more, and
+  -- at most as many as the limit says
+  abbrev pub AreSent : List (List T) → ℕ → List T → List T → Type 0
+  AreSent sent limit waiting accepted =
+      (items_of sent ++ waiting ≡ accepted) × AllByRecursion (IsBatch limit) sent
+
+module _ {T : Type 0} (history : QueueHistories → List (BatchEntry T)) where
+  -- a client sent these batches by the end of a call, of all that it accepted: before the call, where it is no longer
+  -- held, and then nothing waits
+  abbrev pub IsSentBy : {C : Type 0} → List (List T) → ClientState C → Option (ClientState C) → Type 0
+  IsSentBy sent client None =
+      AreSent sent client.options.plain.max_batch_items [] (accepted_items (history client.queues))
+  IsSentBy sent client (Some after) =
+      AreSent sent after.options.plain.max_batch_items
+      (queued_items after.options.plain.max_batch_items (history after.queues)) (accepted_items (history after.queues))
+
+module _ {T : Type 0} (batch_in : EnvelopeItem → Option (List T)) (history : QueueHistories → List (BatchEntry T))
+  where
+    module _ {P C : Type 0} (gives : P → Partial) (meanings : C → Meanings) where
+      -- of the client with this number, which sent these batches before: it is so at the end of each call before which its
+      -- slot is occupied, also of the call that empties the slot
+      abbrev pub SendsAtEachCall : ℕ → List (List T) → (world : World P C) (calls : List (Call P C))
+          (answers : List (Result (Out (Reply P C)) Refusal)) (last : World P C)
+          → Run gives meanings world calls answers last → Type 0
+      SendsAtEachCall number sent world (call ∷ calls) (Ok out ∷ answers) last run =
+          ((client : ClientState C) → value_at world.clients number ≡ Some client → client.occupied ≡ true
+          → IsSentBy history (sent ++ batches_by batch_in (handed_in call) number out.sent) client
+          (value_at run.0.clients number))
+          × SendsAtEachCall number (sent ++ batches_by batch_in (handed_in call) number out.sent) run.0 calls answers last
+          run.2
+      SendsAtEachCall number sent world (call ∷ calls) (Err refusal ∷ answers) last run =
+          SendsAtEachCall number sent run.0 calls answers last run.2
+      SendsAtEachCall number sent world [] answers last run = Unit {0}
+      SendsAtEachCall number sent world (call ∷ calls) [] last run = Unit {0}
+
+module _ {P C : Type 0} (gives : P → Partial) (meanings : C → Meanings) where
+  abbrev pub SendsLogsAtEachCall : (world : World P C) (calls : List (Call P C))
+      (answers : List (Result (Out (Reply P C)) Refusal)) (last : World P C)
+      → Run gives meanings world calls answers last → Type 0
+  SendsLogsAtEachCall world calls answers last run =
+      (number : ℕ)
+      → SendsAtEachCall log_batch (λ queues. queues.logs) gives meanings number [] world calls answers last run
+
+  abbrev pub SendsMetricsAtEachCall : (world : World P C) (calls : List (Call P C))
+      (answers : List (Result (Out (Reply P C)) Refusal)) (last : World P C)
+      → Run gives meanings world calls answers last → Type 0
+  SendsMetricsAtEachCall world calls answers last run =
+      (number : ℕ)
+      → SendsAtEachCall metric_batch (λ queues. queues.metrics) gives meanings number [] world calls answers last run
 
 module _ {P C : Type 0} where
   abbrev pub SendsAcceptedLogs : List (Call P C) → List (Result (Out (Reply P C)) Refusal) → World P C → Type 0

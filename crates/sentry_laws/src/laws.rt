@@ -14,12 +14,16 @@ ghost use Rattle.sentry_laws.specs.Losses.{BooksBalance, AbsorbedStays};
 ghost use Rattle.sentry_laws.specs.Reports.{ReportsAddUp};
 ghost use Rattle.sentry_laws.specs.Reachable.{NumbersAreFree, BooksAreOfClients, ClientsAreHeld, ActiveSpansAreHeld};
 ghost use Rattle.sentry_laws.specs.Reachable.{SessionsAreNamed};
+ghost use Rattle.sentry_laws.specs.PartsOfRuns.{RunsSplit};
 ghost use Rattle.sentry_laws.specs.PushPop.{PopUndoesPush};
-ghost use Rattle.sentry_laws.specs.Wrong.{DerivedHubLeavesMaker, SilentFlushIsRefused, SecondReportIsRefused};
-ghost use Rattle.sentry_laws.specs.Wrong.{LaterCrashIsRefused, ForeignSpanIsRefused, OutlivingSessionIsRefused};
-ghost use Rattle.sentry_laws.specs.Sessions.{StatusStays, EndsOnce};
+ghost use Rattle.sentry_laws.specs.Wrong.{DerivedHubLeavesMaker, SilentFlushIsRefused};
+ghost use Rattle.sentry_laws.specs.Wrong.{LaterCrashIsRefused, OutlivingSessionIsRefused};
+ghost use Rattle.sentry_laws.specs.Sessions.{EndsOnce};
 ghost use Rattle.sentry_laws.specs.Traces.{KeptSpansAreInTrace, HeldSpansAreInTrace};
 ghost use Rattle.sentry_laws.specs.SentItems.{SendsAcceptedLogs, SendsAcceptedMetrics};
+ghost use Rattle.sentry_laws.specs.SentItems.{SendsLogsAtEachCall, SendsMetricsAtEachCall};
+ghost use Rattle.sentry_laws.specs.Accepted.{AcceptsLogsByCalls, AcceptsMetricsByCalls};
+ghost use Rattle.sentry_laws.specs.Updates.{StatusStays};
 
 /// After any run, each hub has the layers that its own accepted calls give it, and each client that is held has the
 /// options with which it was added.
@@ -33,7 +37,9 @@ pub fn hubs_are_isolated<P, C>()
 {}
 
 /// After any run, each client whose slot is occupied sent the logs that it accepted, in order and in batches of one up
-/// to its `max_batch_items`, but for those in its queue. The same holds of metrics.
+/// to its `max_batch_items`, but for those in its queue. So it is after each call before which the slot was occupied,
+/// also where the call closes or drops the client, and then nothing waits. A client accepts a log exactly where a call
+/// captures one for it that passes its callback, while it isn't closed. The same holds of metrics.
 pub fn accepted_items_are_sent<P, C>()
     ensures logs { (gives : P → Partial) (meanings : C → Meanings) (tag start : ℕ) (calls : List (Call P C))
         (answers : List (Result (Out (Reply P C)) Refusal)) (last : World P C)
@@ -41,30 +47,49 @@ pub fn accepted_items_are_sent<P, C>()
     ensures metrics { (gives : P → Partial) (meanings : C → Meanings) (tag start : ℕ) (calls : List (Call P C))
         (answers : List (Result (Out (Reply P C)) Refusal)) (last : World P C)
         → Run gives meanings (starting_world tag start) calls answers last → SendsAcceptedMetrics calls answers last }
+    ensures each_log { (gives : P → Partial) (meanings : C → Meanings) (tag start : ℕ) (calls : List (Call P C))
+        (answers : List (Result (Out (Reply P C)) Refusal)) (last : World P C)
+        (run : Run gives meanings (starting_world tag start) calls answers last)
+        → SendsLogsAtEachCall gives meanings (starting_world tag start) calls answers last run }
+    ensures each_metric { (gives : P → Partial) (meanings : C → Meanings) (tag start : ℕ) (calls : List (Call P C))
+        (answers : List (Result (Out (Reply P C)) Refusal)) (last : World P C)
+        (run : Run gives meanings (starting_world tag start) calls answers last)
+        → SendsMetricsAtEachCall gives meanings (starting_world tag start) calls answers last run }
+    ensures accepted_logs { (gives : P → Partial) (meanings : C → Meanings) (tag start : ℕ) (calls : List (Call P C))
+        (answers : List (Result (Out (Reply P C)) Refusal)) (last : World P C)
+        (run : Run gives meanings (starting_world tag start) calls answers last)
+        → AcceptsLogsByCalls gives meanings (starting_world tag start) calls answers last run }
+    ensures accepted_metrics { (gives : P → Partial) (meanings : C → Meanings) (tag start : ℕ) (calls : List (Call P C))
+        (answers : List (Result (Out (Reply P C)) Refusal)) (last : World P C)
+        (run : Run gives meanings (starting_world tag start) calls answers last)
+        → AcceptsMetricsByCalls gives meanings (starting_world tag start) calls answers last run }
 {}
 
-/// After a push, calls that leave the new layer open, and its pop a hub has the layers that it had before.
+/// After a push, whatever comes then, and the pop of the new layer a hub has the layers that it had before.
 pub fn pop_undoes_push<P, C>()
     ensures { (gives : P → Partial) (meanings : C → Meanings) → PopUndoesPush gives meanings }
 {}
 
-/// A session's status other than `Ok` stays, as long as the session is kept; and once a call ended a session, a second
-/// one from a layer that still names it sends nothing and changes nothing.
+/// Of the updates of one session that a run hands out or queues, none that follows one with another status than `Ok` has
+/// another status. Once the session of a layer was ended, whether or not the layer named one, each further end on that
+/// layer sends nothing and changes nothing, until a session starts on it.
 pub fn ended_sessions_stay_ended<P, C>()
     ensures status { (gives : P → Partial) (meanings : C → Meanings) → StatusStays gives meanings }
     ensures once { (gives : P → Partial) (meanings : C → Meanings) → EndsOnce gives meanings }
 {}
 
-/// What the laws refuse: a hub that writes into the hub that it was made from, a flush that hands out nothing, a second
-/// report of the same losses, a session that was ended and crashes later, a span of another trace, and a session that
-/// is still held where no hub is left.
+/// What the laws refuse: a hub that writes into the hub that it was made from, a flush that hands out nothing, a session
+/// that crashes after it exited, and a session that is still held where no hub is left.
 pub fn wrong_runs_are_refused<P, C>()
     ensures isolation { (meanings : C → Meanings) → DerivedHubLeavesMaker P C meanings }
     ensures logs { SilentFlushIsRefused P C }
-    ensures reports { SecondReportIsRefused }
-    ensures status { (gives : P → Partial) (meanings : C → Meanings) → LaterCrashIsRefused gives meanings }
-    ensures trace { ForeignSpanIsRefused P C }
+    ensures status { LaterCrashIsRefused }
     ensures sessions { OutlivingSessionIsRefused P C }
+{}
+
+/// A run of some calls and then of others is a run of the first and then one of the others.
+pub fn runs_split<P, C>()
+    ensures { (gives : P → Partial) (meanings : C → Meanings) → RunsSplit gives meanings }
 {}
 
 /// Whatever came to a book of losses: at each index, what its reports told and what is pending is what was recorded and

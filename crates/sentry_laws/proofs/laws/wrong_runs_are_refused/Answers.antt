@@ -1,12 +1,10 @@
-use Rattle.sentry_laws.proofs.Wrong.{derived_leaves, silent_refused, second_refused, later_crash_refused, foreign_refused, outliving_refused}
+use Rattle.sentry_laws.proofs.Wrong.{derived_leaves, silent_refused, later_crash_refused, outliving_refused}
 use Rattle.sentry_laws.proofs.laws.wrong_runs_are_refused.Goals as goal
 
 pub returns : goal.returns
 returns c s = record {
   isolation = λ meanings. derived_leaves c.row.P.Denot c.row.C.Denot meanings;
   logs = silent_refused c.row.P.Denot c.row.C.Denot;
-  reports = second_refused;
   status = later_crash_refused;
-  trace = foreign_refused c.row.P.Denot c.row.C.Denot;
   sessions = outliving_refused c.row.P.Denot c.row.C.Denot;
 }

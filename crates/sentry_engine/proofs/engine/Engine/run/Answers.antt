@@ -2,16 +2,19 @@ use Rattle.std.proofs.Common.{◌≡◌, [], ◌∷◌, rules, subst, List, leng
 use Rattle.std.specs.Vec.Iter.{into_iter_items}
 use Rattle.sentry_calls.specs.declared.call.Call.{Call}
 use Rattle.sentry_state.specs.Worlds.{first_world}
+use Rattle.sentry_laws.proofs.Accepted.{accepts_logs, accepts_metrics}
 use Rattle.sentry_laws.proofs.ActiveSpans.{active_spans_held}
-use Rattle.sentry_laws.proofs.Isolation.{isolated, keeps_options, named_clients_held}
+use Rattle.sentry_laws.proofs.Isolation.{named_clients_held}
 use Rattle.sentry_laws.proofs.LabelBooks.{books_of_clients}
 use Rattle.sentry_laws.proofs.NamedSessions.{sessions_named}
 use Rattle.sentry_laws.proofs.Numbers.{numbers_are_free}
-use Rattle.sentry_laws.proofs.PushPop.{pop_undoes_push}
+use Rattle.sentry_laws.proofs.PushPop.{all_pushes_undone}
 use Rattle.sentry_laws.proofs.Reports.{reports_add_up}
-use Rattle.sentry_laws.proofs.SentKinds.{sends_logs, sends_metrics}
-use Rattle.sentry_laws.proofs.Sessions.{status_stays, ends_once}
+use Rattle.sentry_laws.proofs.SentKinds.{sends_logs, sends_metrics, sends_logs_at_each_call, sends_metrics_at_each_call}
+use Rattle.sentry_laws.proofs.SecondEnds.{all_ends_silent}
+use Rattle.sentry_laws.proofs.Shown.{isolated, keeps_options}
 use Rattle.sentry_laws.proofs.Traces.{kept_in_trace, held_in_trace}
+use Rattle.sentry_laws.proofs.Updates.{statuses_stay}
 use Rattle.sentry_engine.proofs.RunLemmas.{Reaches, reaches_more, reaches_end}
 use Rattle.sentry_engine.proofs.engine.Engine.run.Goals as goal
 
@@ -44,10 +47,18 @@ pub returns-clause-options : goal.returns-clause-options
 returns-clause-options g c = keeps_options g.P.EventCallback.gives g.C.Callbacks.meanings c.args.tag 0 c.args.calls.items c.loop-call.answers.items
 
 pub returns-clause-logs : goal.returns-clause-logs
-returns-clause-logs g c = sends_logs g.P.EventCallback.gives g.C.Callbacks.meanings c.args.tag 0 c.args.calls.items c.loop-call.answers.items
+returns-clause-logs g c = λ last run. (
+  sends_logs g.P.EventCallback.gives g.C.Callbacks.meanings c.args.tag 0 c.args.calls.items c.loop-call.answers.items last run,
+  sends_logs_at_each_call g.P.EventCallback.gives g.C.Callbacks.meanings c.args.tag 0 c.args.calls.items c.loop-call.answers.items last run,
+  accepts_logs g.P.EventCallback.gives g.C.Callbacks.meanings c.args.tag 0 c.args.calls.items c.loop-call.answers.items last run,
+)
 
 pub returns-clause-metrics : goal.returns-clause-metrics
-returns-clause-metrics g c = sends_metrics g.P.EventCallback.gives g.C.Callbacks.meanings c.args.tag 0 c.args.calls.items c.loop-call.answers.items
+returns-clause-metrics g c = λ last run. (
+  sends_metrics g.P.EventCallback.gives g.C.Callbacks.meanings c.args.tag 0 c.args.calls.items c.loop-call.answers.items last run,
+  sends_metrics_at_each_call g.P.EventCallback.gives g.C.Callbacks.meanings c.args.tag 0 c.args.calls.items c.loop-call.answers.items last run,
+  accepts_metrics g.P.EventCallback.gives g.C.Callbacks.meanings c.args.tag 0 c.args.calls.items c.loop-call.answers.items last run,
+)
 
 pub returns-clause-traces : goal.returns-clause-traces
 returns-clause-traces g c = λ last run. (
@@ -68,19 +79,10 @@ returns-clause-worlds g c = λ last run. (
 )
 
 pub returns-clause-layers : goal.returns-clause-layers
-returns-clause-layers g c = pop_undoes_push g.P.EventCallback.gives g.C.Callbacks.meanings
+returns-clause-layers g c = all_pushes_undone g.P.EventCallback.gives g.C.Callbacks.meanings c.args.tag 0 c.args.calls.items c.loop-call.answers.items
 
 pub returns-clause-status : goal.returns-clause-status
-returns-clause-status g c = status_stays g.P.EventCallback.gives g.C.Callbacks.meanings
+returns-clause-status g c = statuses_stay g.P.EventCallback.gives g.C.Callbacks.meanings c.args.tag 0 c.args.calls.items c.loop-call.answers.items
 
 pub returns-clause-once : goal.returns-clause-once
-returns-clause-once g c = ends_once g.P.EventCallback.gives g.C.Callbacks.meanings
-
-pub returns-in_err-answers-clause-layers : goal.returns-in_err-answers-clause-layers
-returns-in_err-answers-clause-layers g c = pop_undoes_push g.P.EventCallback.gives g.C.Callbacks.meanings
-
-pub returns-in_err-answers-clause-status : goal.returns-in_err-answers-clause-status
-returns-in_err-answers-clause-status g c = status_stays g.P.EventCallback.gives g.C.Callbacks.meanings
-
-pub returns-in_err-answers-clause-once : goal.returns-in_err-answers-clause-once
-returns-in_err-answers-clause-once g c = ends_once g.P.EventCallback.gives g.C.Callbacks.meanings
+returns-clause-once g c = all_ends_silent g.P.EventCallback.gives g.C.Callbacks.meanings c.args.tag 0 c.args.calls.items c.loop-call.answers.items

@@ -1,5 +1,5 @@
 -- The changes that every call is a sequence of.
-use Rattle.std.specs.Prelude.{◌≡◌, ℕ, ◌+◌, Bool, true, false, Option, Some, None, List, [], ◌∷◌, ◌++◌, ◌⊎◌, ◌==◌, ◌<◌}
+use Rattle.std.specs.Prelude.{◌≡◌, ◌≢◌, ℕ, ◌+◌, Bool, true, false, Option, Some, None, List, [], ◌∷◌, ◌++◌, ◌⊎◌, ◌==◌, ◌<◌}
 use Rattle.std.specs.List.{list_any}
 use Rattle.std.specs.Option.{option_map}
 use Rattle.sentry_plain.specs.Tables.{value_at, put, replace_at, without}
@@ -12,6 +12,8 @@ use Rattle.sentry_base.specs.declared.protocol.keys.Label.{Label}
 use Rattle.sentry_base.specs.declared.protocol.keys.SessionKey.{SessionKey}
 use Rattle.sentry_base.specs.declared.protocol.log.Log.{Log}
 use Rattle.sentry_base.specs.declared.protocol.metric.Metric.{Metric}
+use Rattle.sentry_base.specs.declared.protocol.session.SessionStatus.{SessionStatus}
+use Rattle.sentry_base.specs.declared.protocol.session.SessionStatus.TheVariants as session_status
 use Rattle.sentry_base.specs.declared.protocol.session.SessionUpdate.{SessionUpdate}
 use Rattle.sentry_options.specs.Meanings.{Meanings}
 use Rattle.sentry_options.specs.declared.clientoptions.ClientOptions.{ClientOptions}
@@ -22,7 +24,7 @@ use Rattle.sentry_scope.specs.declared.scope.Scope.{Scope}
 use Rattle.sentry_scope.specs.declared.scope.stack.Stack.{Stack}
 use Rattle.sentry_scope.specs.Stacks.{one_layer, top_alone, depth}
 use Rattle.sentry_sessions.specs.SessionQueues.{enqueued, envelopes_on}
-use Rattle.sentry_sessions.specs.Sessions.{SessionEntry}
+use Rattle.sentry_sessions.specs.Sessions.{SessionEntry, end_of, end_status}
 use Rattle.sentry_sessions.specs.declared.session.record.SessionStart.{SessionStart}
 use Rattle.sentry_hub_table.specs.declared.hub.Hub.{Hub}
 use Rattle.sentry_state.specs.Worlds.{World, ClientState, SessionState, span_table}
@@ -43,7 +45,7 @@ use Rattle.sentry_state.specs.Books.{with_book, with_entry, pending_report, has_
 use Rattle.sentry_sending.specs.Sending.{send}
 use Rattle.sentry_queues.specs.declared.flushes.Flush.{Flush}
 use Rattle.sentry_queues.specs.Flushes.{after_flush, flushed_envelopes, batch_envelopes}
-use Rattle.sentry_laws.specs.OwnCalls.{Effect, LayerChange, client_added, client_cloned, hub_made, hub_made_from, hub_changed, hub_released, losses_absorbed, report_taken, session_started, scope_edited, client_bound, layer_popped, session_named, change_layers}
+use Rattle.sentry_laws.proofs.Effects.{Effect, LayerChange, client_added, client_cloned, hub_made, hub_made_from, hub_changed, hub_released, losses_absorbed, report_taken, session_begun, client_dropped, item_came, scope_edited, client_bound, layer_popped, session_named, change_layers}
 
 -- ---- what comes to the queues of a client
 
@@ -69,6 +71,38 @@ module _ {C : Type 0} where
       envelopes_on client.options.plain.session_mode update client.queues.sessions
   envelopes_on_arrival (flush_came flush) client =
       flushed_envelopes flush client.options.plain client.queues
+
+-- the status of a session
+abbrev pub status_of : SessionState → SessionStatus
+status_of session = end_status (end_of session.history)
+
+module _ {P C : Type 0} where
+  -- a session that is held has the id and the status of the update
+  abbrev pub IsOfHeld : World P C → SessionUpdate → Type 0
+  IsOfHeld world update =
+      (number : ℕ) × (session : SessionState) × (value_at world.sessions number ≡ Some session)
+      × (session.start.session_id ≡ update.session_id) × (status_of session ≡ update.status)
+
+  abbrev pub ItemIsOfHeld : World P C → EnvelopeItem → Type 0
+  ItemIsOfHeld world (item.SessionUpdate update) = IsOfHeld world update
+  ItemIsOfHeld world _ = Unit {0}
+
+  -- each update of a session among these items is so
+  abbrev pub AreOfHeld : World P C → List EnvelopeItem → Type 0
+  AreOfHeld world [] = Unit {0}
+  AreOfHeld world (first ∷ rest) = ItemIsOfHeld world first × AreOfHeld world rest
+
+  -- an update that comes is one of a session that is held, and has another status than `Ok`
+  abbrev pub IsArrival : World P C → Arrival → Type 0
+  IsArrival world (session_ended update) = IsOfHeld world update × (update.status ≢ session_status.Ok)
+  IsArrival world (flush_came flush) = Unit {0}
+  IsArrival world _ = ⊥
+
+-- a log (`true`) or a metric (`false`) comes
+abbrev pub IsItem : Bool → Arrival → Type 0
+IsItem true (log_came log) = Unit {0}
+IsItem false (metric_came metric) = Unit {0}
+IsItem _ _ = ⊥
 
 -- no session is named, or one with the tag and a number that was given out
 abbrev pub IsGiven : ℕ → ℕ → Option SessionKey → Type 0
@@ -163,20 +197,30 @@ pub data Change {P C : Type 0} (meanings : C → Meanings) (given : Option Envel
       })
   drops_client : (world : World P C) (key : ClientKey) (client : ClientState C) (label : Label)
       → client_at world key ≡ Some client → label ≡ client.label → is_client_named key world.hubs ≡ false
-      → Change meanings given world [] []
+      → Change meanings given world (client_dropped key.number ∷ []) []
       (without_unused_book label (record world { clients = without world.clients key.number }))
   -- something comes to the queues of a client that isn't closed, which may send what waits
   arrives : (world : World P C) (key : ClientKey) (client : ClientState C) (arrival : Arrival) → given ≡ None
-      → client_at world key ≡ Some client → client.closed ≡ false
+      → client_at world key ≡ Some client → client.closed ≡ false → IsArrival world arrival
       → Change meanings given world []
       (send key client (envelopes_on_arrival arrival client)
       (with_client_state world key (after_arrival arrival client))).sent
       (send key client (envelopes_on_arrival arrival client)
       (with_client_state world key (after_arrival arrival client))).after
+  -- a log or a metric comes to the queues of a client that isn't closed, which may send what waits; or none does
+  accepts : (world : World P C) (key : ClientKey) (client : ClientState C) (arrival : Arrival) (is_log : Bool)
+      → given ≡ None → client_at world key ≡ Some client → client.closed ≡ false → IsItem is_log arrival
+      → Change meanings given world (item_came is_log ∷ [])
+      (send key client (envelopes_on_arrival arrival client)
+      (with_client_state world key (after_arrival arrival client))).sent
+      (send key client (envelopes_on_arrival arrival client)
+      (with_client_state world key (after_arrival arrival client))).after
+  accepts_none : (world : World P C) (is_log : Bool) → Change meanings given world (item_came is_log ∷ []) [] world
   -- an envelope leaves an occupied slot: the caller's own, or one without a batch
   mails : (world : World P C) (key : ClientKey) (client : ClientState C) (envelope : Envelope)
       → client_at world key ≡ Some client → client.occupied ≡ true
       → (given ≡ Some envelope) ⊎ ((given ≡ None) × (list_any is_batch_or_report envelope.items ≡ false))
+      → (given ≡ None → AreOfHeld world envelope.items)
       → Change meanings given world [] ((key, with_report (pending_report world client.label) envelope) ∷ [])
       (with_entry world client.label report_point)
   loses : (world : World P C) (key : ClientKey) (client : ClientState C) (losses : List ℕ)
@@ -188,9 +232,12 @@ pub data Change {P C : Type 0} (meanings : C → Meanings) (given : Option Envel
   absorbs : (world : World P C) (label : Label) (losses : List ℕ) → has_book world label ≡ true
       → Change meanings given world (losses_absorbed label losses ∷ []) []
       (with_entry world label (drained_losses losses))
-  -- a session under the next number, which no layer names yet
-  starts_session : (world : World P C) (start : SessionStart)
-      → Change meanings given world (session_started world.next.session ∷ []) []
+  -- no session starts on the top layer of this hub
+  starts_none : (world : World P C) (number : ℕ) (id : List ℕ)
+      → Change meanings given world (session_begun number id ∷ []) [] world
+  -- a session under the next number starts on the top layer of this hub, which doesn't name it yet
+  starts_session : (world : World P C) (number : ℕ) (start : SessionStart)
+      → Change meanings given world (session_begun number start.session_id ∷ []) []
       (record (with_new_session start world) { next = record world.next { session = world.next.session + 1 } })
   changes_session : (world : World P C) (number : ℕ) (old new : SessionState) (later : List SessionEntry)
       → value_at world.sessions number ≡ Some old
