@@ -1,0 +1,137 @@
+//! Items that come in batches and are taken one by one.
+ghost use Rattle.std.specs.Prelude.{◌≡◌, ◌<◌, ◌++◌, ◌∷◌, [], None, drop, OnOk, IfNone, IfSome, vec_len, vec_capacity};
+ghost use Rattle.c_base.specs.Queues.{waiting, IsTurned};
+
+use sentry_plain::Items;
+use std::alloc::{AllocError, Global};
+use std::mem;
+
+/// The items of one batch that are still to be taken: the first, and those after it, of which the next is the last.
+pub struct Batch<T> {
+    first: T,
+    rest: Vec<T>,
+}
+
+impl<T: Drop> Drop for Batch<T> {
+    fn drop(self) {
+        let Batch { first: _, rest: _ } = self;
+    }
+}
+
+/// Items in the order in which they came. A batch is kept without taking memory once there is room for one.
+pub struct Queue<T> {
+    // The batch of which items are taken.
+    begun: Option<Batch<T>>,
+    // The batches after it. The next is the last of these.
+    next: Vec<Batch<T>>,
+    // The batches after these, in order.
+    later: Vec<Batch<T>>,
+}
+
+impl<T: Drop> Drop for Queue<T> {
+    fn drop(self) {
+        let Queue {
+            begun: _,
+            next: _,
+            later: _,
+        } = self;
+    }
+}
+
+impl<T: Drop> Queue<T> {
+    /// An empty queue. It takes no memory.
+    pub fn new(alloc: Global) -> Queue<T>
+        ensures { waiting result ≡ [] }
+    {
+        Queue {
+            begun: None,
+            next: Vec::new(alloc),
+            later: Vec::new(alloc),
+        }
+    }
+
+    /// The allocator of the queue.
+    pub fn allocator(&self) -> Global {
+        *self.later.allocator()
+    }
+
+    /// Makes room for one more batch.
+    pub fn make_room(&mut self) -> Result<(), AllocError>
+        ensures same { waiting self.new ≡ waiting self.old }
+        ensures room { OnOk result (vec_len self.new.later < vec_capacity self.new.later) }
+    {
+        self.later.reserve(1)
+    }
+
+    /// Appends the items of a batch.
+    pub fn keep(&mut self, items: Items<T>)
+        requires { vec_len self.old.later < vec_capacity self.old.later }
+        ensures { waiting self.new ≡ waiting self.old ++ items }
+    {
+        let mut rest = items.into_vec();
+        rest.reverse();
+        let Some(first) = rest.pop() else {
+            return;
+        };
+        self.later.push_reserved(Batch { first, rest });
+    }
+
+    /// Forgets all items.
+    pub fn clear(&mut self)
+        ensures { waiting self.new ≡ [] }
+    {
+        self.begun = None;
+        self.next.clear();
+        self.later.clear();
+    }
+
+    // Turns to the later batches where no other is next.
+    fn refill(&mut self)
+        ensures same { waiting self.new ≡ waiting self.old }
+        ensures begun { self.new.begun ≡ self.old.begun }
+        ensures refilled { self.new.next.items ≡ [] → self.new.later.items ≡ [] }
+    {
+        if !self.next.is_empty() {
+            return;
+        }
+        mem::swap(&mut self.next, &mut self.later);
+        self.next.reverse();
+    }
+
+    /// Begins the next batch where none is begun.
+    pub fn turn(&mut self)
+        ensures same { waiting self.new ≡ waiting self.old }
+        ensures turned { IsTurned self.new }
+    {
+        if self.begun.is_some() {
+            return;
+        }
+        self.refill();
+        self.begun = self.next.pop();
+    }
+
+    /// The first item, of the batch that is begun.
+    pub fn first(&self) -> Option<&T>
+        ensures none { IfNone result (self.now.begun ≡ None) }
+        ensures some { IfSome result (λ item. waiting self.now ≡ item.now ∷ drop 1 (waiting self.now)) }
+    {
+        match &self.begun {
+            None => None,
+            Some(batch) => Some(&batch.first),
+        }
+    }
+
+    /// Takes the first item off, where a batch is begun if any item waits.
+    pub fn remove_first(&mut self)
+        requires { IsTurned self.old }
+        ensures { waiting self.new ≡ drop 1 (waiting self.old) }
+    {
+        let Some(mut batch) = self.begun.take() else {
+            return;
+        };
+        if let Some(item) = batch.rest.pop() {
+            batch.first = item;
+            self.begun = Some(batch);
+        }
+    }
+}

@@ -1,0 +1,52 @@
+-- What it means that a call was made, and that what it handed out waits.
+use Rattle.std.specs.Prelude.{◌≡◌, ℕ, Option, Some, None, Result, Ok, Err, List, ◌++◌}
+use Rattle.sentry_base.specs.declared.protocol.keys.ClientKey.{ClientKey}
+use Rattle.sentry_base.specs.declared.protocol.envelope.Envelope.{Envelope}
+use Rattle.sentry_base.specs.declared.protocol.refusal.Refusal.{Refusal}
+use Rattle.sentry_state.specs.declared.state.Out.{Out}
+use Rattle.sentry_state.specs.Outcomes.{Outcome}
+use Rattle.sentry_state.specs.Worlds.{World, Stands}
+use Rattle.c_base.specs.declared.fault.CallFault.{CallFault}
+use Rattle.c_base.specs.Faults.{refusal_of}
+use Rattle.c_base.specs.Outboxes.{waiting}
+use Rattle.c_engine.specs.declared.callbacks.NoProcessor.{NoProcessor}
+use Rattle.c_engine.specs.declared.callbacks.NoCallbacks.{NoCallbacks}
+use Rattle.c_engine.specs.declared.outbox_engine.OutboxEngine.{OutboxEngine}
+
+-- neither the engine nor what waits has changed
+abbrev pub IsUnchanged : OutboxEngine → OutboxEngine → Type 0
+IsUnchanged old new = (new.engine ≡ old.engine) × (waiting new.outbox ≡ waiting old.outbox)
+
+module _ {T : Type 0} where
+  -- the answer is a reply that is so, and what waited is followed by what the call handed out
+  abbrev pub IsKept : (T → Type 0) → List (ClientKey × Envelope) → List (ClientKey × Envelope) → Result (Out T) Refusal
+      → Type 0
+  IsKept IsReply before after (Ok out) = IsReply out.reply × (after ≡ before ++ out.sent)
+  IsKept IsReply before after (Err refusal) = ⊥
+
+  -- a fault of the engine is the refusal that the definition of the call answers; any other came before the call
+  abbrev pub IsRefused : Option Refusal → OutboxEngine → (World NoProcessor NoCallbacks → Outcome NoProcessor NoCallbacks T)
+      → Type 0
+  IsRefused None old outcome = Unit {0}
+  IsRefused (Some refusal) old outcome =
+      (world : World NoProcessor NoCallbacks) → Stands old.engine world → (outcome world).answer ≡ Err refusal
+
+  -- the engine did the call as its definition says, and what it handed out waits behind what waited; or the call failed,
+  -- and nothing changed
+  abbrev pub Calls : OutboxEngine → OutboxEngine → Result (Unit {0}) CallFault → (T → Type 0)
+      → (World NoProcessor NoCallbacks → Outcome NoProcessor NoCallbacks T) → Type 0
+  Calls old new (Ok done) IsReply outcome =
+      (world : World NoProcessor NoCallbacks) → Stands old.engine world
+      → IsKept IsReply (waiting old.outbox) (waiting new.outbox) (outcome world).answer
+      × Stands new.engine (outcome world).after
+  Calls old new (Err fault) IsReply outcome = IsUnchanged old new × IsRefused (refusal_of fault) old outcome
+
+-- the engine made the call with a record that was read, or nothing changed
+abbrev pub SomeCalls : {A T : Type 0} → OutboxEngine → OutboxEngine → Result (Unit {0}) CallFault → (T → Type 0)
+    → (A → World NoProcessor NoCallbacks → Outcome NoProcessor NoCallbacks T) → Type 0
+SomeCalls {A} old new (Ok done) IsReply outcome = (read : A) × Calls old new (Ok done) IsReply (outcome read)
+SomeCalls old new (Err fault) IsReply outcome = IsUnchanged old new
+
+-- any reply
+abbrev pub anything : {T : Type 0} → T → Type 0
+anything reply = Unit {0}

@@ -1,0 +1,4 @@
+pub mod Calls
+pub mod Engines
+pub mod Keys
+pub mod Moments

@@ -1,0 +1,172 @@
+//! The calls on transactions and spans.
+ghost use Rattle.std.specs.Prelude.{◌≡◌};
+ghost use Rattle.sentry_span_edits.specs.Discards as discards;
+ghost use Rattle.sentry_spans.specs.Spans as call;
+ghost use Rattle.sentry_trace.specs.Contexts.{new_context};
+ghost use Rattle.c_engine.specs.Calls.{Calls, SomeCalls, anything};
+ghost use Rattle.c_engine.specs.Engines.{no_callbacks};
+ghost use Rattle.c_engine.specs.Keys.{hub_key, span_key, transaction_key, either_key};
+ghost use Rattle.c_engine.specs.Moments.{fresh_of};
+
+use crate::moments::fresh_of;
+use crate::outbox_engine::{OutboxEngine, either_key, hub_key, span_key, transaction_key};
+use c_base::fault::CallFault;
+use c_base::ids::FreshNumbers;
+use c_base::numbers::text;
+use sentry_base::protocol::Fresh;
+use sentry_trace::performance::TransactionContext;
+use std::alloc::Global;
+
+// The context of a transaction that continues the trace of two headers.
+fn continued<'a>(
+    alloc: Global,
+    name: &[u8],
+    op: &[u8],
+    sentry_trace: &'a [u8],
+    baggage: &'a [u8],
+    fresh: &FreshNumbers,
+) -> Result<TransactionContext, CallFault> {
+    let Fresh {
+        trace_id,
+        span_id,
+        ..
+    } = fresh_of(fresh)?;
+    let headers = [
+        ("sentry-trace", text(sentry_trace)?),
+        ("baggage", text(baggage)?),
+    ];
+    let (name, op) = (text(name)?, text(op)?);
+    Ok(TransactionContext::continue_from_headers(alloc, name, op, headers, trace_id, span_id)?)
+}
+
+impl OutboxEngine {
+    #[tactic(auto, using(crate::proofs::Calling::called, crate::proofs::Calling::refused, crate::proofs::Calling::unasked))]
+    fn start_of(
+        &mut self,
+        hub: u64,
+        context: TransactionContext,
+        fresh: &FreshNumbers,
+        transaction: &mut u64,
+    ) -> Result<(), CallFault>
+        ensures { Calls self.old self.new result (λ key. transaction.new ≡ key.number)
+            (call.start_transaction no_callbacks (hub_key hub) context (fresh_of fresh.entry.now)) }
+    {
+        let fresh = fresh_of(fresh)?;
+        self.outbox.make_room()?;
+        let out = self.engine.start_transaction(hub_key(hub), context, fresh)?;
+        self.outbox.keep(out.sent);
+        *transaction = out.reply.number;
+        Ok(())
+    }
+
+    /// Starts a transaction that continues the trace of the headers `sentry-trace` and `baggage`.
+    #[tactic(auto, using(crate::proofs::Calling::some))]
+    pub fn continue_transaction(
+        &mut self,
+        hub: u64,
+        name: &[u8],
+        op: &[u8],
+        sentry_trace: &[u8],
+        baggage: &[u8],
+        fresh: &FreshNumbers,
+        transaction: &mut u64,
+    ) -> Result<(), CallFault>
+        ensures { SomeCalls self.old self.new result (λ key. transaction.new ≡ key.number)
+            (λ context. call.start_transaction no_callbacks (hub_key hub) context (fresh_of fresh.entry.now)) }
+    {
+        let context = continued(self.alloc, name, op, sentry_trace, baggage, fresh)?;
+        self.start_of(hub, context, fresh, transaction)
+    }
+
+    /// Starts a transaction of a new trace.
+    #[tactic(auto, using(crate::proofs::Calling::called, crate::proofs::Calling::refused, crate::proofs::Calling::unasked))]
+    pub fn start_transaction(
+        &mut self,
+        hub: u64,
+        name: &[u8],
+        op: &[u8],
+        fresh: &FreshNumbers,
+        transaction: &mut u64,
+    ) -> Result<(), CallFault>
+        ensures { Calls self.old self.new result (λ key. transaction.new ≡ key.number)
+            (call.start_transaction no_callbacks (hub_key hub)
+            (new_context name.now op.now (fresh_of fresh.entry.now).trace_id (fresh_of fresh.entry.now).span_id)
+            (fresh_of fresh.entry.now)) }
+    {
+        let numbers = fresh_of(fresh)?;
+        let context = TransactionContext::new(
+            self.alloc,
+            text(name)?,
+            text(op)?,
+            numbers.trace_id,
+            numbers.span_id,
+        )?;
+        self.start_of(hub, context, fresh, transaction)
+    }
+
+    /// Starts a span under a transaction or a span.
+    #[tactic(auto, using(crate::proofs::Calling::called, crate::proofs::Calling::refused, crate::proofs::Calling::unasked))]
+    pub fn start_child(
+        &mut self,
+        is_span: bool,
+        parent: u64,
+        op: &[u8],
+        description: &[u8],
+        fresh: &FreshNumbers,
+        span: &mut u64,
+    ) -> Result<(), CallFault>
+        ensures { Calls self.old self.new result (λ key. span.new ≡ key.number)
+            (call.start_child (either_key is_span parent) op.now description.now (fresh_of fresh.entry.now)) }
+    {
+        let fresh = fresh_of(fresh)?;
+        let parent = either_key(is_span, parent);
+        let (op, description) = (text(op)?, text(description)?);
+        self.outbox.make_room()?;
+        let out = self.engine.start_child(parent, op, description, fresh)?;
+        self.outbox.keep(out.sent);
+        *span = out.reply.number;
+        Ok(())
+    }
+
+    /// Finishes a span.
+    #[tactic(auto, using(crate::proofs::Calling::called, crate::proofs::Calling::refused, crate::proofs::Calling::unasked))]
+    pub fn finish_span(&mut self, span: u64, now: u64) -> Result<(), CallFault>
+        ensures { Calls self.old self.new result anything (call.finish_span (span_key span) now) }
+    {
+        self.outbox.make_room()?;
+        let out = self.engine.finish_span(span_key(span), now)?;
+        self.outbox.keep(out.sent);
+        Ok(())
+    }
+
+    /// Finishes a transaction under the top scope of a hub.
+    #[tactic(auto, using(crate::proofs::Calling::called, crate::proofs::Calling::refused, crate::proofs::Calling::unasked))]
+    pub fn finish_transaction(
+        &mut self,
+        transaction: u64,
+        hub: u64,
+        now: u64,
+    ) -> Result<(), CallFault>
+        ensures { Calls self.old self.new result anything
+            (call.finish_transaction no_callbacks (transaction_key transaction) (hub_key hub) now) }
+    {
+        self.outbox.make_room()?;
+        let out = self
+            .engine
+            .finish_transaction(transaction_key(transaction), hub_key(hub), now)?;
+        self.outbox.keep(out.sent);
+        Ok(())
+    }
+
+    /// Gives a transaction or a span back.
+    #[tactic(auto, using(crate::proofs::Calling::called, crate::proofs::Calling::refused, crate::proofs::Calling::unasked))]
+    pub fn discard(&mut self, is_span: bool, number: u64) -> Result<(), CallFault>
+        ensures { Calls self.old self.new result anything
+            (discards.discard (either_key is_span number)) }
+    {
+        self.outbox.make_room()?;
+        let out = self.engine.discard(either_key(is_span, number))?;
+        self.outbox.keep(out.sent);
+        Ok(())
+    }
+}

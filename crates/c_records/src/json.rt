@@ -1,0 +1,32 @@
+//! JSON texts. Numbers are whole numbers of 64 bits.
+ghost use Rattle.std.specs.Prelude.{◌≡◌, None, IfErr};
+ghost use Rattle.c_base.specs.Faults.{refusal_of};
+
+use c_base::fault::CallFault;
+use c_base::numbers::text;
+use sentry_bodies::json::read_json;
+use sentry_plain::{Value, ValueMap};
+use std::alloc::Global;
+
+/// The value of a JSON text.
+pub fn value(alloc: Global, bytes: &[u8]) -> Result<Value, CallFault>
+    ensures { IfErr result (λ fault. refusal_of fault ≡ None) }
+{
+    match read_json(alloc, text(bytes)?)? {
+        Some(value) => Ok(value),
+        None => Err(CallFault::Unknown),
+    }
+}
+
+/// The members of a JSON object; the empty text has none.
+pub fn object(alloc: Global, bytes: &[u8]) -> Result<ValueMap, CallFault>
+    ensures { IfErr result (λ fault. refusal_of fault ≡ None) }
+{
+    if bytes.is_empty() {
+        return Ok(ValueMap::new(alloc));
+    }
+    match value(alloc, bytes)? {
+        Value::Map(members) => Ok(members),
+        _other => Err(CallFault::Unknown),
+    }
+}

@@ -1,0 +1,186 @@
+//! The options of a client, a line `NAME=VALUE` each.
+ghost use Rattle.std.specs.Prelude.{◌≡◌, None, IfErr};
+ghost use Rattle.c_base.specs.Faults.{refusal_of};
+
+use c_base::fault::CallFault;
+use sentry_base::protocol::{OrganizationId, Refusal, SampleRate};
+use sentry_options::clientoptions::{Callbacks, ClientOptions, SessionMode};
+use std::alloc::Global;
+
+// A fault in an option, or want of memory.
+fn option_fault(refusal: Refusal) -> CallFault
+    ensures { refusal_of result ≡ None }
+{
+    match refusal {
+        Refusal::OutOfMemory => CallFault::OutOfMemory,
+        Refusal::InvalidDsn(_) => CallFault::InvalidDsn,
+        Refusal::InvalidRate => CallFault::InvalidRate,
+        _other => CallFault::Unknown,
+    }
+}
+
+/// An option with a number or a flag.
+#[derive(Clone, Copy)]
+enum Setting {
+    SampleRate(u32),
+    TracesSampleRate(u32),
+    StrictTraceContinuation(bool),
+    SendDefaultPii(bool),
+    Organization(u64),
+    SessionMode(SessionMode),
+    MaxBreadcrumbs(u64),
+    MaxSpans(u64),
+    MaxBatchItems(u64),
+    EnableLogs(bool),
+    EnableMetrics(bool),
+}
+
+fn number(value: &str) -> Option<u64> {
+    match value.parse::<u64>() {
+        Ok(number) => Some(number),
+        Err(_) => None,
+    }
+}
+
+// A rate in millionths, where `1` stands for all.
+fn rate(value: &str) -> Option<u32> {
+    if value == "1" {
+        return Some(SampleRate::ALL);
+    }
+    match value.parse::<u32>() {
+        Ok(rate) => Some(rate),
+        Err(_) => None,
+    }
+}
+
+fn flag(value: &str) -> Option<bool> {
+    match value {
+        "0" => Some(false),
+        "1" => Some(true),
+        _ => None,
+    }
+}
+
+fn mode(value: &str) -> Option<SessionMode> {
+    match value {
+        "application" => Some(SessionMode::Application),
+        "request" => Some(SessionMode::Request),
+        _ => None,
+    }
+}
+
+impl Setting {
+    fn read(name: &str, value: &str) -> Option<Setting> {
+        match name {
+            "rate" => rate(value).map(Setting::SampleRate),
+            "traces" => rate(value).map(Setting::TracesSampleRate),
+            "strict" => flag(value).map(Setting::StrictTraceContinuation),
+            "pii" => flag(value).map(Setting::SendDefaultPii),
+            "org" => number(value).map(Setting::Organization),
+            "mode" => mode(value).map(Setting::SessionMode),
+            "crumbs" => number(value).map(Setting::MaxBreadcrumbs),
+            "maxspans" => number(value).map(Setting::MaxSpans),
+            "maxbatch" => number(value).map(Setting::MaxBatchItems),
+            "logs" => flag(value).map(Setting::EnableLogs),
+            "metrics" => flag(value).map(Setting::EnableMetrics),
+            _ => None,
+        }
+    }
+}
+
+fn set<C: Callbacks>(
+    options: ClientOptions<C>,
+    setting: Setting,
+) -> Result<ClientOptions<C>, Refusal> {
+    match setting {
+        Setting::SampleRate(rate) => options.sample_rate(rate),
+        Setting::TracesSampleRate(rate) => options.traces_sample_rate(rate),
+        Setting::StrictTraceContinuation(strict) => Ok(options.strict_trace_continuation(strict)),
+        Setting::SendDefaultPii(pii) => Ok(options.send_default_pii(pii)),
+        Setting::Organization(number) => Ok(options.org_id(OrganizationId(number))),
+        Setting::SessionMode(mode) => Ok(options.session_mode(mode)),
+        Setting::MaxBreadcrumbs(count) => Ok(options.max_breadcrumbs(count as usize)),
+        Setting::MaxSpans(count) => Ok(options.max_spans(count as usize)),
+        Setting::MaxBatchItems(count) => Ok(options.max_batch_items(count as usize)),
+        Setting::EnableLogs(enabled) => Ok(options.enable_logs(enabled)),
+        Setting::EnableMetrics(enabled) => Ok(options.enable_metrics(enabled)),
+    }
+}
+
+/// An option that is a text.
+#[derive(Clone, Copy)]
+enum TextOption {
+    Dsn,
+    Release,
+    Environment,
+    ServerName,
+}
+
+impl TextOption {
+    fn read(name: &str) -> Option<TextOption> {
+        match name {
+            "dsn" => Some(TextOption::Dsn),
+            "release" => Some(TextOption::Release),
+            "environment" => Some(TextOption::Environment),
+            "server" => Some(TextOption::ServerName),
+            _ => None,
+        }
+    }
+}
+
+fn set_text<C: Callbacks>(
+    options: ClientOptions<C>,
+    option: TextOption,
+    value: &str,
+) -> Result<ClientOptions<C>, Refusal> {
+    match option {
+        TextOption::Dsn => options.dsn(value),
+        TextOption::Release => options.release(value),
+        TextOption::Environment => options.environment(value),
+        TextOption::ServerName => options.server_name(value),
+    }
+}
+
+// The options with this one set.
+fn set_option<C: Callbacks>(
+    options: ClientOptions<C>,
+    name: &str,
+    value: &str,
+) -> Result<ClientOptions<C>, CallFault>
+    ensures { IfErr result (λ fault. refusal_of fault ≡ None) }
+{
+    let done = match TextOption::read(name) {
+        Some(option) => set_text(options, option, value),
+        None => match Setting::read(name, value) {
+            Some(setting) => set(options, setting),
+            None => return Err(CallFault::Unknown),
+        },
+    };
+    match done {
+        Ok(options) => Ok(options),
+        Err(refusal) => Err(option_fault(refusal)),
+    }
+}
+
+/// The options that a text sets; later lines stand over earlier ones, and empty lines say nothing. `dsn`, `release`,
+/// `environment` and `server` are texts; `rate` and `traces` are rates in millionths, where `1` stands for all; `strict`,
+/// `pii`, `logs` and `metrics` are `0` or `1`; `mode` is `application` or `request`; `org`, `crumbs`, `maxspans` and
+/// `maxbatch` are numbers.
+pub fn read_options<C: Callbacks>(
+    alloc: Global,
+    callbacks: C,
+    text: &str,
+) -> Result<ClientOptions<C>, CallFault>
+    ensures { IfErr result (λ fault. refusal_of fault ≡ None) }
+{
+    let mut options = ClientOptions::with_callbacks(alloc, callbacks);
+    for line in text.split('\n') {
+        if !line.is_empty() {
+            let Some((name, value)) = line.split_once('=') else {
+                return Err(CallFault::Unknown);
+            };
+            options = set_option(options, name, value)?;
+        }
+    }
+    Ok(options)
+}

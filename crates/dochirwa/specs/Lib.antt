@@ -1,0 +1,4 @@
+pub mod Exports
+pub mod Fetches
+pub mod SeatFollows
+pub mod Seats

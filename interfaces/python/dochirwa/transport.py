@@ -1,0 +1,172 @@
+"""Posting envelopes, in a thread of its own, and the rate limits of the server."""
+import json
+import logging
+import threading
+import time
+import urllib.error
+import urllib.parse
+import urllib.request
+
+from . import native
+
+CATEGORIES = ("error", "transaction", "span", "session", "attachment", "log_item", "metric")
+SEND_ERROR, NETWORK_ERROR, RATE_LIMITED = 4, 6, 7
+ITEMS = {
+    "event": "error",
+    "transaction": "transaction",
+    "session": "session",
+    "sessions": "session",
+    "attachment": "attachment",
+    "log": "log_item",
+    "trace_metric": "metric",
+}
+
+
+class Address:
+    """Where a DSN says that envelopes go."""
+
+    def __init__(self, dsn):
+        parts = urllib.parse.urlsplit(dsn)
+        path, _, project = parts.path.rpartition("/")
+        host = parts.hostname or ""
+        host = f"[{host}]" if ":" in host else host
+        port = f":{parts.port}" if parts.port else ""
+        self.url = f"{parts.scheme}://{host}{port}{path}/api/{project}/envelope/"
+        self.headers = {
+            "Content-Type": "application/x-sentry-envelope",
+            "X-Sentry-Auth": f"Sentry sentry_version=7, sentry_client=dochirwa.python/0.1.0, sentry_key={parts.username}",
+        }
+
+
+def split(envelope):
+    """The header line of an envelope, and its items: each its header, read, and all of its bytes."""
+    header, _, rest = envelope.partition(b"\n")
+    items = []
+    while rest:
+        line, _, after = rest.partition(b"\n")
+        read = json.loads(line)
+        size = len(line) + 1 + read["length"]
+        items.append((read, rest[:size]))
+        rest = rest[size:].lstrip(b"\n")
+    return header, items
+
+
+class Limits:
+    """What the server doesn't want for a while, by category; `None` is all."""
+
+    def __init__(self, clock=time.monotonic):
+        self.clock, self.until = clock, {}
+
+    def read(self, status, headers):
+        """Keeps what the answer to a request says."""
+        limits = headers.get("X-Sentry-Rate-Limits")
+        if limits is not None:
+            for limit in limits.split(","):
+                seconds, _, rest = limit.strip().partition(":")
+                for category in rest.split(":")[0].split(";"):
+                    self.keep(category or None, seconds)
+        elif status == 429:
+            self.keep(None, headers.get("Retry-After", "60"))
+
+    def keep(self, category, seconds):
+        try:
+            until = self.clock() + float(seconds)
+        except ValueError:
+            until = self.clock() + 60
+        self.until[category] = max(until, self.until.get(category, 0))
+
+    def holds(self, category):
+        now = self.clock()
+        return any(self.until.get(it, 0) > now for it in (None, category))
+
+
+class Sender:
+    """Ticks the client, and posts what waits."""
+
+    def __init__(self, engine, client, label, dsn, post=None, interval=1.0):
+        self.engine, self.client, self.label = engine, client, label
+        self.address = Address(dsn) if dsn else None
+        self.post = post or self.post_by_urllib
+        self.interval, self.limits = interval, Limits()
+        self.wake, self.idle, self.is_over = threading.Event(), threading.Condition(), False
+        self.asked = self.done = 0
+        self.thread = None
+
+    def start(self):
+        self.thread = threading.Thread(target=self.run, name="dochirwa", daemon=True)
+        self.thread.start()
+
+    def run(self):
+        while not self.is_over:
+            self.wake.wait(self.interval)
+            self.wake.clear()
+            asked = self.asked
+            try:
+                self.engine.call("tick", self.client, time.time_ns())
+                self.send_all()
+            except native.Fault as fault:
+                if fault.number == native.CLOSED:
+                    break
+            except Exception:
+                logging.getLogger("dochirwa").debug("an envelope is lost", exc_info=True)
+            with self.idle:
+                self.done = max(self.done, asked)
+                self.idle.notify_all()
+
+    def send_all(self):
+        while True:
+            waiting = self.engine.next_envelope()
+            if waiting is None:
+                return
+            self.send(waiting[1])
+
+    def lose(self, items, reason):
+        for header, _ in items:
+            category = ITEMS.get(header.get("type"))
+            if category:
+                quantity = header.get("item_count", 1)
+                self.engine.call("record_loss", self.label, CATEGORIES.index(category), reason, quantity)
+
+    def send(self, envelope):
+        header, items = split(envelope)
+        limited = [it for it in items if self.limits.holds(ITEMS.get(it[0].get("type")))]
+        if limited:
+            self.lose(limited, RATE_LIMITED)
+            items = [it for it in items if it not in limited]
+            envelope = header + b"\n" + b"\n".join(it[1] for it in items) + b"\n"
+        if not items:
+            return
+        try:
+            status, headers = self.post(envelope)
+        except OSError:
+            self.lose(items, NETWORK_ERROR)
+            return
+        self.limits.read(status, headers)
+        if status >= 400 and status != 429:
+            self.lose(items, SEND_ERROR)
+
+    def post_by_urllib(self, envelope):
+        if self.address is None:
+            return 200, {}
+        request = urllib.request.Request(self.address.url, envelope, self.address.headers, method="POST")
+        try:
+            with urllib.request.urlopen(request, timeout=10) as answer:
+                return answer.status, answer.headers
+        except urllib.error.HTTPError as answer:
+            with answer:
+                return answer.code, answer.headers
+
+    def flush(self, timeout):
+        """Waits until what waits now is posted, and answers whether it was in time."""
+        with self.idle:
+            self.asked += 1
+            wanted = self.asked
+            self.wake.set()
+            return self.idle.wait_for(lambda: self.done >= wanted, timeout)
+
+    def stop(self, timeout):
+        is_well = self.flush(timeout)
+        self.is_over = True
+        self.wake.set()
+        self.thread.join(timeout)
+        return is_well

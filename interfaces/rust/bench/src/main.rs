@@ -1,0 +1,246 @@
+//! The same work by the real `sentry-core` and by `libdochirwa.a`, in one process, turn about.
+//!
+//! bench [SECONDS_PER_ROUND [ROUNDS]]   default 0.2 and 9
+//! bench count CASE WHICH BATCHES       runs so many batches of one case of `crate`, `full` or `bare`, for callgrind
+//! A line a case: median nanoseconds per operation of the crate, of the library behind a Mutex with the system's clock
+//! and random ids (`full`), of the library called directly with counted ids and moments (`bare`), and crate / full.
+
+use std::hint::black_box;
+use std::sync::atomic::{AtomicU64, Ordering};
+use std::sync::{Arc, Mutex};
+use std::time::{Duration, Instant, SystemTime, UNIX_EPOCH};
+
+use dochirwa::{Engine, Fresh, Id};
+use sentry_core::protocol::{Log, LogLevel, Map};
+use sentry_core::{metrics, Client, ClientOptions, Envelope, Hub, Level, Scope, TransactionContext, Transport, TransportFactory, TransportOptions};
+
+static SENT: AtomicU64 = AtomicU64::new(0);
+const DSN: &str = "https://public@sentry.invalid/1";
+
+struct Dropping;
+impl Transport for Dropping {
+    fn send_envelope(&self, envelope: Envelope) {
+        SENT.fetch_add(1, Ordering::Relaxed);
+        drop(black_box(envelope));
+    }
+}
+struct Factory;
+impl TransportFactory for Factory {
+    fn create_transport_with_options(&self, _: TransportOptions) -> Arc<dyn Transport> {
+        Arc::new(Dropping)
+    }
+}
+
+fn crate_hub(options: ClientOptions) -> Hub {
+    let client = Client::with_options(options.dsn(DSN).transport(Factory));
+    Hub::new(Some(Arc::new(client)), Arc::new(Scope::default()))
+}
+
+/// How the library gets moments and ids.
+trait Source: Copy {
+    fn now(self) -> u64;
+    fn fresh(self) -> Fresh;
+}
+#[derive(Clone, Copy)]
+struct Real;
+impl Source for Real {
+    fn now(self) -> u64 {
+        SystemTime::now().duration_since(UNIX_EPOCH).map_or(0, |d| d.as_nanos() as u64)
+    }
+    fn fresh(self) -> Fresh {
+        Fresh { now: self.now(), id: Id::from(rand::random::<u128>()), trace: Id::from(rand::random::<u128>()), span: rand::random(), draw: rand::random::<u32>() % 1_000_000 }
+    }
+}
+#[derive(Clone, Copy)]
+struct Counted;
+static COUNT: AtomicU64 = AtomicU64::new(1);
+impl Source for Counted {
+    fn now(self) -> u64 {
+        let n = COUNT.load(Ordering::Relaxed) + 1;
+        COUNT.store(n, Ordering::Relaxed);
+        n
+    }
+    fn fresh(self) -> Fresh {
+        let n = self.now();
+        Fresh { now: n, id: Id { high: n, low: n }, trace: Id { high: n, low: n }, span: n, draw: 0 }
+    }
+}
+
+/// The library, behind a lock, as a wrapper for several threads would hold it. Each call takes the lock once, and the
+/// envelopes that it handed out are dropped under it.
+struct Locked {
+    engine: Mutex<Engine>,
+    hub: u64,
+    client: u64,
+}
+fn locked(release: &str, rate: u32, tags: usize) -> Locked {
+    let mut engine = Engine::new().unwrap();
+    let release = if release.is_empty() { String::new() } else { format!("release={release}\n") };
+    let options = format!("dsn={DSN}\n{release}traces={rate}\nlogs=1\nmetrics=1\n");
+    let client = engine.add_client(&options, 0, Real.now()).unwrap();
+    let hub = engine.new_hub(client, &Real.fresh()).unwrap();
+    for i in 0..tags {
+        engine.set_tag(hub, &format!("key{i}"), "value", Real.now()).unwrap();
+    }
+    Locked { engine: Mutex::new(engine), hub, client }
+}
+impl Locked {
+    fn with<T>(&self, call: impl FnOnce(&mut Engine, u64) -> T) -> T {
+        let mut engine = self.engine.lock().unwrap();
+        let answer = call(&mut engine, self.hub);
+        engine.drop_envelopes().unwrap();
+        answer
+    }
+}
+
+fn round(time: Duration, per: u64, batch: &mut dyn FnMut()) -> f64 {
+    let start = Instant::now();
+    let mut ops = 0;
+    while start.elapsed() < time {
+        batch();
+        ops += per;
+    }
+    start.elapsed().as_nanos() as f64 / ops as f64
+}
+
+fn median(mut them: Vec<f64>) -> (f64, f64) {
+    them.sort_by(f64::total_cmp);
+    (them[them.len() / 2], them[0])
+}
+
+struct Bench {
+    time: Duration,
+    rounds: usize,
+    only: Option<(String, String, u64)>,
+}
+impl Bench {
+    /// `per` operations a batch, of each of the three.
+    fn case(&self, name: &str, per: u64, real: &mut dyn FnMut(), full: &mut dyn FnMut(), bare: &mut dyn FnMut()) {
+        if let Some((case, which, batches)) = &self.only {
+            if case == name {
+                for _ in 0..*batches {
+                    match which.as_str() {
+                        "crate" => real(),
+                        "full" => full(),
+                        _ => bare(),
+                    }
+                }
+            }
+            return;
+        }
+        real();
+        full();
+        bare();
+        let (mut a, mut b, mut c) = (vec![], vec![], vec![]);
+        for _ in 0..self.rounds {
+            a.push(round(self.time, per, real));
+            b.push(round(self.time, per, full));
+            c.push(round(self.time, per, bare));
+        }
+        let (a, b, c) = (median(a), median(b), median(c));
+        println!("{name}\t{:.0}\t{:.0}\t{:.0}\t{:.2}\t(best {:.0} {:.0} {:.0})", a.0, b.0, c.0, a.0 / b.0, a.1, b.1, c.1);
+    }
+}
+
+const N: u64 = 1000;
+
+fn log() -> Log {
+    Log { level: LogLevel::Info, body: "hello world".into(), trace_id: None, timestamp: SystemTime::now(), severity_number: None, attributes: Map::new() }
+}
+
+fn message<S: Source>(to: &Locked, source: S) {
+    for _ in 0..N {
+        black_box(to.with(|e, hub| e.capture_message(hub, 1, black_box("hello world"), &source.fresh())).unwrap());
+    }
+}
+fn tag<S: Source>(to: &Locked, source: S) {
+    for _ in 0..N {
+        let depth = to.with(|e, hub| e.push_scope(hub)).unwrap();
+        to.with(|e, hub| e.set_tag(hub, black_box("key"), "value", source.now())).unwrap();
+        to.with(|e, hub| e.pop_scope(hub, depth, source.now())).unwrap();
+    }
+}
+fn logs<S: Source>(to: &Locked, source: S) {
+    for _ in 0..N {
+        to.with(|e, hub| e.capture_log(hub, 2, black_box("hello world"), "", source.now())).unwrap();
+    }
+}
+fn counters<S: Source>(to: &Locked, source: S) {
+    for _ in 0..N {
+        to.with(|e, hub| e.capture_metric(hub, 0, black_box("name"), 1, "", "", source.now())).unwrap();
+    }
+}
+fn sessions<S: Source>(to: &Locked, source: S) {
+    for _ in 0..N {
+        to.with(|e, hub| e.start_session(hub, &source.fresh())).unwrap();
+        to.with(|e, hub| e.end_session(hub, 1, source.now())).unwrap();
+        // the crate's worker sends the ended sessions; here a flush each 100
+    }
+    to.with(|e, _| e.flush(to.client)).unwrap();
+}
+fn transactions<S: Source>(to: &Locked, source: S, children: usize) {
+    for _ in 0..N / 10 {
+        let tx = to.with(|e, hub| e.start_transaction(hub, "name", "op", &source.fresh())).unwrap();
+        let mut spans = [0u64; 10];
+        for span in spans.iter_mut().take(children) {
+            *span = to.with(|e, _| e.start_child(false, tx, black_box("op"), "description", &source.fresh())).unwrap();
+            to.with(|e, _| e.finish_span(*span, source.now())).unwrap();
+        }
+        to.with(|e, hub| e.finish_transaction(tx, hub, source.now())).unwrap();
+        for span in spans.iter().take(children) {
+            to.with(|e, _| e.discard(true, *span)).unwrap();
+        }
+        to.with(|e, _| e.discard(false, tx)).unwrap();
+    }
+}
+
+fn main() {
+    let words: Vec<String> = std::env::args().collect();
+    let counts = words.len() == 5 && words[1] == "count";
+    let only = counts.then(|| (words[2].clone(), words[3].clone(), words[4].parse().expect("batches")));
+    let mut args = words.into_iter().skip(if counts { 5 } else { 1 });
+    let seconds: f64 = args.next().map_or(0.2, |a| a.parse().expect("seconds"));
+    let rounds: usize = args.next().map_or(9, |a| a.parse().expect("rounds"));
+    let bench = Bench { time: Duration::from_secs_f64(seconds), rounds, only };
+    println!("case\tcrate\tfull\tbare\tcrate/full");
+
+    let plain = crate_hub(ClientOptions::new().release("r1"));
+    let tagged = crate_hub(ClientOptions::new().release("r1"));
+    tagged.configure_scope(|s| (0..10).for_each(|i| s.set_tag(&format!("key{i}"), "value")));
+    let traced = crate_hub(ClientOptions::new().traces_sample_rate(1.0));
+    let (ours, ours_tagged, ours_traced) = (locked("r1", 0, 0), locked("r1", 0, 10), locked("", 1_000_000, 0));
+
+    let real_message = |hub: &Hub| {
+        for _ in 0..N {
+            black_box(hub.capture_message(black_box("hello world"), Level::Info));
+        }
+    };
+    let real_tag = |hub: &Hub| {
+        for _ in 0..N {
+            let guard = hub.push_scope();
+            hub.configure_scope(|s| s.set_tag(black_box("key"), "value"));
+            drop(guard);
+        }
+    };
+    let real_tx = |children: usize| {
+        for _ in 0..N / 10 {
+            let tx = traced.start_transaction(TransactionContext::new("name", "op"));
+            for _ in 0..children {
+                tx.start_child(black_box("op"), "description").finish();
+            }
+            tx.finish();
+        }
+    };
+    bench.case("message", N, &mut || real_message(&plain), &mut || message(&ours, Real), &mut || message(&ours, Counted));
+    bench.case("message, 10 tags", N, &mut || real_message(&tagged), &mut || message(&ours_tagged, Real), &mut || message(&ours_tagged, Counted));
+    bench.case("push, tag, pop", N, &mut || real_tag(&plain), &mut || tag(&ours, Real), &mut || tag(&ours, Counted));
+    bench.case("push, tag, pop over 10 tags", N, &mut || real_tag(&tagged), &mut || tag(&ours_tagged, Real), &mut || tag(&ours_tagged, Counted));
+    bench.case("log", N, &mut || (0..N).for_each(|_| plain.capture_log(black_box(log()))), &mut || logs(&ours, Real), &mut || logs(&ours, Counted));
+    bench.case("counter", N, &mut || (0..N).for_each(|_| plain.capture_metric(metrics::counter(black_box("name"), 1))), &mut || counters(&ours, Real), &mut || counters(&ours, Counted));
+    bench.case("session, start and end", N, &mut || (0..N).for_each(|_| { plain.start_session(); plain.end_session() }), &mut || sessions(&ours, Real), &mut || sessions(&ours, Counted));
+    bench.case("transaction", N / 10, &mut || real_tx(0), &mut || transactions(&ours_traced, Real, 0), &mut || transactions(&ours_traced, Counted, 0));
+    bench.case("transaction, 10 children", N / 10, &mut || real_tx(10), &mut || transactions(&ours_traced, Real, 10), &mut || transactions(&ours_traced, Counted, 10));
+    let mut engine = Engine::new().unwrap();
+    bench.case("(an empty call)", N, &mut || (), &mut || (0..N).for_each(|_| { black_box(ours.with(|_, _| ())); }), &mut || (0..N).for_each(|_| { engine.drop_envelopes().unwrap(); }));
+    eprintln!("{} envelopes were handed out", SENT.load(Ordering::Relaxed));
+}
