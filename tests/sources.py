@@ -6,7 +6,6 @@ import re
 TOP = os.path.dirname(os.path.dirname(os.path.abspath(__file__)))
 CRATES = os.path.join(TOP, "crates")
 ITEM = re.compile(r"^pub (?:const )?(?:struct|enum|trait|type|fn|const) (\w+)", re.M)
-BLOCK = re.compile(r"^((?:impl|pub trait)\b[^{]*)\{$(.*?)^\}", re.M | re.S)
 
 
 class Checks:
@@ -94,15 +93,3 @@ def exports(crate):
             if module_file(path):
                 left.append((path, prefix + name + "::"))
     return names
-
-
-def functions():
-    """The functions of each type and trait of the repository, by its name."""
-    of_type = {}
-    for text in sources():
-        for head, body in BLOCK.findall(re.sub(r"//.*", "", text)):
-            head = re.sub(r"^impl<.*?>(?= \w)", "", head.split("\n")[0])
-            name = re.search(r"\b[A-Z]\w*", head)
-            if name and " for " not in head:
-                of_type.setdefault(name.group(), set()).update(re.findall(r"^    (?:pub )?fn (\w+)", body, re.M))
-    return of_type

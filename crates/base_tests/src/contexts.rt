@@ -38,6 +38,28 @@ fn contexts_have_the_ids_that_they_are_handed(rt: HostRuntime) -> Result<(), Fai
     Ok(())
 }
 
+/// A context that is made of other parts than it begins with.
+fn rebuilt(alloc: Global) -> Result<TransactionContext, AllocError> {
+    let builder = TransactionContext::builder(alloc, "sell", "till", TRACE_ID, SPAN_ID)?
+        .with_name(Text::new(alloc, "buy")?)
+        .with_op(Text::new(alloc, "shop")?)
+        .with_trace_id(TraceId([4; 16]))
+        .with_parent_span_id(Some(PARENT))
+        .with_span_id(SpanId([5; 8]))
+        .with_sampled(Some(false));
+    Ok(builder.finish())
+}
+
+#[test]
+fn a_builder_sets_each_part(rt: HostRuntime) -> Result<(), Fail> {
+    let context = rebuilt(rt.alloc())?;
+    assert!(rt; context.name() == "buy" && context.operation() == "shop");
+    assert!(rt; context.sampled() == Some(false));
+    let ids = ids(Ok(context));
+    assert!(rt; ids == Some((TraceId([4; 16]), Some(PARENT), SpanId([5; 8]))));
+    Ok(())
+}
+
 /// A context of which the sampler is told a weight of 1.
 fn weighed(alloc: Global) -> Result<TransactionContext, AllocError> {
     let builder = TransactionContext::builder(alloc, "sell", "till", TRACE_ID, SPAN_ID)?;
@@ -61,6 +83,7 @@ fn a_sampler_is_told_of_values(rt: HostRuntime) -> Result<(), Fail> {
     let key = Text::new(alloc, "weight")?;
     let before = context.custom_insert(alloc, key, Value::Int(2))?;
     let is_told = is_clone_weighed(&context)?;
-    assert!(rt; is_told && before == Some(Value::Int(1)));
+    *context.custom_mut() = None;
+    assert!(rt; is_told && before == Some(Value::Int(1)) && context.custom().is_none());
     Ok(())
 }

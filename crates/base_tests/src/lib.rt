@@ -1,10 +1,12 @@
 //! Tests of what stands below or beside the engine, where no text given to a program can show it: clones and `==`,
-//! values that are read as a DSN, options, contexts of transactions, drafts of logs and metrics, a queue of sessions,
+//! values that are read as a DSN, options, contexts of transactions, requests, drafts of logs and metrics, a queue of sessions,
 //! losses that threads count and drain, and a queue of envelopes.
 #![tactic(auto)]
 
 #[cfg(test)]
 mod contexts;
+#[cfg(test)]
+mod environment;
 #[cfg(test)]
 mod items;
 #[cfg(test)]
@@ -21,6 +23,8 @@ mod plain;
 mod queueing;
 #[cfg(test)]
 mod records;
+#[cfg(test)]
+mod requests;
 #[cfg(test)]
 mod sessions;
 #[cfg(test)]

@@ -1,13 +1,13 @@
 //! Metrics of each type before they are captured.
 use crate::records::is_its_clone;
-use sentry_base::protocol::{MetricDraft, Unit, Value};
+use sentry_base::protocol::{MetricDraft, Unit};
 use sentry_batches::metrics::{IntoProtocolMetric, counter, distribution, gauge};
 use std::alloc::{AllocError, Global};
 use std::test::Fail;
 
 /// How full a shelf is.
 fn room(alloc: Global, shelf: i128) -> Result<MetricDraft, AllocError> {
-    let metric = gauge(alloc, "room", 40)?.attribute("shelf", Value::Int(shelf))?;
+    let metric = gauge(alloc, "room", 40)?.attribute("shelf", shelf)?;
     Ok(metric.unit(Unit::Percent).into_draft())
 }
 

@@ -1,21 +1,15 @@
 //! Messages by an engine alone, and by a client of one under its lock. Each is an event under a scope with a tag. The
 //! transport drops the envelopes.
+use crate::hub::options;
+use sentry_core::Text;
 use sentry_core::engine::Engine;
 use sentry_core::protocol::{Draw, Event, Fresh, Label, Refusal, SpanId, TraceId, Uuid};
-use sentry_core::{BoxedEventCallback, ClientCallbacks, ClientOptions, NoOpTransport, Scope, Text};
 use sentry_lock::client::Client;
-use sentry_lock::shared_core::SharedCore;
+use sentry_lock::core_lock::CoreLock;
+use sentry_scope::scope::Scope;
 use std::alloc::{AllocError, Global};
-use std::sync::Wait;
 
-/// A client that calls its transport without a box.
-pub type LockedClient = Client<BoxedEventCallback, ClientCallbacks, NoOpTransport>;
-
-fn options(alloc: Global) -> Result<ClientOptions, Refusal> {
-    ClientOptions::new(alloc).dsn("https://public@sentry.invalid/1")
-}
-
-fn scope(alloc: Global) -> Result<Scope, AllocError> {
+fn scope<P: Drop>(alloc: Global) -> Result<Scope<P>, AllocError> {
     let mut scope = Scope::new(alloc, TraceId([1; 16]), SpanId([2; 8]));
     scope.set_tag("os", "linux")?;
     Ok(scope)
@@ -58,33 +52,16 @@ pub fn send_by_engine(alloc: Global, messages: u64) -> Result<u64, Refusal> {
     Ok(sent)
 }
 
-/// Sends so many messages by a client of the lock, and answers how many were sent.
-pub fn send_many<R: Wait>(
-    rt: &R,
-    alloc: Global,
-    client: &LockedClient,
-    messages: u64,
-) -> Result<u64, Refusal> {
+/// Sends so many messages by a client of an engine under its lock, and answers how many were sent.
+pub fn send_by_client<L: CoreLock>(client: &Client<L>, messages: u64) -> Result<u64, Refusal> {
+    let alloc = client.core().allocator();
     let scope = scope(alloc)?;
     let mut sent = 0u64;
     for index in 0..messages {
         let number = index.wrapping_add(1);
         let event = message(alloc, number)?;
-        let id = client.capture_event(rt, event, Some(&scope), fresh(number))?;
+        let id = client.capture_event(event, Some(&scope), fresh(number))?;
         sent = count_sent(sent, id);
     }
     Ok(sent)
-}
-
-/// A client of an engine under its lock.
-pub fn locked_client<R: Wait>(rt: &R, alloc: Global) -> Result<LockedClient, Refusal> {
-    let core = SharedCore::new(alloc, 0)?;
-    let setup = core.client_setup(rt, options(alloc)?)?;
-    Client::with_options(rt, &core, setup, Some(NoOpTransport), 0)
-}
-
-/// The same as `send_many`, by a new client.
-pub fn send_by_client<R: Wait>(rt: &R, alloc: Global, messages: u64) -> Result<u64, Refusal> {
-    let client = locked_client(rt, alloc)?;
-    send_many(rt, alloc, &client, messages)
 }

@@ -2,19 +2,25 @@
 use crate::losses::Spread;
 use crate::turns::HubTurn;
 
-/// A loop. `TURNS` counts what each of its threads does; where it speaks of no threads there is one.
+/// A loop over a core under its lock.
 #[derive(Clone, Copy)]
-pub enum Loop {
+pub enum LockLoop {
     /// Turns on the current hub of a thread.
     Hub(HubTurn),
     /// Messages by several threads, each on a hub of its own.
     HubThreads,
+    /// Messages by a client.
+    Client,
+    /// The same by a client in each of several threads.
+    ClientThreads,
+}
+
+/// A loop. `TURNS` counts what each of its threads does; where it speaks of no threads there is one.
+#[derive(Clone, Copy)]
+pub enum Loop {
+    Lock(LockLoop),
     /// Messages by an engine alone.
     Engine,
-    /// The same by a client of an engine under its lock.
-    Client,
-    /// The same by such a client in each of several threads.
-    ClientThreads,
     /// An envelope is taken out of a queue and offered again.
     Queue,
     /// An envelope is sent to a queueing transport, and passed on.
@@ -35,17 +41,26 @@ pub enum Loop {
 
 /// Each loop, by the word that names it.
 pub const LOOPS: [(&str, Loop); 20] = [
-    ("scopes", Loop::Hub(HubTurn::Scope)),
-    ("messages", Loop::Hub(HubTurn::TaggedMessage)),
-    ("breadcrumbs", Loop::Hub(HubTurn::Breadcrumb)),
-    ("logs", Loop::Hub(HubTurn::Log)),
-    ("counters", Loop::Hub(HubTurn::Counter)),
-    ("sessions", Loop::Hub(HubTurn::Session)),
-    ("transactions", Loop::Hub(HubTurn::Transaction)),
-    ("threads", Loop::HubThreads),
+    ("scopes", Loop::Lock(LockLoop::Hub(HubTurn::Scope))),
+    (
+        "messages",
+        Loop::Lock(LockLoop::Hub(HubTurn::TaggedMessage)),
+    ),
+    (
+        "breadcrumbs",
+        Loop::Lock(LockLoop::Hub(HubTurn::Breadcrumb)),
+    ),
+    ("logs", Loop::Lock(LockLoop::Hub(HubTurn::Log))),
+    ("counters", Loop::Lock(LockLoop::Hub(HubTurn::Counter))),
+    ("sessions", Loop::Lock(LockLoop::Hub(HubTurn::Session))),
+    (
+        "transactions",
+        Loop::Lock(LockLoop::Hub(HubTurn::Transaction)),
+    ),
+    ("threads", Loop::Lock(LockLoop::HubThreads)),
     ("engine", Loop::Engine),
-    ("client", Loop::Client),
-    ("client_threads", Loop::ClientThreads),
+    ("client", Loop::Lock(LockLoop::Client)),
+    ("client_threads", Loop::Lock(LockLoop::ClientThreads)),
     ("queue", Loop::Queue),
     ("pass", Loop::Pass),
     ("turn_away", Loop::TurnAway),
@@ -56,16 +71,6 @@ pub const LOOPS: [(&str, Loop); 20] = [
     ("quiet", Loop::QuietDrains),
     ("raised", Loop::RaisedDrains),
 ];
-
-/// The loop of a name, if there is one.
-pub fn find_loop(wanted: &str) -> Option<Loop> {
-    for (name, named) in &LOOPS {
-        if *name == wanted {
-            return Some(*named);
-        }
-    }
-    None
-}
 
 /// How often a loop runs.
 #[derive(Clone, Copy)]
@@ -83,16 +88,59 @@ fn number_at(words: &[String], place: usize, otherwise: u64) -> Option<u64> {
     }
 }
 
-impl Size {
-    /// The numbers after the names of the program and the loop: turns, threads (else one) and drains (else none).
-    pub fn read(words: &[String]) -> Option<Size> {
-        if words.len() < 3 || words.len() > 5 {
+// How often each loop runs where the arguments name none.
+const FEW: Size = Size {
+    turns: 200,
+    threads: 2,
+    drains: 10,
+};
+
+/// What the arguments ask for.
+#[derive(Drop)]
+pub struct Asked<'a> {
+    /// The loop; all of them if there is none.
+    name: Option<&'a str>,
+    pub size: Size,
+}
+
+impl<'a> Asked<'a> {
+    /// What the words ask for, of which the first is the program's name: all loops, for a few turns, or a loop, turns,
+    /// threads (else one) and drains (else none). `None` if they are others.
+    pub fn read(words: &'a [String]) -> Option<Asked<'a>> {
+        let Some(name) = words.get(1) else {
+            return Some(Asked {
+                name: None,
+                size: FEW,
+            });
+        };
+        if !is_loop(name.as_str()) || words.len() < 3 || words.len() > 5 {
             return None;
         }
-        Some(Size {
+        let size = Size {
             turns: number_at(words, 2, 0)?,
             threads: number_at(words, 3, 1)?,
             drains: number_at(words, 4, 0)?,
+        };
+        Some(Asked {
+            name: Some(name.as_str()),
+            size,
         })
     }
+
+    /// Whether the loop of this name is to run.
+    pub fn includes(&self, name: &str) -> bool {
+        match self.name {
+            None => true,
+            Some(asked) => asked == name,
+        }
+    }
+}
+
+fn is_loop(wanted: &str) -> bool {
+    for (name, _) in &LOOPS {
+        if *name == wanted {
+            return true;
+        }
+    }
+    false
 }

@@ -19,25 +19,67 @@ mod transport;
 mod turns;
 
 use anyhow::Result;
-use loops::{LOOPS, Loop, Size, find_loop};
+use clock::Steps;
+use hub::Thread;
+use loops::{Asked, LOOPS, LockLoop, Loop, Size};
 use sentry_core::protocol::Refusal;
+use sentry_core::{BoxedClock, BoxedGate, BoxedTransport, Clock, NoOpTransport, Waiting, start};
+use sentry_lock::client::Client;
+use sentry_lock::core_lock::CoreLock;
 use std::alloc::Global;
 use std::process::ExitCode;
 use std::sync::Wait;
 use std::thread::Threads;
 use std::{env, io};
 
-/// How often each loop runs where the arguments name none.
-const FEW: Size = Size {
-    turns: 200,
-    threads: 2,
-    drains: 10,
-};
+// What a loop over a lock counts.
+fn count_over_lock<R: Threads + Sync, L: CoreLock + Send + Sync + 'static, K: Clock + Drop>(
+    rt: &R,
+    client: &Client<L>,
+    thread: &mut Thread<L, K>,
+    named: LockLoop,
+    size: Size,
+) -> Result<u64, Refusal>
+where
+    L::Processor: Send + Sync + 'static,
+    L::Callbacks: Send + Sync + 'static,
+    L::Transport: Send + Sync + 'static,
+{
+    let (turns, threads) = (size.turns, size.threads);
+    match named {
+        LockLoop::Hub(turn) => hub::make_on_hub(thread, turn, turns),
+        LockLoop::HubThreads => threads::send_by_hubs(rt, &thread.main, turns, threads),
+        LockLoop::Client => lock::send_by_client(client, turns),
+        LockLoop::ClientThreads => threads::send_by_clients(rt, client, turns, threads),
+    }
+}
 
-/// What a loop counts.
+// The same, on a client of boxes whose transport drops the envelopes.
+fn open_and_count<R: Threads + Sync>(
+    rt: &R,
+    alloc: Global,
+    wait: BoxedGate,
+    named: LockLoop,
+    size: Size,
+) -> Result<u64, Refusal> {
+    let Ok(transport) = Box::new(alloc, NoOpTransport) else {
+        return Err(Refusal::OutOfMemory);
+    };
+    let transport: BoxedTransport = transport;
+    let Ok(clock) = Box::new(alloc, Steps(0)) else {
+        return Err(Refusal::OutOfMemory);
+    };
+    let clock: BoxedClock = clock;
+    let options = hub::options(alloc)?;
+    let (sentry, mut thread) = start(alloc, wait, options, transport, clock, [1; 32])?;
+    count_over_lock(rt, sentry.client(), &mut thread, named, size)
+}
+
+/// What a loop counts. What locks wait by is in the box, or `rt` itself.
 fn count<R: Threads + Wait + Sync + Copy + Drop>(
     rt: &R,
     alloc: Global,
+    wait: BoxedGate,
     named: Loop,
     size: Size,
 ) -> Result<u64, Refusal> {
@@ -47,11 +89,8 @@ fn count<R: Threads + Wait + Sync + Copy + Drop>(
         drains,
     } = size;
     match named {
-        Loop::Hub(turn) => hub::make_on_hub(rt, alloc, turn, turns),
-        Loop::HubThreads => threads::send_by_hubs(rt, alloc, turns, threads),
+        Loop::Lock(named) => open_and_count(rt, alloc, wait, named, size),
         Loop::Engine => lock::send_by_engine(alloc, turns),
-        Loop::Client => lock::send_by_client(rt, alloc, turns),
-        Loop::ClientThreads => threads::send_by_clients(rt, alloc, turns, threads),
         Loop::Queue => queue::take_and_offer(alloc, turns),
         Loop::Pass => transport::pass(*rt, alloc, turns),
         Loop::TurnAway => transport::turn_away(*rt, alloc, turns),
@@ -60,45 +99,6 @@ fn count<R: Threads + Wait + Sync + Copy + Drop>(
         Loop::Losses(spread) => losses::record(rt, alloc, spread, turns, threads, drains),
         Loop::QuietDrains => losses::drain_quiet(alloc, turns),
         Loop::RaisedDrains => losses::drain_raised(alloc, turns),
-    }
-}
-
-/// Runs a loop, and prints what it counts.
-fn run<R: Threads + Wait + Sync + Print + Copy + Drop>(
-    rt: &R,
-    alloc: Global,
-    name: &str,
-    named: Loop,
-    size: Size,
-) -> Result<()> {
-    let counted = count(rt, alloc, named, size)?;
-    println!(rt; "{name}: {counted}")?;
-    Ok(())
-}
-
-fn run_all<R: Threads + Wait + Sync + Print + Copy + Drop>(rt: &R, alloc: Global) -> Result<()> {
-    for (name, named) in &LOOPS {
-        run(rt, alloc, name, *named, FEW)?;
-    }
-    Ok(())
-}
-
-/// Runs what the words ask for, of which the first is the program's name. Answers whether they are such as it takes.
-fn run_asked<R: Threads + Wait + Sync + Print + Copy + Drop>(
-    rt: &R,
-    alloc: Global,
-    words: &[String],
-) -> Result<bool> {
-    let Some(name) = words.get(1) else {
-        run_all(rt, alloc)?;
-        return Ok(true);
-    };
-    match (find_loop(name.as_str()), Size::read(words)) {
-        (Some(named), Some(size)) => {
-            run(rt, alloc, name.as_str(), named, size)?;
-            Ok(true)
-        }
-        _other => Ok(false),
     }
 }
 
@@ -121,9 +121,16 @@ fn read_words(rt: &HostRuntime) -> Result<Vec<String>> {
 
 fn main(rt: HostRuntime) -> Result<ExitCode> {
     let words = read_words(&rt)?;
-    if run_asked(&rt, rt.alloc(), words.as_slice())? {
-        return Ok(ExitCode::SUCCESS);
+    let Some(asked) = Asked::read(words.as_slice()) else {
+        print_usage(&rt)?;
+        return Ok(ExitCode::from(2));
+    };
+    for (name, named) in &LOOPS {
+        if asked.includes(name) {
+            let wait: BoxedGate = Box::new(rt.alloc(), Waiting(rt))?;
+            let counted = count(&rt, rt.alloc(), wait, *named, asked.size)?;
+            println!(rt; "{name}: {counted}")?;
+        }
     }
-    print_usage(&rt)?;
-    Ok(ExitCode::from(2))
+    Ok(ExitCode::SUCCESS)
 }

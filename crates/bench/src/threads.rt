@@ -1,14 +1,14 @@
 //! Messages by several threads at once: each on a hub of its own, or all by one client.
-ghost use Rattle.std.specs.Prelude.{◌≡◌};
-
 use crate::clock::Steps;
-use crate::hub::open_hub;
-use crate::lock::{LockedClient, locked_client, send_many};
+use crate::hub::Thread;
+use crate::lock::send_by_client;
 use crate::turns::{HubTurn, make_turns};
 use sentry_core::protocol::Refusal;
-use sentry_core::{BoxedClock, BoxedTransport, Hub, NoOpTransport, ThreadHub};
-use std::alloc::{AllocError, Global};
-use std::sync::Wait;
+use sentry_hub::hub::Hub;
+use sentry_lock::client::Client;
+use sentry_lock::core_lock::CoreLock;
+use sentry_thread_hub::thread_hub::ThreadHub;
+use std::alloc::AllocError;
 use std::thread::{Threads, map_vec};
 
 // The sum of what the threads counted.
@@ -22,13 +22,13 @@ fn sum(answers: Vec<Result<u64, Refusal>>) -> Result<u64, Refusal> {
 
 /// What a thread begins with. Its current hub is to be made from the top of the main one.
 #[derive(Drop)]
-struct Job {
+struct Job<L> {
     number: u8,
-    main: Hub,
+    main: Hub<L>,
 }
 
-fn make_jobs(main: &Hub, threads: u64) -> Result<Vec<Job>, AllocError> {
-    let mut jobs = Vec::new(main.core().allocator());
+fn make_jobs<L: CoreLock>(main: &Hub<L>, threads: u64) -> Result<Vec<Job<L>>, AllocError> {
+    let mut jobs = Vec::new(main.allocator());
     let mut number = 0u8;
     for _ in 0..threads {
         let main = main.clone()?;
@@ -39,47 +39,30 @@ fn make_jobs(main: &Hub, threads: u64) -> Result<Vec<Job>, AllocError> {
 }
 
 // Sends so many messages on a hub of its own, and answers how many were sent.
-fn work<R: Wait>(rt: &R, job: Job, messages: u64) -> Result<u64, Refusal> {
+fn work<L: CoreLock>(job: Job<L>, messages: u64) -> Result<u64, Refusal> {
     let Job { number, main } = job;
-    let Ok(clock) = Box::new(main.core().allocator(), Steps(0)) else {
-        return Err(Refusal::OutOfMemory);
-    };
-    let clock: BoxedClock = clock;
-    let mut thread = ThreadHub::from_main(rt, main, clock, [number; 32])?;
-    make_turns(rt, &mut thread, HubTurn::Message, messages)
-}
-
-fn send_in_threads<R: Threads + Wait + Sync>(
-    rt: &R,
-    main: &Hub,
-    messages: u64,
-    threads: u64,
-) -> Result<u64, Refusal> {
-    let jobs = make_jobs(main, threads)?;
-    sum(map_vec(rt, jobs, &|job: Job| work(rt, job, messages))?)
+    let mut thread: Thread<L, Steps> = ThreadHub::from_main(main, Steps(0), [number; 32])?;
+    make_turns(&mut thread, HubTurn::Message, messages)
 }
 
 /// Sends so many messages in each thread, on a hub of its own, and answers how many were sent.
-pub fn send_by_hubs<R: Threads + Wait + Sync>(
+pub fn send_by_hubs<R: Threads + Sync, L: CoreLock + Send + Sync + 'static>(
     rt: &R,
-    alloc: Global,
+    main: &Hub<L>,
     messages: u64,
     threads: u64,
-) -> Result<u64, Refusal> {
-    let Ok(transport) = Box::new(alloc, NoOpTransport) else {
-        return Err(Refusal::OutOfMemory);
-    };
-    let transport: BoxedTransport = transport;
-    let main = open_hub(rt, alloc, transport)?;
-    send_in_threads(rt, &main, messages, threads)
+) -> Result<u64, Refusal>
+where
+    L::Processor: Send + Sync + 'static,
+    L::Callbacks: Send + Sync + 'static,
+    L::Transport: Send + Sync + 'static,
+{
+    let jobs = make_jobs(main, threads)?;
+    sum(map_vec(rt, jobs, &|job: Job<L>| work(job, messages))?)
 }
 
-fn shares(
-    alloc: Global,
-    client: &LockedClient,
-    threads: u64,
-) -> Result<Vec<LockedClient>, AllocError> {
-    let mut shares = Vec::new(alloc);
+fn share<L: CoreLock>(client: &Client<L>, threads: u64) -> Result<Vec<Client<L>>, AllocError> {
+    let mut shares = Vec::new(client.core().allocator());
     for _ in 0..threads {
         shares.push(client.clone()?)?;
     }
@@ -87,14 +70,21 @@ fn shares(
 }
 
 /// Sends so many messages in each thread, all by one client of the lock, and answers how many were sent.
-pub fn send_by_clients<R: Threads + Wait + Sync>(
+pub fn send_by_clients<R: Threads + Sync, L: CoreLock + Send + Sync + 'static>(
     rt: &R,
-    alloc: Global,
+    client: &Client<L>,
     messages: u64,
     threads: u64,
-) -> Result<u64, Refusal> {
-    let client = locked_client(rt, alloc)?;
-    let clients = shares(alloc, &client, threads)?;
-    let send = |client: LockedClient| send_many(rt, alloc, &client, messages);
-    sum(map_vec(rt, clients, &send)?)
+) -> Result<u64, Refusal>
+where
+    L::Processor: Send + Sync + 'static,
+    L::Callbacks: Send + Sync + 'static,
+    L::Transport: Send + Sync + 'static,
+{
+    let clients = share(client, threads)?;
+    sum(map_vec(
+        rt,
+        clients,
+        &|client: Client<L>| send_by_client(&client, messages),
+    )?)
 }

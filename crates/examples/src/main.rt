@@ -1,19 +1,28 @@
-//! Programs over the library, a module each. `examples NAME` runs one, and `examples` all of them.
+//! Programs over the library, a module each. `examples NAME` runs one, and `examples` all of them. `examples spool FOLDER`
+//! puts what `examples spool` prints into a folder.
 #![tactic(auto)]
 
 mod clocks;
 mod engine_start;
+mod job_service;
 mod log_bridge;
 mod middleware;
 mod printing;
+mod pumping;
 mod rate_limits;
 mod refused_ticks;
 mod release_health;
 mod setup;
+mod spool;
+mod tally;
+mod threads;
 mod ticking_worker;
 mod web_shop;
 
 use anyhow::Result;
+use sentry_core::envelope::{FileFolder, SpoolTransport, WriterTransport};
+use sentry_core::{BoxedGate, BoxedTransport, Waiting};
+use spool::Morning;
 use std::process::ExitCode;
 use std::sync::Wait;
 use std::thread::Threads;
@@ -30,9 +39,11 @@ enum Example {
     TickingWorker,
     RateLimits,
     RefusedTicks,
+    JobService,
+    Spool,
 }
 
-const EXAMPLES: [(&str, Example); 8] = [
+const EXAMPLES: [(&str, Example); 10] = [
     ("engine_start", Example::EngineStart),
     ("web_shop", Example::WebShop),
     ("log_bridge", Example::LogBridge),
@@ -41,15 +52,17 @@ const EXAMPLES: [(&str, Example); 8] = [
     ("ticking_worker", Example::TickingWorker),
     ("rate_limits", Example::RateLimits),
     ("refused_ticks", Example::RefusedTicks),
+    ("job_service", Example::JobService),
+    ("spool", Example::Spool),
 ];
 
-fn find(word: &str) -> Option<Example> {
-    for (name, example) in EXAMPLES {
+fn is_known(word: &str) -> bool {
+    for (name, _) in EXAMPLES {
         if name == word {
-            return Some(example);
+            return true;
         }
     }
-    None
+    false
 }
 
 fn print_usage(rt: &impl Eprint) -> io::Result<()> {
@@ -60,36 +73,71 @@ fn print_usage(rt: &impl Eprint) -> io::Result<()> {
     Ok(())
 }
 
-// `host` is the runtime by its own type, which what goes into a box holds. It can't wait: `rt` can.
-fn run_example<R: Wait + Threads + Print + Clock + Copy + Drop + Send + Sync + 'static>(
-    rt: R,
-    host: HostRuntime,
-    example: Example,
-) -> Result<()> {
-    match example {
-        Example::EngineStart => engine_start::run(&rt, host.alloc()),
-        Example::WebShop => web_shop::run(&rt, host.alloc()),
-        Example::LogBridge => log_bridge::run(rt, host),
-        Example::Middleware => middleware::run(&rt, host),
-        Example::ReleaseHealth => release_health::run(&rt, host),
-        Example::TickingWorker => ticking_worker::run(rt, host),
-        Example::RateLimits => rate_limits::run(rt, host),
-        Example::RefusedTicks => refused_ticks::run(rt, host),
+// Whether the example is to run: the one that is asked for, or each.
+fn is_asked(asked: &Option<String>, name: &str) -> bool {
+    match asked {
+        None => true,
+        Some(word) => word.as_str() == name,
     }
 }
 
+// Runs an example that makes its transport itself.
+fn run<R: Threads + Wait + Clock + Print + Copy + Drop + Send + Sync + 'static>(
+    rt: R,
+    host: HostRuntime,
+    wait: BoxedGate,
+    example: Example,
+) -> Result<()> {
+    let alloc = host.alloc();
+    match example {
+        Example::EngineStart => engine_start::run(&rt, alloc),
+        Example::WebShop => web_shop::run(&rt, alloc),
+        Example::LogBridge => log_bridge::run(host, wait),
+        Example::Middleware => middleware::run(host, wait),
+        Example::ReleaseHealth => release_health::run(host, wait),
+        Example::TickingWorker => ticking_worker::run(rt, alloc, wait),
+        Example::RateLimits => rate_limits::run(rt, host),
+        Example::RefusedTicks => refused_ticks::run(rt, host, wait),
+        Example::JobService => job_service::run(rt, alloc),
+        Example::Spool => Ok(()),
+    }
+}
+
+// What waits can be put into a box here alone: for the lock of a core, and where a transport has a lock of its own.
 fn main(rt: HostRuntime) -> Result<ExitCode> {
-    if let Some(word) = env::args(&rt)?.nth(1) {
-        let Some(example) = find(word.as_str()) else {
+    let alloc = rt.alloc();
+    let asked = env::args(&rt)?.nth(1);
+    if let Some(word) = &asked {
+        if !is_known(word.as_str()) {
             print_usage(&rt)?;
             return Ok(ExitCode::from(2));
-        };
-        run_example(rt, rt, example)?;
-        return Ok(ExitCode::SUCCESS);
+        }
     }
     for (name, example) in EXAMPLES {
-        println!(rt; "== {name}")?;
-        run_example(rt, rt, example)?;
+        if !is_asked(&asked, name) {
+            continue;
+        }
+        if asked.is_none() {
+            println!(rt; "== {name}")?;
+        }
+        let wait: BoxedGate = Box::new(alloc, Waiting(rt))?;
+        match example {
+            Example::Spool => match env::args(&rt)?.nth(2) {
+                None => {
+                    let writer = WriterTransport::new(rt, alloc, None, rt.stdout());
+                    let transport: BoxedTransport = Box::new(alloc, writer)?;
+                    spool::run(alloc, wait, transport)?;
+                }
+                Some(path) => {
+                    let folder = FileFolder::new(rt, alloc, path.as_str())?;
+                    let (limits, clock) = (spool::LIMITS, Morning::new());
+                    let files = SpoolTransport::new(rt, alloc, None, folder, limits, clock);
+                    let transport: BoxedTransport = Box::new(alloc, files)?;
+                    spool::run(alloc, wait, transport)?;
+                }
+            },
+            other => run(rt, rt, wait, other)?,
+        }
     }
     Ok(ExitCode::SUCCESS)
 }

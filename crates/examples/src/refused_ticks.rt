@@ -1,10 +1,14 @@
 //! A worker makes three ticks of a client, each of which sends a log. `tests/ticks` refuses the requests for memory of
 //! `examples refused_ticks` in turn: a tick that is refused its memory sends nothing, and the next one sends both logs.
+use crate::clocks::Steps;
 use crate::printing::Printer;
-use crate::setup::connect;
+use crate::setup::{SEED, options};
 use anyhow::Result;
 use sentry_core::protocol::{Log, LogLevel, Refusal};
-use sentry_core::{BoxedTransport, ClientOptions, Hub, TickClock, Worker};
+use sentry_core::{BoxedClock, BoxedGate, BoxedTransport, TickClock, Worker, start};
+use sentry_hub::hub::Hub;
+use sentry_lock::client::Client;
+use sentry_lock::core_lock::CoreLock;
 use std::alloc::{AllocError, Global};
 use std::sync::atomic::{AtomicU64, Ordering};
 use std::sync::{Arc, Wait};
@@ -32,33 +36,48 @@ const FIVE_SECONDS: u64 = 5_000_000_000;
 pub fn run<R: Threads + Wait + Print + Copy + Send + 'static>(
     rt: R,
     host: HostRuntime,
+    wait: BoxedGate,
 ) -> Result<()> {
     let alloc = host.alloc();
     let transport: BoxedTransport = Box::new(alloc, Printer(host))?;
-    let options = ClientOptions::from_dsn(alloc, "https://public@sentry.invalid/1")?;
-    let (client, hub) = connect(&rt, alloc, options, transport, 0)?;
-    let turn = first_turn(alloc)?;
-    let (copy, word) = (client.clone()?, turn.clone()?);
-    let worker = Worker::start(rt, copy, TicksInTurn::new(word))?;
-    let moments = play(&rt, &hub, &turn)?;
-    worker.stop(&rt);
+    let clock: BoxedClock = Box::new(alloc, Steps::of_seconds(1))?;
+    let (sentry, thread) = start(alloc, wait, options(alloc)?, transport, clock, SEED)?;
+    let moments = tick_in_turn(rt, sentry.client(), &thread.main)?;
     println!(rt; "the worker has ended after {moments} moments")?;
-    drop(client.flush(&rt, None)?);
+    sentry.close()?;
     println!(rt; "the client is flushed")?;
     Ok(())
 }
 
+// Logs between the ticks of a worker. Answers how many moments there were when it ended.
+fn tick_in_turn<
+    R: Threads + Wait + Print + Copy + Send + 'static,
+    L: CoreLock + Send + Sync + 'static,
+>(rt: R, client: &Client<L>, hub: &Hub<L>) -> Result<u64>
+where
+    L::Processor: Send + Sync + 'static,
+    L::Callbacks: Send + Sync + 'static,
+    L::Transport: Send + Sync + 'static,
+{
+    let turn = first_turn(hub.allocator())?;
+    let (copy, word) = (client.clone()?, turn.clone()?);
+    let worker = Worker::start(rt, copy, TicksInTurn::new(word))?;
+    let moments = play(&rt, hub, &turn)?;
+    worker.stop(&rt);
+    Ok(moments)
+}
+
 // The log that the next tick is to send.
-fn capture<R: Wait>(rt: &R, hub: &Hub, moment: u64) -> Result<(), Refusal> {
-    let alloc = hub.core().allocator();
+fn capture<L: CoreLock>(hub: &Hub<L>, moment: u64) -> Result<(), Refusal> {
+    let alloc = hub.allocator();
     let body = format!(in alloc; "log {moment}")?;
     let log = Log::new(alloc, LogLevel::Info, body.as_str(), 0)?;
-    hub.capture_log(rt, log)
+    hub.capture_log(log)
 }
 
 // Captures a log before each moment, and waits until the tick of the moment is over. Answers how many moments there
 // were when the worker ended.
-fn play<R: Wait + Print>(rt: &R, hub: &Hub, turn: &AtomicU64) -> Result<u64> {
+fn play<R: Print, L: CoreLock>(rt: &R, hub: &Hub<L>, turn: &AtomicU64) -> Result<u64> {
     for told in 0..MOMENTS {
         if !is_handed_back(turn) {
             return Ok(told);
@@ -66,8 +85,8 @@ fn play<R: Wait + Print>(rt: &R, hub: &Hub, turn: &AtomicU64) -> Result<u64> {
         let moment = told.saturating_add(1);
         println!(rt; "moment {moment}")?;
         // what finds no memory is tried once more
-        if capture(rt, hub, moment).is_err() {
-            capture(rt, hub, moment)?;
+        if capture(hub, moment).is_err() {
+            capture(hub, moment)?;
         }
         hand_over(turn);
     }

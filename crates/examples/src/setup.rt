@@ -1,9 +1,18 @@
 //! What several examples begin with.
-use anyhow::Result;
-use sentry_core::protocol::{Draw, Fresh, SpanId, TraceId, Uuid};
-use sentry_core::{BoxedTransport, Client, ClientOptions, Hub, Scope, SharedCore};
+use sentry_core::ClientOptions;
+use sentry_core::protocol::{Draw, Fresh, Refusal, SpanId, TraceId, Uuid};
 use std::alloc::Global;
-use std::sync::Wait;
+
+/// What ids are drawn from: the same ones at each run.
+pub const SEED: [u8; 32] = [7; 32];
+
+/// The DSN of the clients. Nothing is sent to it.
+pub const DSN: &str = "https://public@sentry.invalid/1";
+
+/// The options of a client that has a DSN.
+pub fn options(alloc: Global) -> Result<ClientOptions, Refusal> {
+    ClientOptions::from_dsn(alloc, DSN)
+}
 
 /// What a call of an engine is handed at a moment. A real program draws the ids at random.
 pub fn fresh(now: u64, id: u128) -> Fresh {
@@ -14,20 +23,4 @@ pub fn fresh(now: u64, id: u128) -> Fresh {
         span_id: SpanId([2; 8]),
         draw: Draw::new(0).unwrap(),
     }
-}
-
-/// A client with a transport, and a hub with that client.
-pub fn connect<R: Wait>(
-    rt: &R,
-    alloc: Global,
-    options: ClientOptions,
-    transport: BoxedTransport,
-    now: u64,
-) -> Result<(Client, Hub)> {
-    let core = SharedCore::new(alloc, 0)?;
-    let setup = core.client_setup(rt, options)?;
-    let client = Client::with_options(rt, &core, setup, Some(transport), now)?;
-    let scope = Scope::new(alloc, TraceId([1; 16]), SpanId([2; 8]));
-    let hub = Hub::new(rt, &core, Some(&client), scope)?;
-    Ok((client, hub))
 }

@@ -1,18 +1,22 @@
 //! A worker ticks a client while four threads log, each on a hub of its own. However the threads take turns, each log
 //! is sent once.
 use crate::clocks::{Steps, Ticks};
-use crate::setup::connect;
+use crate::setup::{SEED, options};
+use crate::threads::{Task, make_tasks, run_tasks, start_task};
 use anyhow::Result;
 use sentry_core::protocol::{EnvelopeItem, Log, Value};
 use sentry_core::{
-    BoxedClock, BoxedTransport, ClientOptions, Clock, Envelope, Hub, ThreadHub, Transport, Worker,
-    logger_info,
+    BoxedClock, BoxedGate, BoxedTransport, Envelope, Transport, Worker, logger_info, start,
 };
+use sentry_hub::hub::Hub;
+use sentry_lock::client::Client;
+use sentry_lock::core_lock::CoreLock;
 use std::alloc::{AllocError, Global};
 use std::io;
 use std::sync::atomic::{AtomicU64, Ordering};
 use std::sync::{Arc, Wait};
-use std::thread::{Threads, map_vec};
+use std::thread::Threads;
+use std::time::Clock;
 
 const JOBS: u8 = 4;
 
@@ -20,69 +24,58 @@ const JOBS: u8 = 4;
 const STEPS: u64 = 250;
 
 /// Runs the example.
-pub fn run<R: Threads + Wait + Copy + Drop + Send + Sync + 'static>(
+pub fn run<R: Threads + Wait + Clock + Print + Copy + Drop + Send + Sync + 'static>(
     rt: R,
-    host: HostRuntime,
+    alloc: Global,
+    wait: BoxedGate,
 ) -> Result<()> {
-    let alloc = host.alloc();
     let seen = Arc::new(alloc, Seen::new(alloc)?)?;
     let transport: BoxedTransport = Box::new(alloc, seen.clone()?)?;
-    let options = ClientOptions::from_dsn(alloc, "https://public@sentry.invalid/1")?;
-    let (client, hub) = connect(&rt, alloc, options, transport, 0)?;
-    let jobs = make_jobs(alloc, &hub)?;
-    let worker = Worker::start(rt, client.clone()?, Ticks::new(host))?;
-    run_jobs(&rt, jobs)?;
+    let clock: BoxedClock = Box::new(alloc, Steps::of_seconds(1))?;
+    let (sentry, thread) = start(alloc, wait, options(alloc)?, transport, clock, SEED)?;
+    log_beside_worker(rt, sentry.client(), &thread.main)?;
+    sentry.close()?;
+    seen.print(&rt)?;
+    Ok(())
+}
+
+// All jobs, while a worker ticks the client.
+fn log_beside_worker<
+    R: Threads + Wait + Clock + Copy + Drop + Send + Sync + 'static,
+    L: CoreLock + Send + Sync + 'static,
+>(rt: R, client: &Client<L>, main: &Hub<L>) -> Result<()>
+where
+    L::Processor: Send + Sync + 'static,
+    L::Callbacks: Send + Sync + 'static,
+    L::Transport: Send + Sync + 'static,
+{
+    let tasks = make_tasks(main, JOBS)?;
+    let worker = Worker::start(rt, client.clone()?, Ticks::new(rt))?;
+    run_tasks(&rt, tasks, |task: Task<L>| log_all(task))?;
     worker.stop(&rt);
-    drop(client.flush(&rt, None)?);
-    seen.print(&host)?;
     Ok(())
 }
 
-/// The work of one thread: so many logs, on a hub that is made from the top of the main one.
-#[derive(Drop)]
-struct Job {
-    number: u8,
-    main: Hub,
-}
-
-fn make_jobs(alloc: Global, main: &Hub) -> Result<Vec<Job>, AllocError> {
-    let mut jobs = Vec::new(alloc);
-    for number in 0..JOBS {
-        let main = main.clone()?;
-        jobs.push(Job { number, main })?;
-    }
-    Ok(jobs)
-}
-
-// Each job in a thread, until all are done.
-fn run_jobs<R: Threads + Wait + Sync>(rt: &R, jobs: Vec<Job>) -> Result<()> {
-    for done in map_vec(rt, jobs, &|job: Job| log_all(rt, job))? {
-        done?;
-    }
-    Ok(())
-}
-
-fn log_all<R: Wait>(rt: &R, job: Job) -> Result<()> {
-    let Job { number, main } = job;
-    let clock: BoxedClock = Box::new(main.core().allocator(), Steps::of_seconds(1))?;
-    let mut thread = ThreadHub::from_main(rt, main, clock, [number; 32])?;
+// So many logs, on a hub of its own.
+fn log_all<L: CoreLock>(task: Task<L>) -> Result<()> {
+    let number = task.number;
+    let mut thread = start_task(task)?;
     for step in 0..STEPS {
-        let now = thread.clock.now();
-        logger_info!(*rt, thread, now, job = number, step = step, "step {}", step)?;
+        logger_info!(thread, job = number, step = step, "step {}", step)?;
     }
     let hub = Hub::current(&thread)?;
-    Ok(hub.release(rt, &mut thread)?)
+    Ok(hub.release(&mut thread)?)
 }
 
 /// Counts how often it is to send each log, by job and step. A real transport sends them.
 #[derive(Drop)]
-struct Seen {
+pub struct Seen {
     jobs: Vec<Vec<AtomicU64>>,
 }
 
 impl Seen {
-    // A transport that was handed nothing.
-    fn new(alloc: Global) -> Result<Seen, AllocError> {
+    /// A transport that was handed nothing.
+    pub fn new(alloc: Global) -> Result<Seen, AllocError> {
         let mut jobs = Vec::new(alloc);
         for _ in 0..JOBS {
             let mut steps = Vec::new(alloc);
@@ -100,8 +93,8 @@ impl Seen {
         steps.get(number_of(log, "step")?)
     }
 
-    // A line for each job: how many of its logs came once.
-    fn print(&self, rt: &impl Print) -> io::Result<()> {
+    /// A line for each job: how many of its logs came once.
+    pub fn print(&self, rt: &impl Print) -> io::Result<()> {
         for (job, steps) in self.jobs.iter().enumerate() {
             println!(rt; "job {job}: {} logs", count_ones(steps.as_slice()))?;
         }

@@ -1,31 +1,32 @@
 //! The functions on the current hub of a thread.
 use crate::breadcrumbs::two_breadcrumbs;
-use crate::workshop::{Bench, Minute, SEED, at, fresh, id};
+use crate::workshop::{Bench, Minute, SEED, Thread, at, fresh, id};
 use sentry_core::protocol::{ErrorLink, Event, Refusal, SessionStatus, SpanId, TraceId, Uuid};
 use sentry_core::{
-    Generator, Hub, Level, ThreadHub, Transaction, TransactionContext, add_breadcrumb,
-    capture_error, capture_event, capture_message, configure_scope, end_session,
-    end_session_with_status, last_event_id, start_session, start_transaction,
-    start_transaction_with_timestamp, with_scope,
+    Generator, Level, TransactionContext, add_breadcrumb, capture_error, capture_event,
+    capture_message, configure_scope, end_session, end_session_with_status, last_event_id,
+    start_session, start_transaction, start_transaction_with_timestamp, with_scope,
 };
-use sentry_thread_hub::thread_hub::ThreadHub as GenericThread;
+use sentry_hub::hub::Hub;
+use sentry_hub::performance::Transaction;
+use sentry_lock::core_lock::CoreLock;
+use sentry_thread_hub::thread_hub::ThreadHub;
 use std::alloc::{AllocError, Global};
-use std::sync::Wait;
 use std::test::Fail;
 
 // Adds breadcrumbs, and sets a tag by a closure that answers true.
-fn prepare<R: Wait>(rt: &R, thread: &mut ThreadHub) -> Result<bool, Refusal> {
+fn prepare<L: CoreLock>(thread: &mut Thread<L>) -> Result<bool, Refusal> {
     let breadcrumbs = two_breadcrumbs(thread.current.core().allocator())?;
-    add_breadcrumb(rt, thread, breadcrumbs)?;
-    configure_scope(rt, thread, |edits| {
+    add_breadcrumb(thread, breadcrumbs)?;
+    configure_scope(thread, |edits| {
         edits.set_tag("a", "1")?;
         Ok(true)
     })
 }
 
 // Whether the scope has tags and breadcrumbs, and whether it has some of these.
-fn ask_scope<R: Wait>(rt: &R, hub: &Hub) -> Result<(bool, bool), Refusal> {
-    let scope = hub.scope(rt)?;
+fn ask_scope<L: CoreLock>(hub: &Hub<L>) -> Result<(bool, bool), Refusal> {
+    let scope = hub.scope()?;
     let (has_tags, has_trail) = (
         scope.tags.get().is_some(),
         scope.breadcrumbs.get().is_some(),
@@ -34,20 +35,19 @@ fn ask_scope<R: Wait>(rt: &R, hub: &Hub) -> Result<(bool, bool), Refusal> {
 }
 
 // Captures an event, a message and an error.
-fn capture<R: Wait>(rt: &R, thread: &mut ThreadHub) -> Result<[Uuid; 3], Refusal> {
+fn capture<L: CoreLock>(thread: &mut Thread<L>) -> Result<[Uuid; 3], Refusal> {
     let alloc = thread.current.core().allocator();
     let event = Event::new(alloc, id(1), at(1))?;
-    let first = capture_event(rt, thread, event)?;
-    let second = capture_message(rt, thread, "boom", Level::Warning)?;
+    let first = capture_event(thread, event)?;
+    let second = capture_message(thread, "boom", Level::Warning)?;
     let links = [ErrorLink::new(alloc, "Odd", "it is odd")?];
-    let third = capture_error(rt, thread, links.as_slice())?;
+    let third = capture_error(thread, links.as_slice())?;
     Ok([first, second, third])
 }
 
 // Sends a message under a scope with a tag more, whose closure may be out of memory.
-fn send_within<R: Wait>(rt: &R, thread: &mut ThreadHub, has_memory: bool) -> Result<Uuid, Refusal> {
+fn send_within<L: CoreLock>(thread: &mut Thread<L>, has_memory: bool) -> Result<Uuid, Refusal> {
     with_scope(
-        rt,
         thread,
         |edits| {
             if !has_memory {
@@ -55,16 +55,16 @@ fn send_within<R: Wait>(rt: &R, thread: &mut ThreadHub, has_memory: bool) -> Res
             }
             edits.set_tag("b", "2")
         },
-        |thread| capture_message(rt, thread, "within", Level::Info),
+        |thread| capture_message(thread, "within", Level::Info),
     )?
 }
 
 // Starts and ends two sessions.
-fn hold_sessions<R: Wait>(rt: &R, thread: &mut ThreadHub) -> Result<(), Refusal> {
-    start_session(rt, thread)?;
-    end_session(rt, thread)?;
-    start_session(rt, thread)?;
-    end_session_with_status(rt, thread, SessionStatus::Crashed)
+fn hold_sessions<L: CoreLock>(thread: &mut Thread<L>) -> Result<(), Refusal> {
+    start_session(thread)?;
+    end_session(thread)?;
+    start_session(thread)?;
+    end_session_with_status(thread, SessionStatus::Crashed)
 }
 
 // The context of a transaction.
@@ -73,22 +73,21 @@ fn context(alloc: Global) -> Result<TransactionContext, AllocError> {
 }
 
 // Finishes a transaction. Answers whether it is sampled.
-fn finish<R: Wait>(
-    rt: &R,
-    thread: &mut ThreadHub,
-    transaction: &Transaction,
+fn finish<L: CoreLock>(
+    thread: &mut Thread<L>,
+    transaction: &Transaction<L>,
 ) -> Result<bool, Refusal> {
-    transaction.finish(rt, thread)?;
-    transaction.is_sampled(rt)
+    transaction.finish(thread)?;
+    transaction.is_sampled()
 }
 
 // Finishes a transaction that starts now, and one since the second 2. Answers which are sampled.
-fn trace<R: Wait>(rt: &R, thread: &mut ThreadHub) -> Result<(bool, bool), Refusal> {
+fn trace<L: CoreLock>(thread: &mut Thread<L>) -> Result<(bool, bool), Refusal> {
     let alloc = thread.current.core().allocator();
-    let transaction = start_transaction(rt, thread, context(alloc)?)?;
-    let is_first = finish(rt, thread, &transaction)?;
-    let transaction = start_transaction_with_timestamp(rt, thread, context(alloc)?, at(2))?;
-    let is_second = finish(rt, thread, &transaction)?;
+    let transaction = start_transaction(thread, context(alloc)?)?;
+    let is_first = finish(thread, &transaction)?;
+    let transaction = start_transaction_with_timestamp(thread, context(alloc)?, at(2))?;
+    let is_second = finish(thread, &transaction)?;
     Ok((is_first, is_second))
 }
 
@@ -97,12 +96,12 @@ fn trace<R: Wait>(rt: &R, thread: &mut ThreadHub) -> Result<(bool, bool), Refusa
 type Ids = ([Uuid; 3], Option<Uuid>, Uuid, Result<Uuid, Refusal>);
 
 // The calls that send events. After them stands the scope of before.
-fn send_events<R: Wait>(rt: &R, thread: &mut ThreadHub) -> Result<Ids, Refusal> {
-    let captured = capture(rt, thread)?;
-    let last = last_event_id(rt, thread)?;
-    let within = send_within(rt, thread, true)?;
-    let refused = send_within(rt, thread, false);
-    capture_message(rt, thread, "later", Level::Info)?;
+fn send_events<L: CoreLock>(thread: &mut Thread<L>) -> Result<Ids, Refusal> {
+    let captured = capture(thread)?;
+    let last = last_event_id(thread)?;
+    let within = send_within(thread, true)?;
+    let refused = send_within(thread, false);
+    capture_message(thread, "later", Level::Info)?;
     Ok((captured, last, within, refused))
 }
 
@@ -111,19 +110,19 @@ fn send_events<R: Wait>(rt: &R, thread: &mut ThreadHub) -> Result<Ids, Refusal> 
 type Findings = (bool, (bool, bool), (bool, bool));
 
 // Makes all calls. The hub is given back, which no layer hinders.
-fn act<R: Wait>(rt: &R, thread: &mut ThreadHub) -> Result<(Ids, Findings), Refusal> {
-    let ran = prepare(rt, thread)?;
-    let set = ask_scope(rt, &thread.current)?;
-    let ids = send_events(rt, thread)?;
-    hold_sessions(rt, thread)?;
-    let sampled = trace(rt, thread)?;
-    Hub::current(thread)?.release(rt, thread)?;
+fn act<L: CoreLock>(thread: &mut Thread<L>) -> Result<(Ids, Findings), Refusal> {
+    let ran = prepare(thread)?;
+    let set = ask_scope(&thread.current)?;
+    let ids = send_events(thread)?;
+    hold_sessions(thread)?;
+    let sampled = trace(thread)?;
+    Hub::current(thread)?.release(thread)?;
     Ok((ids, (ran, set, sampled)))
 }
 
-// The first ids that a thread draws.
-fn draw_ids() -> Result<[Uuid; 9], AllocError> {
-    let mut thread: GenericThread<(), Minute, Generator> = GenericThread::new((), Minute, SEED)?;
+/// The first ids that a thread draws.
+pub(crate) fn draw_ids() -> Result<[Uuid; 9], AllocError> {
+    let mut thread: ThreadHub<(), Minute, Generator> = ThreadHub::new((), Minute, SEED)?;
     let mut ids = [Uuid::nil(); 9];
     for id in ids.iter_mut() {
         *id = thread.fresh().uuid;
@@ -157,9 +156,9 @@ fn what_is_sent(alloc: Global, drawn: [Uuid; 9]) -> Result<String, AllocError> {
 
 #[test]
 fn functions_act_on_the_current_hub(rt: HostRuntime) -> Result<(), Fail> {
-    let mut bench = Bench::new(&rt, rt.alloc())?;
-    let found = act(&rt, &mut bench.thread)?;
-    let sent = bench.finish(&rt)?;
+    let mut bench = Bench::new(rt, rt.alloc())?;
+    let found = act(&mut bench.thread)?;
+    let sent = bench.finish()?;
     let drawn = draw_ids()?;
     let [_, boom, odd, within, ..] = drawn;
     let ids = (
@@ -178,20 +177,20 @@ fn functions_act_on_the_current_hub(rt: HostRuntime) -> Result<(), Fail> {
 }
 
 // Sends a message, closes the client, and makes all calls.
-fn act_closed<R: Wait>(rt: &R, thread: &mut ThreadHub) -> Result<(Ids, Findings), Refusal> {
+fn act_closed<L: CoreLock>(thread: &mut Thread<L>) -> Result<(Ids, Findings), Refusal> {
     let hub = &thread.current;
-    hub.capture_message(rt, "last", Level::Info, fresh(9))?;
-    if let Some(client) = hub.client(rt)? {
-        client.close(rt, None)?;
+    hub.capture_message("last", Level::Info, fresh(9))?;
+    if let Some(client) = hub.client()? {
+        client.close(None)?;
     }
-    act(rt, thread)
+    act(thread)
 }
 
 #[test]
 fn functions_do_nothing_where_the_client_is_closed(rt: HostRuntime) -> Result<(), Fail> {
-    let mut bench = Bench::new(&rt, rt.alloc())?;
-    let found = act_closed(&rt, &mut bench.thread)?;
-    let sent = bench.finish(&rt)?;
+    let mut bench = Bench::new(rt, rt.alloc())?;
+    let found = act_closed(&mut bench.thread)?;
+    let sent = bench.finish()?;
     // both callbacks of scopes run, without a layer
     let nil = Uuid::nil();
     let ids = ([nil; 3], Some(id(9)), nil, Ok(nil));

@@ -1,12 +1,15 @@
 //! The hubs of a thread: guards, closures that are lent them, and a thread beside another.
-use crate::workshop::{Bench, boxed_minute, fresh, set_tag};
+use crate::workshop::{Bench, Minute, Thread, fresh, set_tag, unbind_client};
+use sentry_core::Level;
 use sentry_core::protocol::Refusal;
-use sentry_core::{Hub, HubSwitchGuard, Level, ThreadHub};
-use std::sync::Wait;
+use sentry_hub::hub::Hub;
+use sentry_lock::core_lock::CoreLock;
+use sentry_thread_hub::hub_switch_guard::HubSwitchGuard;
+use sentry_thread_hub::thread_hub::ThreadHub;
 use std::test::Fail;
 
 // The number of the current hub under two guards, under one of them, and after both.
-fn switch_twice(thread: &mut ThreadHub, outer: Hub, inner: Hub) -> [u64; 3] {
+fn switch_twice<L: CoreLock>(thread: &mut Thread<L>, outer: Hub<L>, inner: Hub<L>) -> [u64; 3] {
     let mut guard = HubSwitchGuard::new(thread, outer);
     let mut within = HubSwitchGuard::new(guard.thread_hub(), inner);
     let first = within.thread_hub().current.key().number;
@@ -17,39 +20,39 @@ fn switch_twice(thread: &mut ThreadHub, outer: Hub, inner: Hub) -> [u64; 3] {
 }
 
 // Switches to the hub 1, and from that to the hub 2.
-fn switch<R: Wait>(rt: &R, thread: &mut ThreadHub) -> Result<[u64; 3], Refusal> {
-    let outer = Hub::new_from_top(rt, &thread.current)?;
-    let inner = Hub::new_from_top(rt, &outer)?;
+fn switch<L: CoreLock>(thread: &mut Thread<L>) -> Result<[u64; 3], Refusal> {
+    let outer = Hub::new_from_top(&thread.current)?;
+    let inner = Hub::new_from_top(&outer)?;
     Ok(switch_twice(thread, outer, inner))
 }
 
 #[test]
 fn guards_restore_the_hub_of_before(rt: HostRuntime) -> Result<(), Fail> {
-    let mut bench = Bench::new(&rt, rt.alloc())?;
-    let current = switch(&rt, &mut bench.thread)?;
+    let mut bench = Bench::new(rt, rt.alloc())?;
+    let current = switch(&mut bench.thread)?;
     drop(bench);
     assert_eq!(rt; current, [2, 1, 0]);
     Ok(())
 }
 
 // Whether a closure is lent the current hub if that is active; false if it doesn't run.
-fn is_lent<R: Wait>(rt: &R, thread: &mut ThreadHub) -> Result<bool, Refusal> {
-    Hub::with_active(rt, thread, |hub, thread| hub.key() == thread.current.key())
+fn is_lent<L: CoreLock>(thread: &mut Thread<L>) -> Result<bool, Refusal> {
+    Hub::with_active(thread, |hub, thread| hub.key() == thread.current.key())
 }
 
 // The same while the hub has a client, and when it has none any more. At last, whether one is lent any hub.
-fn ask<R: Wait>(rt: &R, thread: &mut ThreadHub) -> Result<[bool; 3], Refusal> {
-    let first = is_lent(rt, thread)?;
-    thread.current.bind_client(rt, None)?;
-    let second = is_lent(rt, thread)?;
+fn ask<L: CoreLock>(thread: &mut Thread<L>) -> Result<[bool; 3], Refusal> {
+    let first = is_lent(thread)?;
+    unbind_client(&thread.current)?;
+    let second = is_lent(thread)?;
     let any = Hub::with(thread, |hub, thread| hub.key() == thread.current.key())?;
     Ok([first, second, any])
 }
 
 #[test]
 fn closures_are_lent_an_active_hub(rt: HostRuntime) -> Result<(), Fail> {
-    let mut bench = Bench::new(&rt, rt.alloc())?;
-    let are_lent = ask(&rt, &mut bench.thread)?;
+    let mut bench = Bench::new(rt, rt.alloc())?;
+    let are_lent = ask(&mut bench.thread)?;
     drop(bench);
     assert_eq!(rt; are_lent, [true, false, true]);
     Ok(())
@@ -57,21 +60,20 @@ fn closures_are_lent_an_active_hub(rt: HostRuntime) -> Result<(), Fail> {
 
 // Sends a message in a thread whose current hub is made from the top of this one's main hub. Answers the numbers of its
 // hubs.
-fn send_beside<R: Wait>(rt: &R, thread: &mut ThreadHub) -> Result<[u64; 2], Refusal> {
-    set_tag(rt, &thread.main, "a", "1")?;
-    let clock = boxed_minute(thread.main.core().allocator())?;
-    let beside = ThreadHub::from_main(rt, Hub::main(thread)?, clock, [4; 32])?;
+fn send_beside<L: CoreLock>(thread: &Thread<L>) -> Result<[u64; 2], Refusal> {
+    set_tag(&thread.main, "a", "1")?;
+    let beside: Thread<L> = ThreadHub::from_main(Hub::main(thread)?, Minute, [4; 32])?;
     beside
         .current
-        .capture_message(rt, "beside", Level::Info, fresh(1))?;
+        .capture_message("beside", Level::Info, fresh(1))?;
     Ok([beside.main.key().number, beside.current.key().number])
 }
 
 #[test]
 fn a_thread_beside_another_has_a_hub_of_its_own(rt: HostRuntime) -> Result<(), Fail> {
-    let mut bench = Bench::new(&rt, rt.alloc())?;
-    let numbers = send_beside(&rt, &mut bench.thread)?;
-    let sent = bench.finish(&rt)?;
+    let bench = Bench::new(rt, rt.alloc())?;
+    let numbers = send_beside(&bench.thread)?;
+    let sent = bench.finish()?;
     let expected = "; event 1 Info at 1 beside a=1";
     assert_eq!(rt; (numbers, sent.as_str()), ([0, 1], expected));
     Ok(())

@@ -1,14 +1,14 @@
 //! Integrations that are lent to closures.
-use crate::workshop::{Bench, id};
+use crate::workshop::{Bench, Callbacks, Thread, id};
 use sentry_core::protocol::{Event, Refusal};
-use sentry_core::{BoxedIntegration, Integration, PlainOptions, ThreadHub, with_integration};
+use sentry_core::{Integration, PlainOptions, with_integration};
+use sentry_lock::core_lock::CoreLock;
 use std::alloc::{AllocError, Global};
-use std::sync::Wait;
 use std::test::Fail;
 
-/// Adds to the moment of each event.
+/// Adds so many nanoseconds to the moment of each event.
 #[derive(Drop)]
-struct Adds(u64);
+pub(crate) struct Adds(pub(crate) u64);
 
 impl Integration for Adds {
     ghost use Rattle.std.specs.Prelude.{Some, ◌+◌, ◌%◌, ◌^◌, codes};
@@ -37,14 +37,8 @@ impl Integration for Adds {
     }
 }
 
-/// An integration of the name `adds`, which adds so many nanoseconds.
-pub(crate) fn boxed_adds(alloc: Global, number: u64) -> Result<BoxedIntegration, AllocError> {
-    let integration: BoxedIntegration = Box::new(alloc, Adds(number))?;
-    Ok(integration)
-}
-
 // What an integration adds to the moment 0.
-fn add_by(integration: &BoxedIntegration, alloc: Global) -> Result<u64, AllocError> {
+fn add_by(integration: &Adds, alloc: Global) -> Result<u64, AllocError> {
     let event = Event::new(alloc, id(1), 0)?;
     match integration.process_event(event, &PlainOptions::new(alloc))? {
         Some(event) => Ok(event.timestamp),
@@ -54,31 +48,26 @@ fn add_by(integration: &BoxedIntegration, alloc: Global) -> Result<u64, AllocErr
 
 // What the integration of a name adds that the current hub lends, and the one that the function on it lends. Each is 0
 // where the closure doesn't run.
-fn add_by_name<R: Wait>(rt: &R, thread: &ThreadHub, name: &str) -> Result<(u64, u64), Refusal> {
+fn add_by_name<L: CoreLock<Callbacks = Callbacks>>(
+    thread: &Thread<L>,
+    name: &str,
+) -> Result<(u64, u64), Refusal> {
     let hub = &thread.current;
     let alloc = hub.core().allocator();
-    let first = hub.with_integration(rt, name, |lent| add_by(lent, alloc).unwrap_or(0))?;
-    let second = with_integration(
-        rt,
-        thread,
-        name,
-        |lent, _hub| add_by(lent, alloc).unwrap_or(0),
-    )?;
+    let first = hub.with_integration(name, |lent| add_by(lent, alloc).unwrap_or(0))?;
+    let second = with_integration(thread, name, |lent, _hub| add_by(lent, alloc).unwrap_or(0))?;
     Ok((first, second))
 }
 
 // Asks for a name that two integrations have, and for one that none has.
-fn ask<R: Wait>(rt: &R, thread: &mut ThreadHub) -> Result<[(u64, u64); 2], Refusal> {
-    Ok([
-        add_by_name(rt, thread, "adds")?,
-        add_by_name(rt, thread, "none")?,
-    ])
+fn ask<L: CoreLock<Callbacks = Callbacks>>(thread: &Thread<L>) -> Result<[(u64, u64); 2], Refusal> {
+    Ok([add_by_name(thread, "adds")?, add_by_name(thread, "none")?])
 }
 
 #[test]
 fn the_first_integration_of_a_name_is_lent(rt: HostRuntime) -> Result<(), Fail> {
-    let mut bench = Bench::new(&rt, rt.alloc())?;
-    let added = ask(&rt, &mut bench.thread)?;
+    let bench = Bench::new(rt, rt.alloc())?;
+    let added = ask(&bench.thread)?;
     drop(bench);
     assert_eq!(rt; added, [(5, 5), (0, 0)]);
     Ok(())

@@ -1,11 +1,15 @@
 //! Tests of what neither a contract nor a scenario shows of hubs as users name them: of the hubs of a thread, of the
-//! functions on its current hub, and of closures, guards, futures, integrations, macros, threads and a worker.
+//! functions on its current hub, and of closures, errors, guards, futures, integrations, macros, threads and a worker.
 #![tactic(auto)]
 
 #[cfg(test)]
 mod breadcrumbs;
 #[cfg(test)]
 mod current;
+#[cfg(test)]
+mod errors;
+#[cfg(test)]
+mod guards;
 #[cfg(test)]
 mod hubs;
 #[cfg(test)]
@@ -14,6 +18,8 @@ mod integrations;
 mod logs;
 #[cfg(test)]
 mod polls;
+#[cfg(test)]
+mod scoped;
 #[cfg(test)]
 mod scopes;
 #[cfg(test)]

@@ -1,9 +1,11 @@
 //! Futures that are bound to hubs.
-use crate::workshop::{Bench, fresh, set_tag};
+use crate::workshop::{Bench, Minute, Thread, fresh, set_tag};
 use futures::executor::block_on;
 use futures::task::{Context, Poll};
 use sentry_core::protocol::Refusal;
-use sentry_core::{BoxedClock, Generator, Hub, HubFuture, Level, SentryFutureExt, ThreadHub};
+use sentry_core::{Generator, HubFuture, Level, SentryFutureExt};
+use sentry_hub::hub::Hub;
+use sentry_lock::core_lock::CoreLock;
 use std::alloc::AllocGlobal;
 use std::random::RandomSource;
 use std::sync::Wait;
@@ -11,17 +13,16 @@ use std::test::Fail;
 
 /// Sends a message on each poll, on the hub that is then current. The second one gives 5.
 #[derive(Drop)]
-struct SendsTwice<R: Wait + Drop> {
-    rt: R,
+struct SendsTwice {
     was_polled: bool,
 }
 
-impl<R: Wait + Drop> HubFuture<Hub, BoxedClock, Generator> for SendsTwice<R> {
+impl<L: CoreLock> HubFuture<Hub<L>, Minute, Generator> for SendsTwice {
     type Output = u8;
 
-    fn poll(&mut self, thread: &mut ThreadHub, cx: &mut Context<'_>) -> Poll<u8> {
+    fn poll(&mut self, thread: &mut Thread<L>, cx: &mut Context<'_>) -> Poll<u8> {
         let hub = &thread.current;
-        drop(hub.capture_message(&self.rt, "polled", Level::Info, fresh(1)));
+        drop(hub.capture_message("polled", Level::Info, fresh(1)));
         if !self.was_polled {
             self.was_polled = true;
             return cx.yield_now();
@@ -31,28 +32,25 @@ impl<R: Wait + Drop> HubFuture<Hub, BoxedClock, Generator> for SendsTwice<R> {
 }
 
 // Runs such a future, bound to a hub with a tag, and sends a message after it. Answers what it gave.
-fn run_bound<R: Wait + RandomSource + AllocGlobal + Copy + Drop>(
+fn run_bound<R: Wait + RandomSource + AllocGlobal, L: CoreLock>(
     rt: &R,
-    thread: &mut ThreadHub,
+    thread: &mut Thread<L>,
 ) -> Result<Option<u8>, Refusal> {
-    let other = Hub::new_from_top(rt, &thread.current)?;
-    set_tag(rt, &other, "b", "2")?;
-    let future = SendsTwice {
-        rt: *rt,
-        was_polled: false,
-    };
+    let other = Hub::new_from_top(&thread.current)?;
+    set_tag(&other, "b", "2")?;
+    let future = SendsTwice { was_polled: false };
     let answer = block_on(rt, future.bind_hub(other, thread)).ok();
     thread
         .current
-        .capture_message(rt, "later", Level::Info, fresh(2))?;
+        .capture_message("later", Level::Info, fresh(2))?;
     Ok(answer)
 }
 
 #[test]
 fn a_future_is_polled_under_its_hub(rt: HostRuntime) -> Result<(), Fail> {
-    let mut bench = Bench::new(&rt, rt.alloc())?;
+    let mut bench = Bench::new(rt, rt.alloc())?;
     let answer = run_bound(&rt, &mut bench.thread)?;
-    let sent = bench.finish(&rt)?;
+    let sent = bench.finish()?;
     let expected =
         "; event 1 Info at 1 polled b=2; event 1 Info at 1 polled b=2; event 2 Info at 2 later";
     assert_eq!(rt; (answer, sent.as_str()), (Some(5), expected));

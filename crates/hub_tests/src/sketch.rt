@@ -1,6 +1,7 @@
 //! What a transport was handed, as one line of text. Moments are told in whole seconds, and ids as numbers.
 use sentry_core::protocol::{
-    EnvelopeItem, Event, Log, LogAttribute, Metric, SessionUpdate, Transaction, Value,
+    Context, EnvelopeItem, Event, Log, LogAttribute, Metric, SessionUpdate, SpanStatus,
+    Transaction, Value,
 };
 use sentry_core::{Envelope, Text, TextMap};
 use std::alloc::{AllocError, Global};
@@ -78,7 +79,22 @@ fn push_moment(text: &mut String, word: &str, moment: Option<u64>) -> Result<(),
     }
 }
 
-// Its id, start, end and tags, and the ends and tags of its spans.
+fn push_status(text: &mut String, status: Option<SpanStatus>) -> Result<(), AllocError> {
+    match status {
+        Some(status) => write!(text, " {status:?}"),
+        None => Ok(()),
+    }
+}
+
+// The status of a transaction, if it has one.
+fn status_of(transaction: &Transaction) -> Option<SpanStatus> {
+    match transaction.contexts.get("trace") {
+        Some(Context::Trace(trace)) => trace.status,
+        _ => None,
+    }
+}
+
+// Its id, start, end, status and tags, and the ends, statuses and tags of its spans.
 fn push_transaction(text: &mut String, transaction: &Transaction) -> Result<(), AllocError> {
     let start = transaction.start_timestamp / SECOND;
     write!(
@@ -87,10 +103,12 @@ fn push_transaction(text: &mut String, transaction: &Transaction) -> Result<(), 
         transaction.event_id.as_u128()
     )?;
     push_moment(text, "until", transaction.timestamp)?;
+    push_status(text, status_of(transaction))?;
     push_tags(text, &transaction.tags)?;
     for span in transaction.spans.as_slice() {
         text.push_str(", span")?;
         push_moment(text, "until", span.timestamp)?;
+        push_status(text, span.status)?;
         push_tags(text, &span.tags)?;
     }
     Ok(())

@@ -1,20 +1,24 @@
 //! The data of transactions and spans as closures are lent it, and values of which some are equal.
-use crate::workshop::{Bench, fresh};
+use crate::workshop::{Bench, Thread, fresh};
+use sentry_core::TransactionContext;
 use sentry_core::protocol::{Refusal, SpanId, TraceId, Value};
-use sentry_core::{Span, ThreadHub, Transaction, TransactionContext, TransactionOrSpan};
+use sentry_hub::performance::{Span, Transaction, TransactionOrSpan};
+use sentry_lock::core_lock::CoreLock;
 use std::alloc::AllocError;
-use std::sync::Wait;
 use std::test::Fail;
 
 // Sets data and a tag of a transaction and of a span by closures. Answers how many data the copy of the first has, and
 // whether that of the other has these.
-fn edit<R: Wait>(rt: &R, transaction: &Transaction, span: &Span) -> Result<(usize, bool), Refusal> {
-    let count = transaction.data(rt, |data| {
+fn edit<L: CoreLock>(
+    transaction: &Transaction<L>,
+    span: &Span<L>,
+) -> Result<(usize, bool), Refusal> {
+    let count = transaction.data(|data| {
         data.set_data("color", Value::Int(1))?;
         data.set_tag("os", "linux")?;
         Ok(data.iter().count())
     })?;
-    let is_there = span.data(rt, |data| {
+    let is_there = span.data(|data| {
         data.set_data("color", Value::Int(1))?;
         data.set_tag("db", "old")?;
         Ok(data.get("color").is_some())
@@ -23,21 +27,23 @@ fn edit<R: Wait>(rt: &R, transaction: &Transaction, span: &Span) -> Result<(usiz
 }
 
 // Edits both twice, finishes them by the thread's clock, and edits them once more.
-fn edit_thrice<R: Wait>(
-    rt: &R,
-    thread: &mut ThreadHub,
-    transaction: &Transaction,
-    span: &Span,
+fn edit_thrice<L: CoreLock>(
+    thread: &mut Thread<L>,
+    transaction: &Transaction<L>,
+    span: &Span<L>,
 ) -> Result<[(usize, bool); 3], Refusal> {
-    let first = edit(rt, transaction, span)?;
-    let second = edit(rt, transaction, span)?;
-    span.finish(rt, thread)?;
-    transaction.finish(rt, thread)?;
-    Ok([first, second, edit(rt, transaction, span)?])
+    let first = edit(transaction, span)?;
+    let second = edit(transaction, span)?;
+    span.finish(thread)?;
+    transaction.finish(thread)?;
+    Ok([first, second, edit(transaction, span)?])
 }
 
 // Whether clones are equal to a transaction and a span, and whether these are equal as what is either.
-fn compare(transaction: &Transaction, span: &Span) -> Result<(bool, bool), AllocError> {
+fn compare<L: CoreLock>(
+    transaction: &Transaction<L>,
+    span: &Span<L>,
+) -> Result<(bool, bool), AllocError> {
     let (whole, part) = (transaction.clone()?, span.clone()?);
     let is_same = whole == *transaction && part == *span;
     let (one, other) = (
@@ -50,7 +56,7 @@ fn compare(transaction: &Transaction, span: &Span) -> Result<(bool, bool), Alloc
 // What edits answer, and comparisons, of a transaction with a span.
 type Found = ([(usize, bool); 3], (bool, bool));
 
-fn trace<R: Wait>(rt: &R, thread: &mut ThreadHub) -> Result<Found, Refusal> {
+fn trace<L: CoreLock>(thread: &mut Thread<L>) -> Result<Found, Refusal> {
     let alloc = thread.current.core().allocator();
     let context = TransactionContext::new(
         alloc,
@@ -59,17 +65,17 @@ fn trace<R: Wait>(rt: &R, thread: &mut ThreadHub) -> Result<Found, Refusal> {
         TraceId([1; 16]),
         SpanId([2; 8]),
     )?;
-    let transaction = thread.current.start_transaction(rt, context, fresh(1))?;
-    let span = transaction.start_child(rt, "op", "", fresh(2))?;
-    let edited = edit_thrice(rt, thread, &transaction, &span)?;
+    let transaction = thread.current.start_transaction(context, fresh(1))?;
+    let span = transaction.start_child("op", "", fresh(2))?;
+    let edited = edit_thrice(thread, &transaction, &span)?;
     Ok((edited, compare(&transaction, &span)?))
 }
 
 #[test]
 fn data_is_lent_as_a_copy_with_its_setters(rt: HostRuntime) -> Result<(), Fail> {
-    let mut bench = Bench::new(&rt, rt.alloc())?;
-    let found = trace(&rt, &mut bench.thread)?;
-    let sent = bench.finish(&rt)?;
+    let mut bench = Bench::new(rt, rt.alloc())?;
+    let found = trace(&mut bench.thread)?;
+    let sent = bench.finish()?;
     let expected = "; transaction 1 since 1 until 60 os=linux, span until 60 db=old";
     // a finished transaction has no data, a finished span keeps its own
     let edited = [(0, false), (1, true), (0, true)];

@@ -1,7 +1,10 @@
 //! Hubs in threads, and a worker.
-use crate::workshop::{LOOKS, Sink, add_client, add_hub, at, fresh, new_sink};
+use crate::workshop::{LOOKS, add_client, add_hub, at, fresh, new_sink};
 use sentry_core::protocol::Refusal;
-use sentry_core::{Client, Envelope, Hub, Level, TickClock, Worker};
+use sentry_core::{Envelope, Level, TickClock, Worker};
+use sentry_hub::hub::Hub;
+use sentry_lock::client::Client;
+use sentry_lock::core_lock::CoreLock;
 use std::alloc::{AllocError, Global};
 use std::sync::atomic::{AtomicU64, Ordering};
 use std::sync::{Arc, Wait};
@@ -10,47 +13,63 @@ use std::thread::{Threads, map_vec, yield_now};
 
 /// A hundred messages on a hub, with the ids of the numbers from the first on.
 #[derive(Drop)]
-struct Job {
+struct Job<L> {
     first: u8,
-    hub: Hub,
+    hub: Hub<L>,
 }
 
-fn send_hundred<R: Wait>(rt: &R, job: Job) -> Result<(), Refusal> {
+fn send_hundred<L: CoreLock>(job: Job<L>) -> Result<(), Refusal> {
     for offset in 0..100u8 {
         let fresh = fresh(job.first.wrapping_add(offset));
-        drop(job.hub.capture_message(rt, "told", Level::Info, fresh)?);
+        drop(job.hub.capture_message("told", Level::Info, fresh)?);
     }
     Ok(())
 }
 
 // Each job in a thread, until all are done.
-fn send_in_threads<R: Threads + Wait + Sync>(rt: &R, jobs: Vec<Job>) -> Result<(), Refusal> {
-    for done in map_vec(rt, jobs, &|job: Job| send_hundred(rt, job))? {
+fn send_in_threads<R: Threads + Sync, L: CoreLock + Send + Sync + 'static>(
+    rt: &R,
+    jobs: Vec<Job<L>>,
+) -> Result<(), Refusal>
+where
+    L::Processor: Send + Sync + 'static,
+    L::Callbacks: Send + Sync + 'static,
+    L::Transport: Send + Sync + 'static,
+{
+    for done in map_vec(rt, jobs, &|job: Job<L>| send_hundred(job))? {
         done?;
     }
     Ok(())
 }
 
 // The messages 1 to 100 on a hub, and the messages 101 to 200 on another.
-fn make_jobs(alloc: Global, hub: Hub, other: Hub) -> Result<Vec<Job>, AllocError> {
-    Ok(vec![in alloc;
-        Job { first: 1, hub },
-        Job {
-            first: 101,
-            hub: other
-        },
-    ]?)
+fn make_jobs<L: Drop>(
+    alloc: Global,
+    hub: Hub<L>,
+    other: Hub<L>,
+) -> Result<Vec<Job<L>>, AllocError> {
+    let mut jobs = Vec::new(alloc);
+    jobs.push(Job { first: 1, hub })?;
+    jobs.push(Job {
+        first: 101,
+        hub: other,
+    })?;
+    Ok(jobs)
 }
 
-// Sends these messages on a hub and on one from its top.
-fn send_two_hundred<R: Threads + Wait + Sync>(
+// Sends these messages on a hub of a client and on one from its top.
+fn send_two_hundred<R: Threads + Sync, L: CoreLock + Send + Sync + 'static>(
     rt: &R,
-    alloc: Global,
-    sink: &Sink,
-) -> Result<(), Refusal> {
-    let (_client, hub) = add_hub(rt, alloc, sink)?;
-    let other = Hub::new_from_top(rt, &hub)?;
-    send_in_threads(rt, make_jobs(alloc, hub, other)?)
+    client: &Client<L>,
+) -> Result<(), Refusal>
+where
+    L::Processor: Send + Sync + 'static,
+    L::Callbacks: Send + Sync + 'static,
+    L::Transport: Send + Sync + 'static,
+{
+    let hub = add_hub(client)?;
+    let other = Hub::new_from_top(&hub)?;
+    send_in_threads(rt, make_jobs(client.core().allocator(), hub, other)?)
 }
 
 // Whether each id from 1 to 200 is that of an envelope.
@@ -69,7 +88,7 @@ fn has_each_id(envelopes: &[Envelope]) -> bool {
 fn two_threads_hand_over_each_message_once(rt: HostRuntime) -> Result<(), Fail> {
     let alloc: Global = rt.alloc();
     let sink = new_sink(alloc)?;
-    send_two_hundred(&rt, alloc, &sink)?;
+    send_two_hundred(&rt, &add_client(rt, alloc, &sink)?)?;
     let envelopes = sink.take(alloc);
     assert_eq!(rt; envelopes.len(), 200);
     assert!(rt; has_each_id(envelopes.as_slice()));
@@ -117,10 +136,15 @@ fn unset_word(alloc: Global) -> Result<Arc<AtomicU64>, AllocError> {
 }
 
 // How many moments a worker of the client is told until it ends by itself.
-fn count_moments<R: Threads + Wait + Copy + Send + 'static>(
+fn count_moments<R: Threads + Wait + Copy + Send + 'static, L: CoreLock + Send + Sync + 'static>(
     rt: R,
-    client: Client,
-) -> Result<u64, Refusal> {
+    client: Client<L>,
+) -> Result<u64, Refusal>
+where
+    L::Processor: Send + Sync + 'static,
+    L::Callbacks: Send + Sync + 'static,
+    L::Transport: Send + Sync + 'static,
+{
     let ended = unset_word(client.core().allocator())?;
     let clock = CountedTicks {
         told: 0,
@@ -133,19 +157,24 @@ fn count_moments<R: Threads + Wait + Copy + Send + 'static>(
 }
 
 // The same of a client that is held, and then of it once it is dropped.
-fn count_twice<R: Threads + Wait + Copy + Send + 'static>(
+fn count_twice<R: Threads + Wait + Copy + Send + 'static, L: CoreLock + Send + Sync + 'static>(
     rt: R,
-    alloc: Global,
-) -> Result<(u64, u64), Refusal> {
-    let client = add_client(&rt, alloc, &new_sink(alloc)?)?;
+    client: Client<L>,
+) -> Result<(u64, u64), Refusal>
+where
+    L::Processor: Send + Sync + 'static,
+    L::Callbacks: Send + Sync + 'static,
+    L::Transport: Send + Sync + 'static,
+{
     let held = count_moments(rt, client.clone()?)?;
-    client.drop_client(&rt)?;
+    client.drop_client()?;
     let gone = count_moments(rt, client)?;
     Ok((held, gone))
 }
 
 #[test]
 fn a_worker_ends_at_the_first_tick_of_a_client_that_is_gone(rt: HostRuntime) -> Result<(), Fail> {
-    assert_eq!(rt; count_twice(rt, rt.alloc())?, (3, 1));
+    let client = add_client(rt, rt.alloc(), &new_sink(rt.alloc())?)?;
+    assert_eq!(rt; count_twice(rt, client)?, (3, 1));
     Ok(())
 }

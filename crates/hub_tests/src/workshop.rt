@@ -1,11 +1,16 @@
 //! What the tests are made of: a client with a collecting transport, the hubs of a thread, options, ids and moments.
-use crate::integrations::boxed_adds;
+use crate::integrations::Adds;
 use crate::sketch::sketch;
+use scenario_run::callbacks::{BreadcrumbFilter, Handler, LogFilter, MetricFilter, NameSampler};
 use sentry_core::protocol::{Draw, Fresh, Refusal, SpanId, TraceId, Uuid};
-use sentry_core::{
-    BoxedClock, BoxedTransport, Client, ClientOptions, Clock, Envelope, Hub, Items, Scope,
-    SendEnvelopes, SharedCore, ThreadHub, Transport,
-};
+use sentry_core::{Clock, Envelope, Generator, Items, SendEnvelopes, Transport, Waiting};
+use sentry_hub::hub::Hub;
+use sentry_lock::client::Client;
+use sentry_lock::core_lock::{CoreLock, Locked};
+use sentry_lock::shared_core::SharedCore;
+use sentry_options::clientoptions::{ClientCallbacks, ClientOptions};
+use sentry_scope::scope::Scope;
+use sentry_thread_hub::thread_hub::ThreadHub;
 use std::alloc::{AllocError, Global};
 use std::sync::{Arc, Mutex, Wait};
 use std::thread::yield_now;
@@ -54,39 +59,54 @@ impl Transport for Collector {
     }
 }
 
-// Options with a DSN and a release, which sample all traces. Two integrations have the name `adds`.
-fn options(alloc: Global) -> Result<ClientOptions, Refusal> {
+/// The callbacks of the clients. Only integrations are set.
+pub(crate) type Callbacks = ClientCallbacks<
+    Handler,
+    Adds,
+    BreadcrumbFilter,
+    LogFilter,
+    MetricFilter,
+    NameSampler,
+>;
+
+/// The lock of the cores. What acts on hubs is generic in the lock, which is proved faster than over this one.
+pub(crate) type Lock<R> = Locked<Handler, Callbacks, Sink, Waiting<R>>;
+
+// With a DSN and a release, and all traces sampled. Two integrations have the name `adds`.
+fn options(alloc: Global) -> Result<ClientOptions<Callbacks>, Refusal> {
     ClientOptions::from_dsn(alloc, "https://public@sentry.invalid/1")?
         .release("app")?
         .traces_sample_rate(1_000_000)?
-        .add_integration(boxed_adds(alloc, 5)?)?
-        .add_integration(boxed_adds(alloc, 7)?)
-}
-
-// A share of the sink.
-fn boxed_share(alloc: Global, sink: &Sink) -> Result<BoxedTransport, AllocError> {
-    let transport: BoxedTransport = Box::new(alloc, sink.clone()?)?;
-    Ok(transport)
+        .add_integration(Adds(5))?
+        .add_integration(Adds(7))
 }
 
 /// A client that sends to the sink, from the first second on.
-pub(crate) fn add_client<R: Wait>(rt: &R, alloc: Global, sink: &Sink) -> Result<Client, Refusal> {
-    let core = SharedCore::new(alloc, 5)?;
-    let setup = core.client_setup(rt, options(alloc)?)?;
-    let transport = boxed_share(alloc, sink)?;
-    Client::with_options(rt, &core, setup, Some(transport), at(1))
-}
-
-/// Such a client, and a hub with it, whose scope sets nothing.
-pub(crate) fn add_hub<R: Wait>(
-    rt: &R,
+pub(crate) fn add_client<R: Wait + Drop>(
+    rt: R,
     alloc: Global,
     sink: &Sink,
-) -> Result<(Client, Hub), Refusal> {
-    let client = add_client(rt, alloc, sink)?;
-    let scope = Scope::new(alloc, TraceId([7; 16]), SpanId([8; 8]));
-    let hub = Hub::new(rt, client.core(), Some(&client), scope)?;
-    Ok((client, hub))
+) -> Result<Client<Lock<R>>, Refusal> {
+    let core = SharedCore::new(Waiting(rt), alloc, 5)?;
+    let setup = core.client_setup(options(alloc)?)?;
+    Client::with_options(&core, setup, Some(sink.clone()?), at(1))
+}
+
+/// A hub of a client, whose scope sets nothing.
+pub(crate) fn add_hub<L: CoreLock>(client: &Client<L>) -> Result<Hub<L>, Refusal> {
+    let core = client.core();
+    let scope = Scope::new(core.allocator(), TraceId([7; 16]), SpanId([8; 8]));
+    Hub::new(core, Some(client), scope)
+}
+
+// None, as long as the hub is lent. A bare `None` gets no proof here, since it tells of no such time.
+fn no_client<L>(_hub: &Hub<L>) -> Option<&Client<L>> {
+    None
+}
+
+/// Takes the client from the top layer of a hub.
+pub(crate) fn unbind_client<L: CoreLock>(hub: &Hub<L>) -> Result<(), Refusal> {
+    hub.bind_client(no_client(hub))
 }
 
 /// Stands at the second 60.
@@ -99,24 +119,21 @@ impl Clock for Minute {
     }
 }
 
-/// A clock that stands at the second 60.
-pub(crate) fn boxed_minute(alloc: Global) -> Result<BoxedClock, AllocError> {
-    let clock: BoxedClock = Box::new(alloc, Minute)?;
-    Ok(clock)
-}
+/// The hubs of a thread.
+pub(crate) type Thread<L> = ThreadHub<Hub<L>, Minute, Generator>;
 
 /// What a thread draws from.
 pub(crate) const SEED: [u8; 32] = [3; 32];
 
 /// A client, the hubs of a thread whose main and current hub is its hub 0, and what the client sends to.
-pub(crate) struct Bench {
+pub(crate) struct Bench<L> {
     alloc: Global,
     sink: Sink,
-    client: Client,
-    pub(crate) thread: ThreadHub,
+    client: Client<L>,
+    pub(crate) thread: Thread<L>,
 }
 
-impl Drop for Bench {
+impl<L: Drop> Drop for Bench<L> {
     fn drop(self) {
         let Bench {
             alloc: _,
@@ -127,12 +144,20 @@ impl Drop for Bench {
     }
 }
 
-impl Bench {
+impl<R: Wait + Drop> Bench<Lock<R>> {
     /// Nothing is sent yet.
-    pub(crate) fn new<R: Wait>(rt: &R, alloc: Global) -> Result<Bench, Refusal> {
+    pub(crate) fn new(rt: R, alloc: Global) -> Result<Bench<Lock<R>>, Refusal> {
         let sink = new_sink(alloc)?;
-        let (client, hub) = add_hub(rt, alloc, &sink)?;
-        let thread = ThreadHub::new(hub, boxed_minute(alloc)?, SEED)?;
+        let client = add_client(rt, alloc, &sink)?;
+        Bench::over(client, sink)
+    }
+}
+
+impl<L: CoreLock> Bench<L> {
+    // The hub is of this client, which sends to this sink.
+    fn over(client: Client<L>, sink: Sink) -> Result<Bench<L>, Refusal> {
+        let alloc = client.core().allocator();
+        let thread = ThreadHub::new(add_hub(&client)?, Minute, SEED)?;
         Ok(Bench {
             alloc,
             sink,
@@ -142,16 +167,16 @@ impl Bench {
     }
 
     /// What is sent until the client is flushed, as a text.
-    pub(crate) fn finish<R: Wait>(self, rt: &R) -> Result<String, Refusal> {
-        self.client.flush(rt, None)?;
+    pub(crate) fn finish(self) -> Result<String, Refusal> {
+        self.client.flush(None)?;
         let sent = self.sink.take(self.alloc);
         Ok(sketch(self.alloc, sent.as_slice())?)
     }
 }
 
 /// Sets a tag by a closure, which answers whether the copy of the scope that it is lent has no tags.
-pub(crate) fn set_tag<R: Wait>(rt: &R, hub: &Hub, key: &str, value: &str) -> Result<bool, Refusal> {
-    hub.configure_scope(rt, at(1), |edits| {
+pub(crate) fn set_tag<L: CoreLock>(hub: &Hub<L>, key: &str, value: &str) -> Result<bool, Refusal> {
+    hub.configure_scope(at(1), |edits| {
         edits.set_tag(key, value)?;
         Ok(edits.scope().tags.get().is_none())
     })

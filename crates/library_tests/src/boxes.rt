@@ -91,6 +91,48 @@ pub(crate) fn boxed_multiplies(
     Ok(integration)
 }
 
+/// Sets both limits of a client: batches of nothing, and so many spans.
+#[derive(Drop)]
+struct Limits {
+    max_spans: usize,
+}
+
+impl Integration for Limits {
+    ghost use Rattle.std.specs.Prelude.{Some, codes};
+
+    ghost meaning = { λ s. record {
+      name = codes "limits";
+      setup = λ options. record options { max_spans = s.max_spans; max_batch_items = 0 };
+      process_event = λ _ event. Some event;
+    } };
+
+    fn name(&self) -> &str {
+        "limits"
+    }
+
+    fn setup(&self, options: &mut PlainOptions) -> Result<(), AllocError> {
+        options.max_spans = self.max_spans;
+        options.max_batch_items = 0;
+        Ok(())
+    }
+
+    fn process_event(
+        &self,
+        event: Event,
+        _options: &PlainOptions,
+    ) -> Result<Option<Event>, AllocError> {
+        Ok(Some(event))
+    }
+}
+
+pub(crate) fn boxed_limits(
+    alloc: Global,
+    max_spans: usize,
+) -> Result<BoxedIntegration, AllocError> {
+    let integration: BoxedIntegration = Box::new(alloc, Limits { max_spans })?;
+    Ok(integration)
+}
+
 /// Drops the breadcrumbs from a moment on. If that is 0, it is refused its memory, so that a call of it shows.
 #[derive(Drop)]
 struct KeepsUntil(u64);

@@ -1,12 +1,12 @@
 //! Engines over callbacks in boxes, as users of the library hand them in.
 use crate::boxes::{
-    boxed_adds, boxed_gives, boxed_hides_units, boxed_keeps_until, boxed_multiplies,
+    boxed_adds, boxed_gives, boxed_hides_units, boxed_keeps_until, boxed_limits, boxed_multiplies,
 };
 use sentry_core::engine::{Engine, Out};
 use sentry_core::metrics::{IntoProtocolMetric, gauge};
 use sentry_core::protocol::{
-    Breadcrumb, ClientKey, Draw, EnvelopeItem, Event, Fresh, HubKey, Label, Metric, Refusal,
-    SpanId, TraceId, TransactionOrSpanKey, Unit, Uuid,
+    Breadcrumb, ClientKey, Draw, EnvelopeItem, Event, Fresh, HubKey, Label, Log, LogLevel, Metric,
+    Refusal, SpanId, TraceId, TransactionOrSpanKey, Unit, Uuid,
 };
 use sentry_core::types::Dsn;
 use sentry_core::{BoxedIntegration, ClientOptions, Level, Scope, TransactionContext};
@@ -272,5 +272,29 @@ fn set_up_changes_the_options(rt: HostRuntime) -> Result<(), Fail> {
     // a DSN that is given opens no slot
     let given = ClientOptions::new(alloc).add_integration(giving(alloc)?)?;
     assert!(rt; facts(alloc, given) == Ok((false, true, 1)));
+    Ok(())
+}
+
+/// How many logs make a batch and how many spans a transaction keeps, where the set-up changed both, and how many
+/// envelopes a log sends.
+fn limits(alloc: Global) -> Result<(usize, usize, usize), Refusal> {
+    let mut engine = Engine::new(alloc, 0);
+    let options = ClientOptions::from_dsn(alloc, DSN)?
+        .max_spans(2)
+        .max_batch_items(3)
+        .add_integration(boxed_limits(alloc, 7)?)?;
+    let client = engine.add_client(options, true, LABEL, 0)?.reply;
+    let scope = Scope::new(alloc, TraceId([7; 16]), SpanId([8; 8]));
+    let hub = engine.new_hub(Some(client), scope)?.reply;
+    let log = Log::new(alloc, LogLevel::Info, "sold", 1)?;
+    let sent = engine.capture_log(hub, log)?.sent.len();
+    let options = engine.options(client)?.reply;
+    Ok((options.plain.max_batch_items, options.plain.max_spans, sent))
+}
+
+#[test]
+fn set_up_changes_the_limits(rt: HostRuntime) -> Result<(), Fail> {
+    // a batch of nothing counts as one of a single log
+    assert!(rt; limits(rt.alloc()) == Ok((1, 7, 1)));
     Ok(())
 }

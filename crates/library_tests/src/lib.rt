@@ -11,3 +11,5 @@ mod engines;
 #[cfg(test)]
 mod names;
 pub mod promises;
+#[cfg(test)]
+mod streams;

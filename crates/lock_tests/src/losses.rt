@@ -1,77 +1,65 @@
 //! Losses of one client: what is drained, what a report tells, and how the words end.
-use crate::workshop::{Held, Notebook, event, fresh, options};
+use crate::workshop::{Held, Lock, Notebook, Options, event, fresh, options};
 use sentry_base::protocol::{ClientKey, Envelope, Refusal};
+use sentry_lock::core_lock::{Gate, Waiting};
 use sentry_lock::transport::Transport;
 use std::alloc::Global;
-use std::sync::{Arc, Wait};
+use std::sync::Arc;
 use std::test::Fail;
 
 /// What comes of a loss while the recorder is held: whether the words are closed, how many errors are pending, how many
 /// are drained then, and how many are pending after that.
-fn lose_while_held<R: Wait, T: Transport + Drop>(
-    rt: &R,
-    held: &mut Held<T>,
+fn lose_while_held<T: Transport + Drop, W: Gate + Drop>(
+    held: &mut Held<Lock<T, W>>,
 ) -> Result<(bool, [u64; 3]), Refusal> {
-    let is_closed = held.close_losses(rt)?;
+    let is_closed = held.close_losses()?;
     held.lose_error();
-    let before = held.pending(rt)?;
-    let drained = held
-        .client
-        .core()
-        .lock(rt)
-        .core
-        .drain_and_absorb(held.label)?;
-    let errors = match drained {
+    let before = held.pending()?;
+    let errors = match held.drain()? {
         Some(losses) => losses.quantities[6],
         None => 0,
     };
-    Ok((is_closed, [before, errors, held.pending(rt)?]))
+    Ok((is_closed, [before, errors, held.pending()?]))
 }
 
 /// What comes of one more when the recorder is let go: whether the words are closed then, and how many errors are
 /// pending; and both once more.
-fn lose_and_let_go<R: Wait, T: Transport + Drop>(
-    rt: &R,
-    held: &mut Held<T>,
+fn lose_and_let_go<T: Transport + Drop, W: Gate + Drop>(
+    held: &mut Held<Lock<T, W>>,
 ) -> Result<[(bool, u64); 2], Refusal> {
     held.lose_error();
     held.recorder = None;
-    let first = (held.close_losses(rt)?, held.pending(rt)?);
-    Ok([first, (held.close_losses(rt)?, held.pending(rt)?)])
+    let first = (held.close_losses()?, held.pending()?);
+    Ok([first, (held.close_losses()?, held.pending()?)])
 }
 
 #[test]
 fn words_stay_open_while_a_recorder_is_held(rt: HostRuntime) -> Result<(), Fail> {
     let alloc: Global = rt.alloc();
-    let mut held: Held<Arc<Notebook<HostRuntime>>> = Held::new(
-        &rt,
-        alloc,
-        options(alloc, false)?,
-        None,
-    )?;
-    let found = lose_while_held(&rt, &mut held)?;
+    let transport: Option<Arc<Notebook<HostRuntime>>> = None;
+    let mut held = Held::new(Waiting(rt), alloc, options(alloc, false)?, transport)?;
+    let found = lose_while_held(&mut held)?;
     assert!(rt; found == (false, [0, 1, 1]));
     // a second time nothing is left to end
-    assert!(rt; lose_and_let_go(&rt, &mut held)? == [(true, 1), (true, 0)]);
+    assert!(rt; lose_and_let_go(&mut held)? == [(true, 1), (true, 0)]);
     Ok(())
 }
 
 /// Why a capture is refused after a loss, and a flush of a client that isn't there after another one; and how many
 /// errors are pending before them, after the first and after the second.
-fn lose_before_refused_calls<R: Wait, T: Transport + Drop>(
-    rt: &R,
+fn lose_before_refused_calls<T: Transport + Drop, W: Gate + Drop>(
     alloc: Global,
-    held: &mut Held<T>,
+    held: &mut Held<Lock<T, W>>,
 ) -> Result<([Option<Refusal>; 2], [u64; 3]), Refusal> {
     let event = event(alloc, 1)?;
     held.lose_error();
-    let before = held.pending(rt)?;
-    let starved = held.client.capture_event(rt, event, None, fresh(1)).err();
-    let first = held.pending(rt)?;
+    let before = held.pending()?;
+    let starved = held.client.capture_event(event, None, fresh(1)).err();
+    let first = held.pending()?;
     held.lose_error();
     let gone = held.client.core().client(ClientKey { tag: 1, number: 9 })?;
-    let stale = gone.flush(rt, None).err();
-    Ok(([starved, stale], [before, first, held.pending(rt)?]))
+    let stale = gone.flush(None).err();
+    Ok(([starved, stale], [before, first, held.pending()?]))
 }
 
 #[test]
@@ -79,34 +67,34 @@ fn what_was_drained_stays_absorbed_if_the_call_is_refused(rt: HostRuntime) -> Re
     let alloc: Global = rt.alloc();
     let notebook = Arc::new(alloc, Notebook::new(rt, alloc, true))?;
     let transport = Some(notebook.clone()?);
-    let mut held = Held::new(&rt, alloc, options(alloc, true)?, transport)?;
-    let (refusals, errors) = lose_before_refused_calls(&rt, alloc, &mut held)?;
+    let mut held = Held::new(Waiting(rt), alloc, options(alloc, true)?, transport)?;
+    let (refusals, errors) = lose_before_refused_calls(alloc, &mut held)?;
     assert!(rt; refusals == [Some(Refusal::OutOfMemory), Some(Refusal::Stale)]);
     assert!(rt; errors == [0, 1, 1]);
-    assert!(rt; notebook.take(alloc).ids.is_empty());
+    assert!(rt; notebook.take(alloc).asked.is_empty());
     Ok(())
 }
 
 /// Drops a client, whose transport then loses an error. Answers what a flush of another client of the core does, after
 /// an envelope of that one.
-fn drop_and_lose<R: Wait, T: Transport + Drop>(
-    rt: &R,
+fn drop_and_lose<T: Transport + Drop, W: Gate + Drop>(
     alloc: Global,
-    held: &mut Held<T>,
+    held: &mut Held<Lock<T, W>>,
+    options: Options,
     transport: T,
 ) -> Result<bool, Refusal> {
     let core = held.client.core();
-    let other = Held::on(rt, core, options(alloc, false)?, Some(transport))?;
-    held.client.drop_client(rt)?;
+    let other = Held::on(core, options, Some(transport))?;
+    held.client.drop_client()?;
     held.lose_error();
-    other.client.send_envelope(rt, Envelope::new(alloc))?;
-    other.client.flush(rt, None)
+    other.client.send_envelope(Envelope::new(alloc))?;
+    other.client.flush(None)
 }
 
 /// Why the calls on the losses of a client are refused.
-fn refusals<R: Wait, T: Transport + Drop>(rt: &R, held: &Held<T>) -> [Option<Refusal>; 3] {
-    let mut guard = held.client.core().lock(rt);
-    let core = &mut guard.core;
+fn refusals<T: Transport + Drop, W: Gate + Drop>(held: &Held<Lock<T, W>>) -> [Option<Refusal>; 3] {
+    let mut guard = held.client.core().lock();
+    let core = &mut guard.under.core;
     [
         core.drain_and_absorb(held.label).err(),
         core.take_report(held.label).err(),
@@ -119,9 +107,10 @@ fn the_losses_of_a_dropped_client_reach_no_report(rt: HostRuntime) -> Result<(),
     let alloc: Global = rt.alloc();
     let notebook = Arc::new(alloc, Notebook::new(rt, alloc, true))?;
     let transport = Some(notebook.clone()?);
-    let mut held = Held::new(&rt, alloc, options(alloc, false)?, transport)?;
-    assert!(rt; drop_and_lose(&rt, alloc, &mut held, notebook.clone()?)?);
+    let mut held = Held::new(Waiting(rt), alloc, options(alloc, false)?, transport)?;
+    let (others, transport) = (options(alloc, false)?, notebook.clone()?);
+    assert!(rt; drop_and_lose(alloc, &mut held, others, transport)?);
     assert!(rt; notebook.take(alloc).errors_told == 0);
-    assert!(rt; refusals(&rt, &held) == [Some(Refusal::ForeignLosses); 3]);
+    assert!(rt; refusals(&held) == [Some(Refusal::ForeignLosses); 3]);
     Ok(())
 }

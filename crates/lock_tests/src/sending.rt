@@ -2,38 +2,37 @@
 ghost use Rattle.std.specs.Prelude.{◌≡◌, ◌∷◌, [], IfOk};
 
 use crate::quiet::{Passes, Quiet};
-use crate::workshop::{Client, Held, Notebook, Options, SharedCore, event, options};
+use crate::workshop::{Held, Lock, Note, Notebook, Options, event, options};
 use sentry_base::protocol::{Envelope, EnvelopeItem, Refusal};
 use sentry_engine::call::{Call, ClientCall};
+use sentry_lock::client::Client;
+use sentry_lock::core_lock::{CoreLock, Waiting};
+use sentry_lock::shared_core::SharedCore;
 use sentry_lock::transport::{
     BoxedTransport, NoOpTransport, Transport, TransportFactory, TransportOptions,
 };
 use std::alloc::{AllocError, Global};
-use std::sync::{Arc, Wait};
+use std::sync::Arc;
 use std::test::Fail;
 
-type ClientCalls = Vec<Call<Passes, Quiet>>;
-
 /// What a client answers to two flushes and a shutdown, and to one more flush and shutdown after that.
-fn flush_and_close<R: Wait, T: Transport + Drop>(
-    rt: &R,
-    client: &Client<T>,
-) -> Result<[bool; 5], Refusal> {
+fn flush_and_close<L: CoreLock>(client: &Client<L>) -> Result<[bool; 5], Refusal> {
     Ok([
-        client.flush(rt, Some(7))?,
-        client.flush(rt, None)?,
-        client.close(rt, Some(9))?,
-        client.flush(rt, Some(1))?,
-        client.close(rt, Some(1))?,
+        client.flush(Some(7))?,
+        client.flush(None)?,
+        client.close(Some(9))?,
+        client.flush(Some(1))?,
+        client.close(Some(1))?,
     ])
 }
 
 #[test]
 fn without_a_transport_flush_and_close_are_true(rt: HostRuntime) -> Result<(), Fail> {
     let alloc: Global = rt.alloc();
-    let held: Held<Arc<NoOpTransport>> = Held::new(&rt, alloc, options(alloc, false)?, None)?;
-    assert!(rt; flush_and_close(&rt, &held.client)? == [true; 5]);
-    assert!(rt; !held.client.is_enabled(&rt)?);
+    let transport: Option<Arc<NoOpTransport>> = None;
+    let held = Held::new(Waiting(rt), alloc, options(alloc, false)?, transport)?;
+    assert!(rt; flush_and_close(&held.client)? == [true; 5]);
+    assert!(rt; !held.client.is_enabled()?);
     Ok(())
 }
 
@@ -43,13 +42,12 @@ fn the_answers_of_a_shared_transport_are_handed_on(rt: HostRuntime) -> Result<()
     let notebook = Arc::new(alloc, Notebook::new(rt, alloc, false))?;
     let transport = Some(notebook.clone()?);
     let options = options(alloc, false)?.shutdown_timeout(5);
-    let held = Held::new(&rt, alloc, options, transport)?;
-    let answers = flush_and_close(&rt, &held.client)?;
+    let held = Held::new(Waiting(rt), alloc, options, transport)?;
+    let answers = flush_and_close(&held.client)?;
     // the slot of the client is empty once it was closed
     assert!(rt; answers == [false, false, false, true, true]);
-    let notes = notebook.take(alloc);
-    assert!(rt; notes.flushes.as_slice() == [7, 5].as_slice());
-    assert!(rt; notes.shutdowns.as_slice() == [9].as_slice());
+    let expected = [Note::Flush(7), Note::Flush(5), Note::Shutdown(9)];
+    assert!(rt; notebook.take(alloc).asked.as_slice() == expected.as_slice());
     Ok(())
 }
 
@@ -60,22 +58,18 @@ fn envelope(alloc: Global, number: u64) -> Result<Envelope, AllocError> {
     Ok(envelope)
 }
 
-fn both(
+fn both<P: Drop, C: Drop>(
     alloc: Global,
-    first: Call<Passes, Quiet>,
-    second: Call<Passes, Quiet>,
-) -> Result<ClientCalls, AllocError>
+    first: Call<P, C>,
+    second: Call<P, C>,
+) -> Result<Vec<Call<P, C>>, AllocError>
     ensures { IfOk result (λ both. both.items ≡ first ∷ second ∷ []) }
 {
     Ok(vec![in alloc; first, second]?)
 }
 
 /// Sends an envelope with the number 1 and one with the number 2, by two calls in one hold of the lock.
-fn send_both<R: Wait, T: Transport + Drop>(
-    rt: &R,
-    alloc: Global,
-    client: &Client<T>,
-) -> Result<(), Refusal> {
+fn send_both<L: CoreLock>(alloc: Global, client: &Client<L>) -> Result<(), Refusal> {
     let (first, second) = (envelope(alloc, 1)?, envelope(alloc, 2)?);
     let client_key = client.key();
     let first = Call::Client(ClientCall::SendEnvelope {
@@ -87,7 +81,7 @@ fn send_both<R: Wait, T: Transport + Drop>(
         envelope: second,
     });
     let calls = both(alloc, first, second)?;
-    client.core().call_all(rt, calls)
+    client.core().call_all(calls)
 }
 
 #[test]
@@ -95,9 +89,10 @@ fn a_list_of_calls_reaches_the_transport_in_order(rt: HostRuntime) -> Result<(),
     let alloc: Global = rt.alloc();
     let notebook = Arc::new(alloc, Notebook::new(rt, alloc, true))?;
     let transport = Some(notebook.clone()?);
-    let held = Held::new(&rt, alloc, options(alloc, false)?, transport)?;
-    send_both(&rt, alloc, &held.client)?;
-    assert!(rt; notebook.take(alloc).ids.as_slice() == [1, 2].as_slice());
+    let held = Held::new(Waiting(rt), alloc, options(alloc, false)?, transport)?;
+    send_both(alloc, &held.client)?;
+    let expected = [Note::Send(1), Note::Send(2)];
+    assert!(rt; notebook.take(alloc).asked.as_slice() == expected.as_slice());
     Ok(())
 }
 
@@ -140,8 +135,12 @@ fn create(
 #[test]
 fn a_setup_gives_the_options_of_its_transport_once(rt: HostRuntime) -> Result<(), Fail> {
     let alloc: Global = rt.alloc();
-    let core: SharedCore<Arc<NoOpTransport>> = SharedCore::new(alloc, 1)?;
-    let mut setup = core.client_setup(&rt, options(alloc, false)?)?;
+    let core: SharedCore<Lock<Arc<NoOpTransport>, Waiting<HostRuntime>>> = SharedCore::new(
+        Waiting(rt),
+        alloc,
+        1,
+    )?;
+    let mut setup = core.client_setup(options(alloc, false)?)?;
     let Some(made) = setup.transport_options()? else {
         panic!(rt; "no options")
     };
@@ -150,6 +149,6 @@ fn a_setup_gives_the_options_of_its_transport_once(rt: HostRuntime) -> Result<()
     assert!(rt; setup.transport_options()?.is_none());
     let bare = Options::with_callbacks(alloc, Quiet { is_starving: false });
     assert!(rt; TransportOptions::try_from_client_options(&bare)?.is_none());
-    assert!(rt; core.client_setup(&rt, bare)?.transport_options()?.is_none());
+    assert!(rt; core.client_setup(bare)?.transport_options()?.is_none());
     Ok(())
 }

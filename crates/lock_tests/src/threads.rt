@@ -1,13 +1,15 @@
 //! Threads that send, flush and lose errors at once.
 ghost use Rattle.std.specs.Prelude.{◌≡◌};
 
-use crate::workshop::{Client, Held, Notebook, event, fresh, lose_error, options};
+use crate::workshop::{Held, Lock, Note, Notebook, event, fresh, lose_error, options};
 use sentry_base::protocol::{Envelope, Refusal};
 use sentry_client_reports::client_reports::Recorder;
+use sentry_lock::client::Client;
+use sentry_lock::core_lock::{Gate, Waiting};
 use sentry_lock::transport::Transport;
 use sentry_scope::scope::Scope;
 use std::alloc::{AllocError, Global};
-use std::sync::{Arc, Wait};
+use std::sync::Arc;
 use std::test::Fail;
 use std::thread::{Threads, join, map_vec};
 
@@ -33,51 +35,65 @@ fn four_recorders(alloc: Global, recorder: Option<Recorder>) -> Result<Vec<Recor
 }
 
 /// Sends a hundred messages from this number on, and after each one an empty envelope, and flushes.
-fn send_hundred<R: Wait, T: Transport + Drop>(
-    rt: &R,
+fn send_hundred<T: Transport + Drop, W: Gate + Drop>(
     alloc: Global,
-    client: &Client<T>,
+    client: &Client<Lock<T, W>>,
     first: u64,
 ) -> Result<(), Refusal> {
     for number in first..first.saturating_add(100) {
-        drop(client.capture_event(rt, event(alloc, number)?, None, fresh(number))?);
-        drop(client.flush(rt, Some(1))?);
-        client.send_envelope(rt, Envelope::new(alloc))?;
+        drop(client.capture_event(event(alloc, number)?, None, fresh(number))?);
+        drop(client.flush(Some(1))?);
+        client.send_envelope(Envelope::new(alloc))?;
     }
     Ok(())
 }
 
 /// The same of two clients, in threads of their own.
-fn send_in_two_threads<R: Threads + Wait + Sync, T: Transport + Drop + Send + Sync>(
+fn send_in_two_threads<
+    R: Threads + Sync,
+    T: Transport + Drop + Send + Sync,
+    W: Gate + Drop + Send + Sync,
+>(
     rt: &R,
     alloc: Global,
-    client: &Client<T>,
-    other: &Client<T>,
+    client: &Client<Lock<T, W>>,
+    other: &Client<Lock<T, W>>,
 ) -> Result<(), Refusal> {
     let (first, second) = join(
         rt,
-        || send_hundred(rt, alloc, client, 1),
-        || send_hundred(rt, alloc, other, 101),
+        || send_hundred(alloc, client, 1),
+        || send_hundred(alloc, other, 101),
     );
     first?;
     second
 }
 
-/// Whether these are the numbers from 1 to 200, each of them once, in any order.
-fn is_each_once(numbers: &[u128]) -> bool {
-    let mut all = numbers.len() == 200;
+/// How many of these are no flushes.
+fn count_sent(asked: &[Note]) -> u64 {
+    let mut sent = 0u64;
+    for note in asked {
+        if *note != Note::Flush(1) {
+            sent = sent.wrapping_add(1);
+        }
+    }
+    sent
+}
+
+/// Whether these are flushes and the events from 1 to 200, each of them once, in any order.
+fn is_each_once(asked: &[Note]) -> bool {
+    let mut all = count_sent(asked) == 200;
     for number in 1..201u64 {
-        all &= numbers.contains(&u128::from(number));
+        all &= asked.contains(&Note::Send(u128::from(number)));
     }
     all
 }
 
 /// Splits the recorder of a client for four threads, which lose a thousand errors each, while two more send.
-fn lose_and_send<R: Threads + Wait + Sync, T: Transport + Drop + Send + Sync>(
-    rt: &R,
-    alloc: Global,
-    held: &mut Held<T>,
-) -> Result<(), Fail> {
+fn lose_and_send<
+    R: Threads + Sync,
+    T: Transport + Drop + Send + Sync,
+    W: Gate + Drop + Send + Sync,
+>(rt: &R, alloc: Global, held: &mut Held<Lock<T, W>>) -> Result<(), Fail> {
     let recorders = four_recorders(alloc, held.recorder.take())?;
     let other = held.client.clone()?;
     let client = &held.client;
@@ -96,12 +112,12 @@ fn threads_lose_and_send_at_once(rt: HostRuntime) -> Result<(), Fail> {
     let alloc: Global = rt.alloc();
     let notebook = Arc::new(alloc, Notebook::new(rt, alloc, true))?;
     let transport = Some(notebook.clone()?);
-    let mut held = Held::new(&rt, alloc, options(alloc, false)?, transport)?;
+    let mut held = Held::new(Waiting(rt), alloc, options(alloc, false)?, transport)?;
     lose_and_send(&rt, alloc, &mut held)?;
-    assert!(rt; held.close_losses(&rt)?);
-    let left = held.pending(&rt)?;
+    assert!(rt; held.close_losses()?);
+    let left = held.pending()?;
     let notes = notebook.take(alloc);
     assert!(rt; notes.errors_told.wrapping_add(left) == 4000);
-    assert!(rt; is_each_once(notes.ids.as_slice()));
+    assert!(rt; is_each_once(notes.asked.as_slice()));
     Ok(())
 }

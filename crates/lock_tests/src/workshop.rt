@@ -1,13 +1,13 @@
 //! What the tests are made of: a transport that takes notes, clients, events and losses.
-
 use crate::quiet::{Passes, Quiet};
 use sentry_base::protocol::{
     Category, ClientReport, Draw, Envelope, EnvelopeItem, Event, Fresh, Label, LossSource, Losses,
     Reason, Refusal, SpanId, TraceId, Uuid,
 };
 use sentry_client_reports::client_reports::{Recorder, TransportLossReason};
-use sentry_lock::client::Client as GenericClient;
-use sentry_lock::shared_core::SharedCore as GenericCore;
+use sentry_lock::client::Client;
+use sentry_lock::core_lock::{CoreLock, Gate, Locked};
+use sentry_lock::shared_core::SharedCore;
 use sentry_lock::transport::Transport;
 use sentry_options::clientoptions::ClientOptions;
 use std::alloc::{AllocError, Global};
@@ -15,29 +15,34 @@ use std::sync::{Mutex, Wait};
 
 pub(crate) type Options = ClientOptions<Quiet>;
 
-pub(crate) type SharedCore<T> = GenericCore<Passes, Quiet, T>;
+/// The lock of a core over callbacks that do nothing.
+pub(crate) type Lock<T, W> = Locked<Passes, Quiet, T, W>;
 
-pub(crate) type Client<T> = GenericClient<Passes, Quiet, T>;
+/// What a transport was asked to do.
+#[derive(Clone, Copy, PartialEq)]
+pub(crate) enum Note {
+    /// To send an envelope with this id.
+    Send(u128),
+    /// To send so many logs.
+    SendLogs(usize),
+    /// To flush, with this timeout.
+    Flush(u64),
+    /// To shut down, with this timeout.
+    Shutdown(u64),
+}
 
-/// What a transport was asked to do so far.
+/// What a transport was asked to do so far, in order.
 pub(crate) struct Notes {
-    /// The ids of the envelopes that have one, in order.
-    pub(crate) ids: Vec<u128>,
-    /// How many errors their reports say were lost in the network.
+    pub(crate) asked: Vec<Note>,
+    /// How many errors the reports of its envelopes say were lost in the network.
     pub(crate) errors_told: u64,
-    /// The timeouts of the flushes.
-    pub(crate) flushes: Vec<u64>,
-    /// The timeouts of the shutdowns.
-    pub(crate) shutdowns: Vec<u64>,
 }
 
 impl Drop for Notes {
     fn drop(self) {
         let Notes {
-            ids: _,
+            asked: _,
             errors_told: _,
-            flushes: _,
-            shutdowns: _,
         } = self;
     }
 }
@@ -45,20 +50,22 @@ impl Drop for Notes {
 impl Notes {
     pub(crate) fn new(alloc: Global) -> Notes {
         Notes {
-            ids: Vec::new(alloc),
+            asked: Vec::new(alloc),
             errors_told: 0,
-            flushes: Vec::new(alloc),
-            shutdowns: Vec::new(alloc),
         }
     }
 
     fn note(&mut self, envelope: &Envelope) {
         if let Some(id) = envelope.header.event_id {
-            drop(self.ids.push(id.as_u128()));
+            drop(self.asked.push(Note::Send(id.as_u128())));
         }
         for item in envelope.items.as_slice() {
-            if let EnvelopeItem::ClientReport(report) = item {
-                self.errors_told = self.errors_told.wrapping_add(errors_in(report));
+            match item {
+                EnvelopeItem::ClientReport(report) => {
+                    self.errors_told = self.errors_told.wrapping_add(errors_in(report));
+                }
+                EnvelopeItem::Logs(logs) => drop(self.asked.push(Note::SendLogs(logs.len()))),
+                _ => {}
             }
         }
     }
@@ -94,12 +101,17 @@ impl<R: Wait + Drop> Transport for Notebook<R> {
     }
 
     fn flush(&self, timeout: u64) -> bool {
-        drop(self.notes.lock(&self.rt).flushes.push(timeout));
+        drop(self.notes.lock(&self.rt).asked.push(Note::Flush(timeout)));
         self.answer
     }
 
     fn shutdown(&self, timeout: u64) -> bool {
-        drop(self.notes.lock(&self.rt).shutdowns.push(timeout));
+        drop(
+            self.notes
+                .lock(&self.rt)
+                .asked
+                .push(Note::Shutdown(timeout)),
+        );
         self.answer
     }
 }
@@ -112,13 +124,13 @@ pub(crate) fn options(alloc: Global, is_starving: bool) -> Result<Options, Refus
 }
 
 /// A client, its label, and the recorder of its transport, until that is let go.
-pub(crate) struct Held<T> {
-    pub(crate) client: Client<T>,
+pub(crate) struct Held<L> {
+    pub(crate) client: Client<L>,
     pub(crate) label: Label,
     pub(crate) recorder: Option<Recorder>,
 }
 
-impl<T: Drop> Drop for Held<T> {
+impl<L: Drop> Drop for Held<L> {
     fn drop(self) {
         let Held {
             client: _,
@@ -128,32 +140,33 @@ impl<T: Drop> Drop for Held<T> {
     }
 }
 
-impl<T: Transport + Drop> Held<T> {
-    /// On a new core, with a DSN.
-    pub(crate) fn new<R: Wait>(
-        rt: &R,
+impl<T: Transport + Drop, W: Gate + Drop> Held<Lock<T, W>> {
+    /// On a new core.
+    pub(crate) fn new(
+        wait: W,
         alloc: Global,
         options: Options,
         transport: Option<T>,
-    ) -> Result<Held<T>, Refusal> {
-        let core = SharedCore::new(alloc, 1)?;
-        Held::on(rt, &core, options, transport)
+    ) -> Result<Held<Lock<T, W>>, Refusal> {
+        let core = SharedCore::new(wait, alloc, 1)?;
+        Held::on(&core, options, transport)
     }
+}
 
-    /// The same on a core that is there.
-    pub(crate) fn on<R: Wait>(
-        rt: &R,
-        core: &SharedCore<T>,
-        options: Options,
-        transport: Option<T>,
-    ) -> Result<Held<T>, Refusal> {
-        let mut setup = core.client_setup(rt, options)?;
+impl<L: CoreLock> Held<L> {
+    /// On a core that is there.
+    pub(crate) fn on(
+        core: &SharedCore<L>,
+        options: ClientOptions<L::Callbacks>,
+        transport: Option<L::Transport>,
+    ) -> Result<Held<L>, Refusal> {
+        let mut setup = core.client_setup(options)?;
         let label = setup.label();
         let recorder = match setup.transport_options()? {
             Some(made) => made.client_report_recorder,
             None => None,
         };
-        let client = Client::with_options(rt, core, setup, transport, 0)?;
+        let client = Client::with_options(core, setup, transport, 0)?;
         Ok(Held {
             client,
             label,
@@ -169,16 +182,24 @@ impl<T: Transport + Drop> Held<T> {
     }
 
     /// How many errors stay pending, which then count as reported.
-    pub(crate) fn pending<R: Wait>(&self, rt: &R) -> Result<u64, Refusal> {
-        match self.client.core().lock(rt).core.take_report(self.label)? {
+    pub(crate) fn pending(&self) -> Result<u64, Refusal> {
+        let mut guard = self.client.core().lock();
+        match guard.under.core.take_report(self.label)? {
             None => Ok(0),
             Some(report) => Ok(errors_in(&report)),
         }
     }
 
+    /// What is drained of its words and absorbed.
+    pub(crate) fn drain(&self) -> Result<Option<Losses>, Refusal> {
+        let mut guard = self.client.core().lock();
+        guard.under.core.drain_and_absorb(self.label)
+    }
+
     /// Whether its words are closed then.
-    pub(crate) fn close_losses<R: Wait>(&self, rt: &R) -> Result<bool, Refusal> {
-        self.client.core().lock(rt).core.close_losses(self.label)
+    pub(crate) fn close_losses(&self) -> Result<bool, Refusal> {
+        let mut guard = self.client.core().lock();
+        guard.under.core.close_losses(self.label)
     }
 }
 

@@ -5,7 +5,7 @@ use crate::words::Words;
 use scenario_run::TAG;
 use scenario_run::callbacks::{Callbacks, Handler};
 use scenario_run::caller::CallReply;
-use sentry_base::protocol::{ClientKey, Losses, Refusal};
+use sentry_base::protocol::{ClientKey, Label, Losses, Refusal};
 use sentry_engine::call::{ClientCall, Reply};
 use sentry_lock::client::Client;
 use sentry_options::clientoptions::ClientOptions;
@@ -34,23 +34,23 @@ impl<R: Wait + Copy + Drop> Locked<R> {
                 Ok(Reply::Client(self.add_client(options, transport, label.number, now)?))
             }
             ClientCall::CloneClient { client, now } => {
-                let clone = self.client(client)?.clone_client(&self.rt, now)?;
+                let clone = self.client(client)?.clone_client(now)?;
                 Ok(Reply::Client(clone.key()))
             }
             ClientCall::DropClient(key) => {
-                self.client(key)?.drop_client(&self.rt)?;
+                self.client(key)?.drop_client()?;
                 Ok(Reply::Done)
             }
             ClientCall::Flush(key) => {
-                self.client(key)?.flush(&self.rt, None)?;
+                self.client(key)?.flush(None)?;
                 Ok(Reply::Done)
             }
             ClientCall::Close(key) => {
-                self.client(key)?.close(&self.rt, None)?;
+                self.client(key)?.close(None)?;
                 Ok(Reply::Done)
             }
             ClientCall::Tick { client, now } => {
-                self.client(client)?.tick(&self.rt, now)?;
+                self.client(client)?.tick(now)?;
                 Ok(Reply::Done)
             }
             ClientCall::Absorb { label, losses } => self.absorb(label.number, losses.get()),
@@ -70,16 +70,16 @@ impl<R: Wait + Copy + Drop> Locked<R> {
             } => {
                 let client = self.client(client)?;
                 let scope = scope.as_ref().map(|scope| scope.get());
-                let id = client.capture_event(&self.rt, event.into_inner(), scope, fresh)?;
+                let id = client.capture_event(event.into_inner(), scope, fresh)?;
                 Ok(Reply::Event(id))
             }
             ClientCall::SendEnvelope { client, envelope } => {
-                self.client(client)?.send_envelope(&self.rt, envelope)?;
+                self.client(client)?.send_envelope(envelope)?;
                 Ok(Reply::Done)
             }
             ClientCall::ClientCaptureLog { client, log, scope } => {
                 let client = self.client(client)?;
-                client.capture_log(&self.rt, log.into_inner(), scope.get())?;
+                client.capture_log(log.into_inner(), scope.get())?;
                 Ok(Reply::Done)
             }
             ClientCall::ClientCaptureMetric {
@@ -89,7 +89,7 @@ impl<R: Wait + Copy + Drop> Locked<R> {
                 now,
             } => {
                 let client = self.client(client)?;
-                client.capture_metric(&self.rt, draft.into_inner(), scope.get(), now)?;
+                client.capture_metric(draft.into_inner(), scope.get(), now)?;
                 Ok(Reply::Done)
             }
             call => self.ask_client(call),
@@ -99,11 +99,9 @@ impl<R: Wait + Copy + Drop> Locked<R> {
     // A call that changes nothing but losses.
     fn ask_client(&self, call: ClientCall<Handler, Callbacks>) -> Result<CallReply, Refusal> {
         match call {
-            ClientCall::Options(key) => Ok(Reply::Options(self.client(key)?.options(&self.rt)?)),
-            ClientCall::Dsn(key) => Ok(Reply::Dsn(self.client(key)?.dsn(&self.rt)?)),
-            ClientCall::IsEnabled(key) => {
-                Ok(Reply::Decision(self.client(key)?.is_enabled(&self.rt)?))
-            }
+            ClientCall::Options(key) => Ok(Reply::Options(self.client(key)?.options()?)),
+            ClientCall::Dsn(key) => Ok(Reply::Dsn(self.client(key)?.dsn()?)),
+            ClientCall::IsEnabled(key) => { Ok(Reply::Decision(self.client(key)?.is_enabled()?)) }
             ClientCall::PrepareEvent {
                 client,
                 event,
@@ -112,7 +110,7 @@ impl<R: Wait + Copy + Drop> Locked<R> {
             } => {
                 let client = self.client(client)?;
                 let scope = scope.as_ref().map(|scope| scope.get());
-                let event = client.prepare_event(&self.rt, event.into_inner(), scope, fresh)?;
+                let event = client.prepare_event(event.into_inner(), scope, fresh)?;
                 Ok(Reply::Prepared(event))
             }
             // It asks for no client, so that any will do.
@@ -121,7 +119,7 @@ impl<R: Wait + Copy + Drop> Locked<R> {
                     tag: TAG,
                     number: 0,
                 })?;
-                Ok(Reply::Decision(client.sample_should_send(&self.rt, rate, draw)?))
+                Ok(Reply::Decision(client.sample_should_send(rate, draw)?))
             }
             // the calls of the two functions above
             _other => Err(Refusal::Stale),
@@ -140,7 +138,7 @@ impl<R: Wait + Copy + Drop> Locked<R> {
             false => None,
             true => Some(Post::new(ClientKey { tag: TAG, number }, self.mailbox.clone()?)),
         };
-        let mut setup = self.core.client_setup(&self.rt, options)?;
+        let mut setup = self.core.client_setup(options)?;
         let recorder = match setup.transport_options()? {
             None => None,
             Some(options) => options.client_report_recorder,
@@ -148,7 +146,7 @@ impl<R: Wait + Copy + Drop> Locked<R> {
         let label = setup.label();
         self.words.insert(number, Words { label, recorder })?;
         // It makes the client by `with_options`.
-        let client = Client::from_config(&self.rt, &self.core, setup, transport, now)?;
+        let client = Client::from_config(&self.core, setup, transport, now)?;
         Ok(client.key())
     }
 
@@ -158,15 +156,21 @@ impl<R: Wait + Copy + Drop> Locked<R> {
             return Err(Refusal::ForeignLosses);
         };
         let label = words.record(losses)?;
-        self.core.lock(&self.rt).core.drain_and_absorb(label)?;
+        self.drain(label)?;
         Ok(Reply::Done)
+    }
+
+    fn drain(&self, label: Label) -> Result<Option<Losses>, Refusal> {
+        let mut guard = self.core.lock();
+        guard.under.core.drain_and_absorb(label)
     }
 
     fn take_report(&self, number: u64) -> Result<CallReply, Refusal> {
         let Some(words) = self.words.get(number) else {
             return Err(Refusal::ForeignLosses);
         };
-        let report = self.core.lock(&self.rt).core.take_report(words.label)?;
+        let mut guard = self.core.lock();
+        let report = guard.under.core.take_report(words.label)?;
         Ok(Reply::Report(report))
     }
 }

@@ -6,7 +6,7 @@ use scenario_run::caller::CallReply;
 use sentry_base::protocol::{ClientKey, HubKey, Refusal, SessionStatus};
 use sentry_engine::call::{Call, HubCall, Reply};
 use sentry_engine::engine::ScopeGuard;
-use sentry_hub::hub::Hub;
+use sentry_hub::hub::{Hub, PopScopeError};
 use sentry_plain::Boxed;
 use sentry_scope::scope::Scope;
 use std::sync::Wait;
@@ -42,20 +42,20 @@ impl<R: Wait + Copy + Drop> Locked<R> {
             None => None,
             Some(key) => Some(self.client(key)?),
         };
-        let hub = Hub::new(&self.rt, &self.core, client.as_ref(), scope)?;
+        let hub = Hub::new(&self.core, client.as_ref(), scope)?;
         Ok(self.keep_hub(hub))
     }
 
     fn new_hub_from_top(&mut self, other: HubKey) -> Result<CallReply, Refusal> {
         self.hubs.reserve(1)?;
-        let hub = Hub::new_from_top(&self.rt, self.hub(other)?)?;
+        let hub = Hub::new_from_top(self.hub(other)?)?;
         Ok(self.keep_hub(hub))
     }
 
     fn release(&self, hub: HubKey, now: u64) -> Result<CallReply, Refusal> {
         let hub = self.hub(hub)?;
         let mut thread = thread_of(hub, now)?;
-        hub.release(&self.rt, &mut thread)?;
+        hub.release(&mut thread)?;
         Ok(Reply::Done)
     }
 
@@ -64,7 +64,7 @@ impl<R: Wait + Copy + Drop> Locked<R> {
             None => None,
             Some(key) => Some(self.client(key)?),
         };
-        self.hub(hub)?.bind_client(&self.rt, client.as_ref())?;
+        self.hub(hub)?.bind_client(client.as_ref())?;
         Ok(Reply::Done)
     }
 
@@ -76,28 +76,29 @@ impl<R: Wait + Copy + Drop> Locked<R> {
     }
 
     fn push(&self, hub: HubKey) -> Result<ScopeGuard, Refusal> {
-        self.hub(hub)?.push_scope(&self.rt)
+        self.hub(hub)?.push_scope()
     }
 
     // By the guard of the top layer. No guard is of another depth, which the call as a value is then refused for.
     fn pop_scope(&mut self, hub: HubKey, depth: usize, now: u64) -> Result<CallReply, Refusal> {
         let Some(guard) = self.guards.take(hub, depth) else {
             let call = HubCall::PopScope { hub, depth, now };
-            return self.core.call(&self.rt, Call::Hub(call));
+            return self.core.call(Call::Hub(call));
         };
         match self.pop(hub, guard, now) {
             Ok(()) => Ok(Reply::Done),
-            Err((refusal, guard)) => {
+            Err(error) => {
+                let (refusal, guard) = error.into_parts();
                 self.guards.keep(hub, guard);
                 Err(refusal)
             }
         }
     }
 
-    fn pop(&self, hub: HubKey, guard: ScopeGuard, now: u64) -> Result<(), (Refusal, ScopeGuard)> {
+    fn pop(&self, hub: HubKey, guard: ScopeGuard, now: u64) -> Result<(), PopScopeError> {
         match self.hub(hub) {
-            Ok(hub) => hub.pop_scope(&self.rt, guard, now),
-            Err(refusal) => Err((refusal, guard)),
+            Ok(hub) => hub.pop_scope(guard, now),
+            Err(refusal) => Err(PopScopeError { refusal, guard }),
         }
     }
 
@@ -105,16 +106,15 @@ impl<R: Wait + Copy + Drop> Locked<R> {
     fn change_top(&self, call: HubCall<Handler>) -> Result<CallReply, Refusal> {
         match call {
             HubCall::Configure { hub, edits, now } => {
-                self.hub(hub)?.configure(&self.rt, edits.into_vec(), now)?;
+                self.hub(hub)?.configure(edits.into_vec(), now)?;
                 Ok(Reply::Done)
             }
             HubCall::AddBreadcrumbs { hub, breadcrumbs } => {
-                self.hub(hub)?
-                    .add_breadcrumb(&self.rt, breadcrumbs.into_vec())?;
+                self.hub(hub)?.add_breadcrumbs(breadcrumbs.into_vec())?;
                 Ok(Reply::Done)
             }
             HubCall::StartSession { hub, fresh } => {
-                self.hub(hub)?.start_session(&self.rt, fresh)?;
+                self.hub(hub)?.start_session(fresh)?;
                 Ok(Reply::Done)
             }
             HubCall::EndSessionWithStatus { hub, status, now } => {
@@ -132,8 +132,8 @@ impl<R: Wait + Copy + Drop> Locked<R> {
     ) -> Result<CallReply, Refusal> {
         let hub = self.hub(hub)?;
         match status {
-            SessionStatus::Exited => hub.end_session(&self.rt, now)?,
-            status => hub.end_session_with_status(&self.rt, status, now)?,
+            SessionStatus::Exited => hub.end_session(now)?,
+            status => hub.end_session_with_status(status, now)?,
         }
         Ok(Reply::Done)
     }
@@ -142,9 +142,7 @@ impl<R: Wait + Copy + Drop> Locked<R> {
     fn capture(&self, call: HubCall<Handler>) -> Result<CallReply, Refusal> {
         match call {
             HubCall::CaptureEvent { hub, event, fresh } => {
-                let id = self
-                    .hub(hub)?
-                    .capture_event(&self.rt, event.into_inner(), fresh)?;
+                let id = self.hub(hub)?.capture_event(event.into_inner(), fresh)?;
                 Ok(Reply::Event(id))
             }
             HubCall::CaptureMessage {
@@ -154,21 +152,18 @@ impl<R: Wait + Copy + Drop> Locked<R> {
                 fresh,
             } => {
                 let hub = self.hub(hub)?;
-                Ok(Reply::Event(hub.capture_message(&self.rt, message.as_str(), level, fresh)?))
+                Ok(Reply::Event(hub.capture_message(message.as_str(), level, fresh)?))
             }
             HubCall::CaptureError { hub, links, fresh } => {
-                let id = self
-                    .hub(hub)?
-                    .capture_error(&self.rt, links.as_slice(), fresh)?;
+                let id = self.hub(hub)?.capture_error(links.as_slice(), fresh)?;
                 Ok(Reply::Event(id))
             }
             HubCall::CaptureLog { hub, log } => {
-                self.hub(hub)?.capture_log(&self.rt, log.into_inner())?;
+                self.hub(hub)?.capture_log(log.into_inner())?;
                 Ok(Reply::Done)
             }
             HubCall::CaptureMetric { hub, draft, now } => {
-                self.hub(hub)?
-                    .capture_metric(&self.rt, draft.into_inner(), now)?;
+                self.hub(hub)?.capture_metric(draft.into_inner(), now)?;
                 Ok(Reply::Done)
             }
             call => self.ask_hub(call),
@@ -178,14 +173,12 @@ impl<R: Wait + Copy + Drop> Locked<R> {
     // A call that changes nothing.
     fn ask_hub(&self, call: HubCall<Handler>) -> Result<CallReply, Refusal> {
         match call {
-            HubCall::LastEventId(hub) => {
-                Ok(Reply::LastEvent(self.hub(hub)?.last_event_id(&self.rt)?))
-            }
-            HubCall::Client(hub) => match self.hub(hub)?.client(&self.rt)? {
+            HubCall::LastEventId(hub) => { Ok(Reply::LastEvent(self.hub(hub)?.last_event_id()?)) }
+            HubCall::Client(hub) => match self.hub(hub)?.client()? {
                 None => Ok(Reply::HubClient(None)),
                 Some(client) => Ok(Reply::HubClient(Some(client.key()))),
             },
-            HubCall::IsActive(hub) => Ok(Reply::Decision(self.hub(hub)?.is_active(&self.rt)?)),
+            HubCall::IsActive(hub) => Ok(Reply::Decision(self.hub(hub)?.is_active()?)),
             HubCall::Scope(hub) => Ok(Reply::Scope(Boxed::new(self.alloc, self.scope(hub)?)?)),
             // the calls of the functions above
             _other => Err(Refusal::Stale),
@@ -194,6 +187,6 @@ impl<R: Wait + Copy + Drop> Locked<R> {
 
     /// A copy of the top scope of a hub.
     pub(crate) fn scope(&self, hub: HubKey) -> Result<Scope<Handler>, Refusal> {
-        self.hub(hub)?.scope(&self.rt)
+        self.hub(hub)?.scope()
     }
 }

@@ -11,6 +11,8 @@ use sentry_engine::engine::Out;
 use sentry_hub::hub::Hub;
 use sentry_hub::performance::Transaction;
 use sentry_lock::client::Client;
+use sentry_lock::core_lock;
+use sentry_lock::core_lock::Waiting;
 use sentry_lock::shared_core::SharedCore;
 use sentry_plain::{Items, Table};
 use sentry_scope::scope::Scope;
@@ -22,11 +24,14 @@ use std::sync::{Arc, Wait};
 /// More envelopes than any call hands out: at most, a flush hands out two of sessions, one of logs and one of metrics.
 const ROOM: usize = 8;
 
-pub(crate) type LockedClient<R> = Client<Handler, Callbacks, Post<R>>;
+/// The lock of the core.
+pub(crate) type ScenarioLock<R> = core_lock::Locked<Handler, Callbacks, Post<R>, Waiting<R>>;
 
-pub(crate) type LockedHub<R> = Hub<Handler, Callbacks, Post<R>>;
+pub(crate) type LockedClient<R> = Client<ScenarioLock<R>>;
 
-pub(crate) type LockedTransaction<R> = Transaction<Handler, Callbacks, Post<R>>;
+pub(crate) type LockedHub<R> = Hub<ScenarioLock<R>>;
+
+pub(crate) type LockedTransaction<R> = Transaction<ScenarioLock<R>>;
 
 /// How the calls on transactions and spans are made.
 #[derive(Clone, Copy)]
@@ -41,9 +46,8 @@ pub enum SpanCalls {
 
 /// An engine under its lock, and what its transports were handed.
 pub struct Locked<R> {
-    pub(crate) rt: R,
     pub(crate) alloc: Global,
-    pub(crate) core: SharedCore<Handler, Callbacks, Post<R>>,
+    pub(crate) core: SharedCore<ScenarioLock<R>>,
     pub(crate) mailbox: Arc<Mailbox<R>>,
     /// By the number of the client for which they were made.
     pub(crate) words: Table<Words>,
@@ -56,7 +60,6 @@ pub struct Locked<R> {
 impl<R: Drop> Drop for Locked<R> {
     fn drop(self) {
         let Locked {
-            rt: _,
             alloc: _,
             core: _,
             mailbox: _,
@@ -73,9 +76,8 @@ impl<R: Wait + Copy + Drop> Locked<R> {
     pub fn new(rt: R, alloc: Global, span_calls: SpanCalls) -> Result<Locked<R>, AllocError> {
         let mailbox = Arc::new(alloc, Mailbox::new(rt, alloc))?;
         Ok(Locked {
-            rt,
             alloc,
-            core: SharedCore::new(alloc, TAG)?,
+            core: SharedCore::new(Waiting(rt), alloc, TAG)?,
             mailbox,
             words: Table::new(alloc),
             hubs: Vec::new(alloc),

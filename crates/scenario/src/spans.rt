@@ -36,7 +36,7 @@ impl<R: Wait + Copy + Drop> Locked<R> {
                 fresh,
             } => {
                 let hub = self.hub(hub)?;
-                let started = hub.start_transaction(&self.rt, context.into_inner(), fresh)?;
+                let started = hub.start_transaction(context.into_inner(), fresh)?;
                 Ok(SpanReply::Transaction(started.key()))
             }
             SpanCall::StartTransactionWithTimestamp {
@@ -47,9 +47,7 @@ impl<R: Wait + Copy + Drop> Locked<R> {
             } => {
                 let hub = self.hub(hub)?;
                 let context = context.into_inner();
-                let started = hub.start_transaction_with_timestamp(
-                    &self.rt, context, start, fresh,
-                )?;
+                let started = hub.start_transaction_with_timestamp(context, start, fresh)?;
                 Ok(SpanReply::Transaction(started.key()))
             }
             call => self.change_spans(call),
@@ -96,7 +94,7 @@ impl<R: Wait + Copy + Drop> Locked<R> {
         let (op, description) = (op.as_str(), description.as_str());
         let child = call!(
             self, parent,
-            value => value.start_child(&self.rt, op, description, fresh)
+            value => value.start_child(op, description, fresh)
         )?;
         Ok(SpanReply::Span(child.key()))
     }
@@ -112,7 +110,7 @@ impl<R: Wait + Copy + Drop> Locked<R> {
         let (op, description) = (op.as_str(), description.as_str());
         let child = call!(
             self, parent,
-            value => value.start_child_with_details(&self.rt, op, description, id, start)
+            value => value.start_child_with_details(op, description, id, start)
         )?;
         Ok(SpanReply::Span(child.key()))
     }
@@ -124,7 +122,7 @@ impl<R: Wait + Copy + Drop> Locked<R> {
         moment: u64,
     ) -> Result<SpanReply, Refusal> {
         let mut thread = thread_of(hub, moment)?;
-        call!(self, name, value => value.finish(&self.rt, &mut thread))?;
+        call!(self, name, value => value.finish(&mut thread))?;
         Ok(SpanReply::Done)
     }
 
@@ -137,7 +135,7 @@ impl<R: Wait + Copy + Drop> Locked<R> {
     }
 
     fn discard(&self, name: TransactionOrSpanKey) -> Result<SpanReply, Refusal> {
-        call!(self, name, value => value.discard(&self.rt))?;
+        call!(self, name, value => value.discard())?;
         Ok(SpanReply::Done)
     }
 
@@ -160,7 +158,7 @@ impl<R: Wait + Copy + Drop> Locked<R> {
     fn set_data(&self, name: TransactionOrSpanKey, key: &Text, data: Value) -> Result<(), Refusal> {
         match self.span_calls {
             SpanCalls::Lent => self.set_lent_data(name, key, data),
-            _other => { call!(self, name, value => value.set_data(&self.rt, key.as_str(), data)) }
+            _other => { call!(self, name, value => value.set_data(key.as_str(), data)) }
         }
     }
 
@@ -174,11 +172,9 @@ impl<R: Wait + Copy + Drop> Locked<R> {
         let either = TransactionOrSpan::new(&self.core, name)?;
         match &either {
             TransactionOrSpan::Transaction(transaction) => {
-                transaction.data(&self.rt, |lent| lent.set_data(key, data))
+                transaction.data(|lent| lent.set_data(key, data))
             }
-            TransactionOrSpan::Span(span) => {
-                span.data(&self.rt, |lent| lent.set_data(key, data))
-            }
+            TransactionOrSpan::Span(span) => { span.data(|lent| lent.set_data(key, data)) }
         }
     }
 
@@ -187,7 +183,7 @@ impl<R: Wait + Copy + Drop> Locked<R> {
             SpanCalls::Lent => self.set_lent_tag(name, key, tag),
             _other => {
                 let (key, tag) = (key.as_str(), tag.as_str());
-                call!(self, name, value => value.set_tag(&self.rt, key, tag))
+                call!(self, name, value => value.set_tag(key, tag))
             }
         }
     }
@@ -202,26 +198,26 @@ impl<R: Wait + Copy + Drop> Locked<R> {
         let either = TransactionOrSpan::new(&self.core, name)?;
         match &either {
             TransactionOrSpan::Transaction(transaction) => {
-                transaction.data(&self.rt, |lent| lent.set_tag(key, tag))
+                transaction.data(|lent| lent.set_tag(key, tag))
             }
-            TransactionOrSpan::Span(span) => span.data(&self.rt, |lent| lent.set_tag(key, tag)),
+            TransactionOrSpan::Span(span) => span.data(|lent| lent.set_tag(key, tag)),
         }
     }
 
     fn set_status(&self, name: TransactionOrSpanKey, status: SpanStatus) -> Result<(), Refusal> {
-        call!(self, name, value => value.set_status(&self.rt, status))
+        call!(self, name, value => value.set_status(status))
     }
 
     fn set_op(&self, name: TransactionOrSpanKey, op: &Text) -> Result<(), Refusal> {
-        call!(self, name, value => value.set_op(&self.rt, op.as_str()))
+        call!(self, name, value => value.set_op(op.as_str()))
     }
 
     fn set_name(&self, name: TransactionOrSpanKey, text: &Text) -> Result<(), Refusal> {
-        call!(self, name, value => value.set_name(&self.rt, text.as_str()))
+        call!(self, name, value => value.set_name(text.as_str()))
     }
 
     fn set_request(&self, name: TransactionOrSpanKey, request: Request) -> Result<(), Refusal> {
-        call!(self, name, value => value.set_request(&self.rt, request))
+        call!(self, name, value => value.set_request(request))
     }
 
     // A call of a setter that transactions alone have.
@@ -233,7 +229,7 @@ impl<R: Wait + Copy + Drop> Locked<R> {
                 value,
             } => {
                 let transaction = self.transaction(transaction)?;
-                transaction.set_extra(&self.rt, key.as_str(), value)?;
+                transaction.set_extra(key.as_str(), value)?;
                 Ok(SpanReply::Done)
             }
             SpanCall::SetOrigin {
@@ -241,7 +237,7 @@ impl<R: Wait + Copy + Drop> Locked<R> {
                 origin,
             } => {
                 let transaction = self.transaction(transaction)?;
-                transaction.set_origin(&self.rt, origin.as_str())?;
+                transaction.set_origin(origin.as_str())?;
                 Ok(SpanReply::Done)
             }
             call => self.ask_span(call),
@@ -273,17 +269,17 @@ impl<R: Wait + Copy + Drop> Locked<R> {
     }
 
     fn get_status(&self, name: TransactionOrSpanKey) -> Result<Option<SpanStatus>, Refusal> {
-        call!(self, name, value => value.get_status(&self.rt))
+        call!(self, name, value => value.get_status())
     }
 
     fn get_trace_context(&self, name: TransactionOrSpanKey) -> Result<TraceContext, Refusal> {
-        call!(self, name, value => value.get_trace_context(&self.rt))
+        call!(self, name, value => value.get_trace_context())
     }
 
     fn get_span_id(&self, key: SpanKey) -> Result<SpanId, Refusal> {
         let either = TransactionOrSpan::new(&self.core, TransactionOrSpanKey::Span(key))?;
         match &either {
-            TransactionOrSpan::Span(span) => span.get_span_id(&self.rt),
+            TransactionOrSpan::Span(span) => span.get_span_id(),
             // No key of a span gives a transaction.
             TransactionOrSpan::Transaction(_) => Err(Refusal::Stale),
         }
@@ -295,11 +291,9 @@ impl<R: Wait + Copy + Drop> Locked<R> {
         let either = TransactionOrSpan::new(&self.core, name)?;
         match &either {
             TransactionOrSpan::Transaction(transaction) => {
-                transaction.data(&self.rt, |lent| copy_entries(alloc, lent.iter()))
+                transaction.data(|lent| copy_entries(alloc, lent.iter()))
             }
-            TransactionOrSpan::Span(span) => {
-                span.data(&self.rt, |lent| copy_entries(alloc, lent.iter()))
-            }
+            TransactionOrSpan::Span(span) => { span.data(|lent| copy_entries(alloc, lent.iter())) }
         }
     }
 
@@ -308,16 +302,16 @@ impl<R: Wait + Copy + Drop> Locked<R> {
         &self,
         name: TransactionOrSpanKey,
     ) -> Result<TraceHeadersIter, Refusal> {
-        call!(self, name, value => value.iter_headers(&self.rt))
+        call!(self, name, value => value.iter_headers())
     }
 
     fn is_sampled(&self, name: TransactionOrSpanKey) -> Result<bool, Refusal> {
-        call!(self, name, value => value.is_sampled(&self.rt))
+        call!(self, name, value => value.is_sampled())
     }
 
     // The call that continues a trace: no value has it.
     fn call_as_value(&self, call: SpanCall) -> Result<SpanReply, Refusal> {
-        match self.core.call(&self.rt, Call::Span(call))? {
+        match self.core.call(Call::Span(call))? {
             Reply::Span(reply) => Ok(reply),
             // No call on spans replies otherwise.
             _other => Err(Refusal::Stale),
