@@ -18,6 +18,16 @@ PROGRAMS = ("scenario", "replay")
 LOCK = "lock"
 # Those with which it does so by other values where it makes the calls on transactions and spans.
 OTHER_SPAN_CALLS = ("either", "lent")
+# The argument before these, or alone, with which `scenario` prints the bytes of envelopes too.
+BYTES = "--envelopes"
+# Examples that have an item of each type between them, and play within milliseconds.
+OF_EACH_ITEM = (
+    "attachments_stand_between_event_and_report",
+    "sessions_of_requests_by_user",
+    "session_updates_stand_between_event_and_attachments",
+    "finished_transactions_keep_their_status",
+    "logs_and_metrics_that_options_switch_off",
+)
 # The lines that start a transaction. Without one there is no call on a transaction or a span that is held.
 STARTS = (b"tx ", b"txsampled ", b"txat ", b"txfrom ", b"continue ")
 # The program that runs a part of itself by its name.
@@ -114,6 +124,11 @@ def over_the_lock(found):
         if it.program == "scenario" and ".bad " not in it.name
         for word in ways_over_the_lock(it)
     ]
+
+
+def with_bytes(found):
+    """The same scenarios, as `scenario` prints the bytes of their envelopes too."""
+    return [it._replace(name=f"{it.name}, bytes", arguments=(BYTES, *it.arguments)) for it in found if it.program == "scenario"]
 
 
 def runs_by_name():

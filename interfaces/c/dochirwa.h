@@ -57,8 +57,10 @@ void dochirwa_free(dochirwa *engine);
 
 /* Adds a client of the options in a text, a line NAME=VALUE each: dsn, release, environment and server are texts; rate
  * (of events) and traces (of transactions) are in millionths, but 1 is all; strict, pii, logs and metrics are 0 or 1;
- * mode is application or request; org, crumbs, maxspans and maxbatch are numbers. Clients of one label count their
- * losses together. Faults: 6, 7 (a rate above 1000000), 9, 11. */
+ * mode is application or request; org, crumbs, maxspans and maxbatch are numbers. In place of callbacks, drop_events and
+ * drop_breadcrumbs (by their message), drop_logs (by their body) and drop_metrics (by their name) drop what begins with
+ * their text, and nothing where it is empty; what is dropped, but for breadcrumbs, is reported as lost. Clients of one
+ * label count their losses together. Faults: 6, 7 (a rate above 1000000), 9, 11. */
 uint32_t dochirwa_add_client(dochirwa *engine, const uint8_t *options, size_t options_length, uint64_t label, uint64_t now, uint64_t *client);
 /* Adds a client with the options and the label of another, and queues of its own. Faults: 2, 9. */
 uint32_t dochirwa_clone_client(dochirwa *engine, uint64_t client, uint64_t now, uint64_t *clone);

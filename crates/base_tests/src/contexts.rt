@@ -1,7 +1,7 @@
 //! Contexts of transactions, where no command makes the call.
 use sentry_base::protocol::{SpanId, TraceId};
 use sentry_plain::{Text, Value};
-use sentry_trace::headers::SentryTrace;
+use sentry_trace::headers::{SentryTrace, TracePropagationContext, parse_headers};
 use sentry_trace::performance::TransactionContext;
 use std::alloc::{AllocError, Global};
 use std::test::Fail;
@@ -15,7 +15,11 @@ const PARENT: SpanId = SpanId([3; 8]);
 /// The ids of a context, if it was made: those of its trace, of its parent and of its span.
 fn ids(made: Result<TransactionContext, AllocError>) -> Option<(TraceId, Option<SpanId>, SpanId)> {
     match made {
-        Ok(context) => Some((context.trace_id, context.parent_span_id, context.span_id)),
+        Ok(context) => Some((
+            context.trace_id(),
+            context.parent_span_id,
+            context.span_id(),
+        )),
         Err(_) => None,
     }
 }
@@ -35,6 +39,19 @@ fn contexts_have_the_ids_that_they_are_handed(rt: HostRuntime) -> Result<(), Fai
     assert!(rt; root == Some((TRACE_ID, None, SPAN_ID)));
     assert!(rt; child == Some((TRACE_ID, parent, SPAN_ID)));
     assert!(rt; continued == Some((TRACE_ID, parent, SPAN_ID)));
+    Ok(())
+}
+
+/// A trace that isn't sampled, as its header has it.
+const PRINTED: &str = "01010101010101010101010101010101-0202020202020202-0";
+
+#[test]
+fn a_printed_trace_is_read_back(rt: HostRuntime) -> Result<(), Fail> {
+    let context = TracePropagationContext::new(TRACE_ID, SPAN_ID).with_sampled(false);
+    let header = context.sentry_trace_header(rt.alloc())?;
+    assert!(rt; header.as_str() == PRINTED);
+    let read = parse_headers([("Sentry-Trace", PRINTED)]);
+    assert!(rt; read == Some(SentryTrace::new(TRACE_ID, SPAN_ID, Some(false))));
     Ok(())
 }
 

@@ -3,7 +3,7 @@ use sentry_base::protocol::{
     Attachment, Category, ClientReport, ClientReportItem, Envelope, EnvelopeItem, Event, Reason,
     Span, SpanId, TraceId, Transaction, Uuid,
 };
-use sentry_plain::{Items, Text};
+use sentry_plain::{Boxed, Items, Text};
 use std::alloc::{AllocError, Global};
 
 /// The id of which every byte is this one.
@@ -34,7 +34,7 @@ pub(crate) fn transaction(alloc: Global) -> Result<EnvelopeItem, AllocError> {
     let mut transaction = Transaction::new(alloc, id(2), name, 5)?;
     transaction.spans.push(span(alloc)?)?;
     transaction.spans.push(span(alloc)?)?;
-    Ok(EnvelopeItem::Transaction(transaction))
+    Ok(EnvelopeItem::Transaction(Boxed::new(alloc, transaction)?))
 }
 
 fn span(alloc: Global) -> Result<Span, AllocError> {
@@ -66,6 +66,6 @@ pub(crate) fn alone(
 
 /// An envelope of an event with this id.
 pub(crate) fn event_alone(alloc: Global, byte: u8) -> Result<Envelope, AllocError> {
-    let event = event(alloc, byte)?;
+    let event = Boxed::new(alloc, event(alloc, byte)?)?;
     alone(alloc, Ok(EnvelopeItem::Event(event)))
 }

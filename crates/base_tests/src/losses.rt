@@ -51,7 +51,12 @@ fn is_reported_once(alloc: Global, losses: &Losses) -> Result<bool, Refusal> {
     let mut book = LossBook::new();
     book.absorb(losses);
     let is_reported = book.take_report(alloc)?.is_some();
-    Ok(is_reported && book.take_report(alloc)?.is_none())
+    Ok(is_reported && book.take_report(alloc)?.is_none() && is_balanced(&book, losses))
+}
+
+/// Whether all that a book absorbed is this, all of which it reported, and it recorded nothing.
+fn is_balanced(book: &LossBook, losses: &Losses) -> bool {
+    *book.absorbed() == *losses && *book.reported() == *losses && *book.recorded() == Losses::none()
 }
 
 #[test]
@@ -149,7 +154,10 @@ fn a_counted_drainer_knows_what_it_took(rt: HostRuntime) -> Result<(), Fail> {
     let (mut recorder, drainer) = LossWords::new(rt.alloc(), LABEL)?;
     let mut counted = CountedDrainer::new(drainer);
     recorder.record_lost_data(&two, TransportLossReason::SendError);
-    let (_, losses) = counted.drain().into_parts();
+    let Some(drained) = counted.drain_if_up() else {
+        panic!(rt; "a flag is up")
+    };
+    let (_, losses) = drained.into_parts();
     recorder.record_lost_data(&two, TransportLossReason::SendError);
     let (_, more) = counted.drain().into_parts();
     let four = lost(Category::Span, 4).losses(Reason::SendError);

@@ -1,5 +1,5 @@
 //! Options that no text shows, and their builders.
-use sentry_base::protocol::{ParseDsnError, Refusal};
+use sentry_base::protocol::{Draw, ParseDsnError, Refusal};
 use sentry_options::clientoptions::{ClientOptions, MaxRequestBodySize, PlainOptions};
 use sentry_plain::Text;
 use std::alloc::Global;
@@ -67,6 +67,24 @@ fn options_of_which_nothing_was_set(rt: HostRuntime) -> Result<(), Fail> {
     assert!(rt; texts(&options.plain) == expected);
     let refusal = Refusal::InvalidDsn(ParseDsnError::InvalidUrl);
     assert!(rt; options.dsn("").err() == Some(refusal));
+    Ok(())
+}
+
+#[test]
+fn bodies_are_kept_up_to_a_size(rt: HostRuntime) -> Result<(), Fail> {
+    let (small, medium) = (MaxRequestBodySize::Small, MaxRequestBodySize::Medium);
+    assert!(rt; small.is_within_size_limit(1000) && !small.is_within_size_limit(1001));
+    assert!(rt; medium.is_within_size_limit(10000) && !medium.is_within_size_limit(10001));
+    assert!(rt; !MaxRequestBodySize::None.is_within_size_limit(0));
+    Ok(())
+}
+
+#[test]
+fn draws_are_below_a_million(rt: HostRuntime) -> Result<(), Fail> {
+    let Some(draw) = Draw::new(999_999) else {
+        panic!(rt; "no draw")
+    };
+    assert!(rt; draw.millionths() == 999_999 && Draw::new(1_000_000).is_none());
     Ok(())
 }
 

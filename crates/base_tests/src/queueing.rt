@@ -2,7 +2,7 @@
 use crate::items::{alone, attachment, event_alone, id, report, transaction};
 use sentry_base::protocol::{Category, Envelope, Label, Losses, Refusal};
 use sentry_client_reports::client_reports::{Drainer, LossWords};
-use sentry_queueing::queueing::QueueCore;
+use sentry_transport::queueing::QueueCore;
 use std::alloc::{AllocError, Global};
 use std::test::Fail;
 

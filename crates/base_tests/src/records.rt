@@ -6,7 +6,7 @@ use sentry_base::protocol::{
     MetricType, Request, SessionAggregateItem, SessionAggregates, SessionAttributes, SessionStatus,
     SessionUpdate, SpanId, TraceContext, TraceId, Unit, User, Value, ValueMap,
 };
-use sentry_plain::{Items, Text, TextMap};
+use sentry_plain::{Boxed, Items, Shared, Text, TextMap};
 use std::alloc::{AllocError, Global};
 use std::test::Fail;
 
@@ -76,18 +76,19 @@ fn trace(alloc: Global) -> Result<Context, AllocError> {
 }
 
 /// What made an event, with a package.
-fn sdk(alloc: Global) -> Result<ClientSdkInfo, AllocError> {
+fn sdk(alloc: Global) -> Result<Shared<ClientSdkInfo>, AllocError> {
     let mut packages = Items::new(alloc);
     packages.push(ClientSdkPackage {
         name: Text::new(alloc, "package")?,
         version: Text::new(alloc, "1")?,
     })?;
-    Ok(ClientSdkInfo {
+    let sdk = ClientSdkInfo {
         name: Text::new(alloc, "sdk")?,
         version: Text::new(alloc, "1")?,
         packages,
         integrations: Items::new(alloc),
-    })
+    };
+    Shared::new(alloc, sdk)
 }
 
 /// An event with parts of all kinds.
@@ -99,14 +100,15 @@ fn whole_event(alloc: Global) -> Result<EnvelopeItem, AllocError> {
     let key = Text::new(alloc, "trace")?;
     event.contexts.insert(key, trace(alloc)?)?;
     event.sdk = Some(sdk(alloc)?);
-    Ok(EnvelopeItem::Event(event))
+    Ok(EnvelopeItem::Event(Boxed::new(alloc, event)?))
 }
 
-fn attributes(alloc: Global) -> Result<SessionAttributes, AllocError> {
-    Ok(SessionAttributes {
+fn attributes(alloc: Global) -> Result<Shared<SessionAttributes>, AllocError> {
+    let attributes = SessionAttributes {
         release: Text::new(alloc, "app@1")?,
         environment: text(alloc, "test")?,
-    })
+    };
+    Shared::new(alloc, attributes)
 }
 
 /// An update of a session.
@@ -185,7 +187,7 @@ fn add_items(alloc: Global, envelope: &mut Envelope) -> Result<(), AllocError> {
 #[test]
 fn envelopes_are_their_clones(rt: HostRuntime) -> Result<(), Fail> {
     let alloc = rt.alloc();
-    let mut envelope = Envelope::new(alloc);
+    let mut envelope = Envelope::with_capacity(alloc, 2)?;
     add_items(alloc, &mut envelope)?;
     assert!(rt; is_its_clone(envelope, Envelope::new(alloc))?);
     let link = ErrorLink::new(alloc, "Fault", "it broke")?;

@@ -1,7 +1,7 @@
 //! What a span says of the parts of a request that no command gives.
 use sentry_base::protocol::Request;
-use sentry_bodies::requests::with_request;
 use sentry_plain::{Text, TextMap, Value, ValueMap};
+use sentry_span_edits::requests::with_request;
 use std::alloc::{AllocError, Global};
 use std::test::Fail;
 

@@ -1,5 +1,5 @@
 //! DSNs and errors, where no command makes the call.
-use sentry_base::protocol::{ErrorLink, Refusal, Uuid};
+use sentry_base::protocol::{ErrorLink, ParseDsnError, Refusal, Uuid};
 use sentry_texts::dsn::{Dsn, IntoDsn, ProjectId};
 use sentry_texts::utils::event_from_error;
 use std::alloc::{AllocError, Global};
@@ -62,5 +62,48 @@ fn a_bare_message_is_of_no_type(rt: HostRuntime) -> Result<(), Fail> {
     // the debug text of a bare message is the message in quotes, which names no type
     let links = [ErrorLink::new(rt.alloc(), "\"a bare message\"", "a bare message")?];
     assert!(rt; is_of_type(rt.alloc(), &links, "Error")?);
+    Ok(())
+}
+
+const REFUSALS: [Refusal; 9] = [
+    Refusal::OutOfMemory,
+    Refusal::Stale,
+    Refusal::OutOfOrder,
+    Refusal::StillNamed,
+    Refusal::ScopesOpen,
+    Refusal::InvalidDsn(ParseDsnError::NoUsername),
+    Refusal::InvalidRate,
+    Refusal::ForeignLosses,
+    Refusal::Full,
+];
+
+/// What stands before the first parenthesis.
+fn name_of(debug: &str) -> &str {
+    match debug.split_once("(") {
+        Some((name, _)) => name,
+        None => debug,
+    }
+}
+
+/// Whether the printed refusal has its number, its name, and what to do after a semicolon.
+fn says_what_to_do(alloc: Global, refusal: Refusal) -> Result<bool, AllocError> {
+    let number = refusal.number();
+    let printed = format!(in alloc; "{refusal}")?;
+    let debug = format!(in alloc; "{refusal:?}")?;
+    let name = name_of(debug.as_str());
+    let start = format!(in alloc; "E{number} {name}: ")?;
+    Ok(printed.starts_with(start.as_str()) & printed.contains("; "))
+}
+
+#[test]
+fn a_refusal_says_its_number_its_name_and_what_to_do(rt: HostRuntime) -> Result<(), Fail> {
+    let alloc = rt.alloc();
+    for refusal in &REFUSALS {
+        assert!(rt; says_what_to_do(alloc, *refusal)?);
+    }
+    let printed = format!(in alloc; "{}", Refusal::StillNamed)?;
+    for kind in &["layer", "session", "transaction", "span"] {
+        assert!(rt; printed.contains(*kind));
+    }
     Ok(())
 }

@@ -15,7 +15,7 @@ fn scope<P: Drop>(alloc: Global) -> Result<Scope<P>, AllocError> {
     Ok(scope)
 }
 
-fn fresh(number: u64) -> Fresh {
+pub fn fresh(number: u64) -> Fresh {
     Fresh {
         now: number,
         uuid: Uuid::from_u128(u128::from(number)),
@@ -25,7 +25,7 @@ fn fresh(number: u64) -> Fresh {
     }
 }
 
-fn message(alloc: Global, number: u64) -> Result<Event, AllocError> {
+pub fn message(alloc: Global, number: u64) -> Result<Event, AllocError> {
     let mut event = Event::new(alloc, Uuid::from_u128(u128::from(number)), number)?;
     event.message = Some(Text::new(alloc, "hello world")?);
     Ok(event)

@@ -27,6 +27,10 @@ pub enum Loop {
     Pass,
     /// An envelope is sent to a queueing transport that is full.
     TurnAway,
+    /// An envelope of an event is made into bytes, which are counted.
+    Envelopes,
+    /// Envelopes of events with ten tags and twenty breadcrumbs wait, all at once.
+    Waiting,
     /// Trace headers are read.
     ReadHeaders,
     /// The same bytes are scanned.
@@ -40,7 +44,7 @@ pub enum Loop {
 }
 
 /// Each loop, by the word that names it.
-pub const LOOPS: [(&str, Loop); 20] = [
+pub const LOOPS: [(&str, Loop); 22] = [
     ("scopes", Loop::Lock(LockLoop::Hub(HubTurn::Scope))),
     (
         "messages",
@@ -64,6 +68,8 @@ pub const LOOPS: [(&str, Loop); 20] = [
     ("queue", Loop::Queue),
     ("pass", Loop::Pass),
     ("turn_away", Loop::TurnAway),
+    ("envelopes", Loop::Envelopes),
+    ("waiting", Loop::Waiting),
     ("read_headers", Loop::ReadHeaders),
     ("scan_headers", Loop::ScanHeaders),
     ("losses", Loop::Losses(Spread::OneCategory)),

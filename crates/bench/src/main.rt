@@ -6,6 +6,7 @@
 #![tactic(auto)]
 
 mod clock;
+mod envelopes;
 mod headers;
 mod hub;
 mod keeper;
@@ -17,6 +18,7 @@ mod threads;
 mod traces;
 mod transport;
 mod turns;
+mod waiting;
 
 use anyhow::Result;
 use clock::Steps;
@@ -94,6 +96,8 @@ fn count<R: Threads + Wait + Sync + Copy + Drop>(
         Loop::Queue => queue::take_and_offer(alloc, turns),
         Loop::Pass => transport::pass(*rt, alloc, turns),
         Loop::TurnAway => transport::turn_away(*rt, alloc, turns),
+        Loop::Envelopes => envelopes::write(alloc, turns),
+        Loop::Waiting => waiting::keep(alloc, turns),
         Loop::ReadHeaders => Ok(headers::read(turns)),
         Loop::ScanHeaders => Ok(headers::scan(turns)),
         Loop::Losses(spread) => losses::record(rt, alloc, spread, turns, threads, drains),

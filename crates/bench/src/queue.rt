@@ -1,14 +1,14 @@
 //! A queue of envelopes, which are offered and taken.
-use sentry_core::Envelope;
 use sentry_core::protocol::{EnvelopeItem, Event, Refusal, Uuid};
 use sentry_core::queueing::QueueCore;
+use sentry_core::{Boxed, Envelope};
 use std::alloc::{AllocError, Global};
 
 /// An envelope of an event.
 pub fn event_alone(alloc: Global) -> Result<Envelope, AllocError> {
     let event = Event::new(alloc, Uuid::nil(), 0)?;
     let mut envelope = Envelope::new(alloc);
-    envelope.add_item(EnvelopeItem::Event(event))?;
+    envelope.add_item(EnvelopeItem::Event(Boxed::new(alloc, event)?))?;
     Ok(envelope)
 }
 

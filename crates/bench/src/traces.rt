@@ -11,8 +11,8 @@ fn add_child<L: CoreLock, K: Clock + Drop>(
     transaction: &Transaction<L>,
 ) -> Result<(), Refusal> {
     let child = transaction.start_child("db.query", "select", thread.fresh())?;
-    child.finish(thread)?;
-    child.discard()
+    child.end(thread)?;
+    Ok(())
 }
 
 /// Sends a transaction with ten children, and gives it back.
@@ -24,7 +24,6 @@ pub fn send_transaction<L: CoreLock, K: Clock + Drop>(
     for _ in 0..10 {
         add_child(thread, &transaction)?;
     }
-    transaction.finish(thread)?;
-    transaction.discard()?;
+    transaction.end(thread)?;
     Ok(true)
 }

@@ -12,14 +12,14 @@ use Rattle.c_base.specs.declared.fault.CallFault.{CallFault}
 use Rattle.c_base.specs.Faults.{fault_of, refusal_of}
 use Rattle.c_base.specs.Outboxes.{waiting}
 use Rattle.c_engine.specs.declared.callbacks.NoProcessor.{NoProcessor}
-use Rattle.c_engine.specs.declared.callbacks.NoCallbacks.{NoCallbacks}
+use Rattle.c_records.specs.declared.filters.Filters.{Filters}
 use Rattle.c_engine.specs.declared.outbox_engine.OutboxEngine.{OutboxEngine}
 use Rattle.c_engine.specs.Calls.{IsKept, IsRefused, IsUnchanged, Calls, SomeCalls}
 
-module _ {T : Type 0} (takes_no_memory : Bool) (old new : OutboxEngine) (outcome : World NoProcessor NoCallbacks → Outcome NoProcessor NoCallbacks T) where
+module _ {T : Type 0} (takes_no_memory : Bool) (old new : OutboxEngine) (outcome : World NoProcessor Filters → Outcome NoProcessor Filters T) where
   pub called : (IsReply : T → Type 0) (out : Out T) → DoesWith takes_no_memory old.engine new.engine (Ok out) outcome
       → IsReply out.reply → waiting new.outbox ≡ waiting old.outbox ++ out.sent
-      → (world : World NoProcessor NoCallbacks) → Stands old.engine world
+      → (world : World NoProcessor Filters) → Stands old.engine world
       → IsKept IsReply (waiting old.outbox) (waiting new.outbox) (outcome world).answer × Stands new.engine (outcome world).after
   called IsReply out does is waits world stands =
       let did = does world stands in (
@@ -52,7 +52,7 @@ module _ {T : Type 0} (takes_no_memory : Bool) (old new : OutboxEngine) (outcome
 
 -- the record that was read
 pub some : {A T : Type 0} (old new : OutboxEngine) (answer : Result (Unit {0}) CallFault) (IsReply : T → Type 0)
-    (outcome : A → World NoProcessor NoCallbacks → Outcome NoProcessor NoCallbacks T) (read : A)
+    (outcome : A → World NoProcessor Filters → Outcome NoProcessor Filters T) (read : A)
     → Calls old new answer IsReply (outcome read) → SomeCalls old new answer IsReply outcome
 some old new (Ok done) IsReply outcome read calls = (read, calls)
 some old new (Err fault) IsReply outcome read calls = calls.0

@@ -10,7 +10,7 @@ use Rattle.c_base.specs.declared.fault.CallFault.{CallFault}
 use Rattle.c_base.specs.Faults.{refusal_of}
 use Rattle.c_base.specs.Outboxes.{waiting}
 use Rattle.c_engine.specs.declared.callbacks.NoProcessor.{NoProcessor}
-use Rattle.c_engine.specs.declared.callbacks.NoCallbacks.{NoCallbacks}
+use Rattle.c_records.specs.declared.filters.Filters.{Filters}
 use Rattle.c_engine.specs.declared.outbox_engine.OutboxEngine.{OutboxEngine}
 
 -- neither the engine nor what waits has changed
@@ -25,25 +25,25 @@ module _ {T : Type 0} where
   IsKept IsReply before after (Err refusal) = ⊥
 
   -- a fault of the engine is the refusal that the definition of the call answers; any other came before the call
-  abbrev pub IsRefused : Option Refusal → OutboxEngine → (World NoProcessor NoCallbacks → Outcome NoProcessor NoCallbacks T)
+  abbrev pub IsRefused : Option Refusal → OutboxEngine → (World NoProcessor Filters → Outcome NoProcessor Filters T)
       → Type 0
   IsRefused None old outcome = Unit {0}
   IsRefused (Some refusal) old outcome =
-      (world : World NoProcessor NoCallbacks) → Stands old.engine world → (outcome world).answer ≡ Err refusal
+      (world : World NoProcessor Filters) → Stands old.engine world → (outcome world).answer ≡ Err refusal
 
   -- the engine did the call as its definition says, and what it handed out waits behind what waited; or the call failed,
   -- and nothing changed
   abbrev pub Calls : OutboxEngine → OutboxEngine → Result (Unit {0}) CallFault → (T → Type 0)
-      → (World NoProcessor NoCallbacks → Outcome NoProcessor NoCallbacks T) → Type 0
+      → (World NoProcessor Filters → Outcome NoProcessor Filters T) → Type 0
   Calls old new (Ok done) IsReply outcome =
-      (world : World NoProcessor NoCallbacks) → Stands old.engine world
+      (world : World NoProcessor Filters) → Stands old.engine world
       → IsKept IsReply (waiting old.outbox) (waiting new.outbox) (outcome world).answer
       × Stands new.engine (outcome world).after
   Calls old new (Err fault) IsReply outcome = IsUnchanged old new × IsRefused (refusal_of fault) old outcome
 
 -- the engine made the call with a record that was read, or nothing changed
 abbrev pub SomeCalls : {A T : Type 0} → OutboxEngine → OutboxEngine → Result (Unit {0}) CallFault → (T → Type 0)
-    → (A → World NoProcessor NoCallbacks → Outcome NoProcessor NoCallbacks T) → Type 0
+    → (A → World NoProcessor Filters → Outcome NoProcessor Filters T) → Type 0
 SomeCalls {A} old new (Ok done) IsReply outcome = (read : A) × Calls old new (Ok done) IsReply (outcome read)
 SomeCalls old new (Err fault) IsReply outcome = IsUnchanged old new
 

@@ -1,12 +1,9 @@
-//! Scopes without processors, and clients without callbacks.
-ghost use Rattle.c_engine.specs.Engines.{same_event, no_callbacks};
+//! Scopes without processors.
+ghost use Rattle.c_engine.specs.Engines.{same_event};
 
 use sentry_base::callbacks::EventCallback;
-use sentry_base::protocol::{Breadcrumb, Event, Log, Metric};
-use sentry_options::clientoptions::{Callbacks, PlainOptions};
-use sentry_plain::{Items, Text};
-use sentry_trace::performance::TransactionContext;
-use std::alloc::{AllocError, Global};
+use sentry_base::protocol::Event;
+use std::alloc::AllocError;
 
 /// An event processor that gives each event back. No scope of this program gets one.
 #[derive(Drop)]
@@ -17,56 +14,5 @@ impl EventCallback for NoProcessor {
 
     fn call(&self, event: Event) -> Result<Option<Event>, AllocError> {
         Ok(Some(event))
-    }
-}
-
-/// The callbacks of a client that has none.
-#[derive(Drop)]
-pub struct NoCallbacks;
-
-impl Callbacks for NoCallbacks {
-    ghost meanings = { no_callbacks };
-
-    fn integration_names(&self, alloc: Global) -> Result<Items<Text>, AllocError> {
-        Ok(Items::new(alloc))
-    }
-
-    fn set_up(&self, _options: &mut PlainOptions) -> Result<(), AllocError> {
-        Ok(())
-    }
-
-    fn process_event(
-        &self,
-        _event: &mut Option<Event>,
-        _options: &PlainOptions,
-    ) -> Result<(), AllocError> {
-        Ok(())
-    }
-
-    fn enrich_event(&self, event: Event, _options: &PlainOptions) -> Result<Event, AllocError> {
-        Ok(event)
-    }
-
-    fn before_send(&self, _event: &mut Option<Event>) -> Result<(), AllocError> {
-        Ok(())
-    }
-
-    fn before_breadcrumb(
-        &self,
-        breadcrumbs: Items<Breadcrumb>,
-    ) -> Result<Items<Breadcrumb>, AllocError> {
-        Ok(breadcrumbs)
-    }
-
-    fn before_send_log(&self, log: Log) -> Result<Option<Log>, AllocError> {
-        Ok(Some(log))
-    }
-
-    fn before_send_metric(&self, metric: Metric) -> Result<Option<Metric>, AllocError> {
-        Ok(Some(metric))
-    }
-
-    fn traces_rate(&self, _context: &TransactionContext) -> Result<u32, AllocError> {
-        Ok(0)
     }
 }

@@ -1,5 +1,5 @@
-//! What the static library `dochirwa` exports, as methods: an engine without callbacks, and an outbox for the envelopes
-//! that its calls hand out.
+//! What the static library `dochirwa` exports, as methods: an engine with filters in place of callbacks, and an outbox for
+//! the envelopes that its calls hand out.
 #![tactic(auto)]
 
 mod callbacks;
@@ -7,5 +7,5 @@ mod calls;
 mod moments;
 mod outbox_engine;
 
-pub use callbacks::{NoCallbacks, NoProcessor};
+pub use callbacks::NoProcessor;
 pub use outbox_engine::OutboxEngine;

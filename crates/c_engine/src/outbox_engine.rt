@@ -4,8 +4,9 @@ ghost use Rattle.sentry_state.specs.Worlds.{Stands, first_world};
 ghost use Rattle.c_base.specs.Outboxes.{waiting};
 ghost use Rattle.c_engine.specs.Keys as key;
 
-use crate::callbacks::{NoCallbacks, NoProcessor};
+use crate::callbacks::NoProcessor;
 use c_base::outbox::Outbox;
+use c_records::filters::Filters;
 use sentry_base::protocol::{
     ClientKey, HubKey, Label, SpanKey, TransactionKey, TransactionOrSpanKey,
 };
@@ -16,7 +17,7 @@ use std::alloc::{AllocError, Global};
 /// languages name an engine by its address.
 pub struct OutboxEngine {
     pub(crate) alloc: Global,
-    pub(crate) engine: Engine<NoProcessor, NoCallbacks>,
+    pub(crate) engine: Engine<NoProcessor, Filters>,
     pub(crate) outbox: Outbox,
 }
 

@@ -8,6 +8,7 @@ pub mod attributes;
 pub mod breadcrumbs;
 pub mod edits;
 pub mod events;
+pub mod filters;
 pub mod json;
 mod members;
 pub mod metrics;

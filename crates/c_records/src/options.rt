@@ -2,10 +2,12 @@
 ghost use Rattle.std.specs.Prelude.{◌≡◌, None, IfErr};
 ghost use Rattle.c_base.specs.Faults.{refusal_of};
 
+use crate::filters::Filters;
 use c_base::fault::CallFault;
 use sentry_base::protocol::{OrganizationId, Refusal, SampleRate};
-use sentry_options::clientoptions::{Callbacks, ClientOptions, SessionMode};
-use std::alloc::Global;
+use sentry_options::clientoptions::{ClientOptions, SessionMode};
+use sentry_plain::Text;
+use std::alloc::{AllocError, Global};
 
 // A fault in an option, or want of memory.
 fn option_fault(refusal: Refusal) -> CallFault
@@ -88,10 +90,10 @@ impl Setting {
     }
 }
 
-fn set<C: Callbacks>(
-    options: ClientOptions<C>,
+fn set(
+    options: ClientOptions<Filters>,
     setting: Setting,
-) -> Result<ClientOptions<C>, Refusal> {
+) -> Result<ClientOptions<Filters>, Refusal> {
     match setting {
         Setting::SampleRate(rate) => options.sample_rate(rate),
         Setting::TracesSampleRate(rate) => options.traces_sample_rate(rate),
@@ -114,6 +116,16 @@ enum TextOption {
     Release,
     Environment,
     ServerName,
+    Filter(Filter),
+}
+
+/// An option that says what is dropped.
+#[derive(Clone, Copy)]
+enum Filter {
+    Events,
+    Breadcrumbs,
+    Logs,
+    Metrics,
 }
 
 impl TextOption {
@@ -123,34 +135,63 @@ impl TextOption {
             "release" => Some(TextOption::Release),
             "environment" => Some(TextOption::Environment),
             "server" => Some(TextOption::ServerName),
+            "drop_events" => Some(TextOption::Filter(Filter::Events)),
+            "drop_breadcrumbs" => Some(TextOption::Filter(Filter::Breadcrumbs)),
+            "drop_logs" => Some(TextOption::Filter(Filter::Logs)),
+            "drop_metrics" => Some(TextOption::Filter(Filter::Metrics)),
             _ => None,
         }
     }
 }
 
-fn set_text<C: Callbacks>(
-    options: ClientOptions<C>,
+// The text by which what is dropped begins: none where it is empty, since everything begins with the empty text.
+fn prefix(alloc: Global, value: &str) -> Result<Option<Text>, AllocError> {
+    if value.is_empty() {
+        return Ok(None);
+    }
+    Ok(Some(Text::new(alloc, value)?))
+}
+
+fn set_filter(
+    mut options: ClientOptions<Filters>,
+    filter: Filter,
+    prefix: Option<Text>,
+) -> ClientOptions<Filters> {
+    match filter {
+        Filter::Events => options.callbacks.events = prefix,
+        Filter::Breadcrumbs => options.callbacks.breadcrumbs = prefix,
+        Filter::Logs => options.callbacks.logs = prefix,
+        Filter::Metrics => options.callbacks.metrics = prefix,
+    }
+    options
+}
+
+fn set_text(
+    alloc: Global,
+    options: ClientOptions<Filters>,
     option: TextOption,
     value: &str,
-) -> Result<ClientOptions<C>, Refusal> {
+) -> Result<ClientOptions<Filters>, Refusal> {
     match option {
         TextOption::Dsn => options.dsn(value),
         TextOption::Release => options.release(value),
         TextOption::Environment => options.environment(value),
         TextOption::ServerName => options.server_name(value),
+        TextOption::Filter(filter) => Ok(set_filter(options, filter, prefix(alloc, value)?)),
     }
 }
 
 // The options with this one set.
-fn set_option<C: Callbacks>(
-    options: ClientOptions<C>,
+fn set_option(
+    alloc: Global,
+    options: ClientOptions<Filters>,
     name: &str,
     value: &str,
-) -> Result<ClientOptions<C>, CallFault>
+) -> Result<ClientOptions<Filters>, CallFault>
     ensures { IfErr result (λ fault. refusal_of fault ≡ None) }
 {
     let done = match TextOption::read(name) {
-        Some(option) => set_text(options, option, value),
+        Some(option) => set_text(alloc, options, option, value),
         None => match Setting::read(name, value) {
             Some(setting) => set(options, setting),
             None => return Err(CallFault::Unknown),
@@ -165,21 +206,18 @@ fn set_option<C: Callbacks>(
 /// The options that a text sets; later lines stand over earlier ones, and empty lines say nothing. `dsn`, `release`,
 /// `environment` and `server` are texts; `rate` and `traces` are rates in millionths, where `1` stands for all; `strict`,
 /// `pii`, `logs` and `metrics` are `0` or `1`; `mode` is `application` or `request`; `org`, `crumbs`, `maxspans` and
-/// `maxbatch` are numbers.
-pub fn read_options<C: Callbacks>(
-    alloc: Global,
-    callbacks: C,
-    text: &str,
-) -> Result<ClientOptions<C>, CallFault>
+/// `maxbatch` are numbers; what begins with the text of `drop_events`, `drop_breadcrumbs`, `drop_logs` or `drop_metrics` is
+/// dropped, unless that text is empty: events and breadcrumbs by their message, logs by their body, metrics by their name.
+pub fn read_options(alloc: Global, text: &str) -> Result<ClientOptions<Filters>, CallFault>
     ensures { IfErr result (λ fault. refusal_of fault ≡ None) }
 {
-    let mut options = ClientOptions::with_callbacks(alloc, callbacks);
+    let mut options = ClientOptions::with_callbacks(alloc, Filters::none());
     for line in text.split('\n') {
         if !line.is_empty() {
             let Some((name, value)) = line.split_once('=') else {
                 return Err(CallFault::Unknown);
             };
-            options = set_option(options, name, value)?;
+            options = set_option(alloc, options, name, value)?;
         }
     }
     Ok(options)

@@ -5,20 +5,20 @@ use Rattle.sentry_state.specs.Worlds.{World, Stands, first_world}
 use Rattle.c_base.specs.Faults.{answer_of}
 use Rattle.c_base.specs.Outboxes.{waiting, View, Asks}
 use Rattle.c_engine.specs.declared.callbacks.NoProcessor.{NoProcessor}
-use Rattle.c_engine.specs.declared.callbacks.NoCallbacks.{NoCallbacks}
+use Rattle.c_records.specs.declared.filters.Filters.{Filters}
 use Rattle.c_engine.specs.declared.outbox_engine.OutboxEngine.{OutboxEngine}
 use Rattle.c_engine.specs.Calls.{Calls, SomeCalls, IsUnchanged}
 
 -- a closed seat stays closed, and answers 12; an open one has its engine make the call, whose answer is the number's
 abbrev pub IsCalled : {T : Type 0} → Option OutboxEngine → Option OutboxEngine → ℕ → (T → Type 0)
-    → (World NoProcessor NoCallbacks → Outcome NoProcessor NoCallbacks T) → Type 0
+    → (World NoProcessor Filters → Outcome NoProcessor Filters T) → Type 0
 IsCalled None new number IsReply outcome = (number ≡ 12) × (new ≡ None)
 IsCalled (Some old) None number IsReply outcome = ⊥
 IsCalled (Some old) (Some new) number IsReply outcome = (number < 12) × Calls old new (answer_of number) IsReply outcome
 
 -- the same of a call whose record is read from a text
 abbrev pub IsSomeCall : {A T : Type 0} → Option OutboxEngine → Option OutboxEngine → ℕ → (T → Type 0)
-    → (A → World NoProcessor NoCallbacks → Outcome NoProcessor NoCallbacks T) → Type 0
+    → (A → World NoProcessor Filters → Outcome NoProcessor Filters T) → Type 0
 IsSomeCall None new number IsReply outcome = (number ≡ 12) × (new ≡ None)
 IsSomeCall (Some old) None number IsReply outcome = ⊥
 IsSomeCall (Some old) (Some new) number IsReply outcome = (number < 12) × SomeCalls old new (answer_of number) IsReply outcome

@@ -3,10 +3,11 @@ ghost use Rattle.std.specs.Prelude.{◌≡◌};
 ghost use Rattle.sentry_calls.specs.Hubs as hubs;
 ghost use Rattle.sentry_calls.specs.Sessions as sessions;
 ghost use Rattle.sentry_calls.specs.Telemetry as telemetry;
-ghost use Rattle.sentry_captures.specs.Captures.{capture_event};
+ghost use Rattle.sentry_events.specs.Captures.{capture_event};
 ghost use Rattle.c_base.specs.Numbers.{id_of, id_or_nil, level_of, status_of};
 ghost use Rattle.c_engine.specs.Calls.{anything};
-ghost use Rattle.c_engine.specs.Engines.{same_event, no_callbacks};
+ghost use Rattle.c_engine.specs.Engines.{same_event};
+ghost use Rattle.c_records.specs.Filters.{filter_meanings};
 ghost use Rattle.c_engine.specs.Keys.{hub_key};
 ghost use Rattle.c_engine.specs.Moments.{fresh_of};
 ghost use Rattle.dochirwa.specs.Exports.{IsCalled, IsSomeCall};
@@ -27,7 +28,7 @@ pub extern "C" fn dochirwa_capture_message(
     id: &mut Id,
 ) -> u32
     ensures { IsCalled seat.old.engine seat.new.engine result (λ reply. id.new ≡ id_of reply)
-        (hubs.capture_message same_event no_callbacks (hub_key hub) message.now (level_of level)
+        (hubs.capture_message same_event filter_meanings (hub_key hub) message.now (level_of level)
         (fresh_of fresh.entry.now)) }
 {
     if seat.is_closed() {
@@ -82,7 +83,7 @@ pub extern "C" fn dochirwa_capture_event(
     id: &mut Id,
 ) -> u32
     ensures { IsSomeCall seat.old.engine seat.new.engine result (λ reply. id.new ≡ id_of reply)
-        (λ event. capture_event same_event no_callbacks (hub_key hub) event (fresh_of fresh.entry.now)) }
+        (λ event. capture_event same_event filter_meanings (hub_key hub) event (fresh_of fresh.entry.now)) }
 {
     if seat.is_closed() {
         return CLOSED;
@@ -101,7 +102,7 @@ pub extern "C" fn dochirwa_capture_log(
     now: u64,
 ) -> u32
     ensures { IsSomeCall seat.old.engine seat.new.engine result anything
-        (λ log. telemetry.capture_log no_callbacks (hub_key hub) log) }
+        (λ log. telemetry.capture_log filter_meanings (hub_key hub) log) }
 {
     if seat.is_closed() {
         return CLOSED;
@@ -122,7 +123,7 @@ pub extern "C" fn dochirwa_capture_metric(
     now: u64,
 ) -> u32
     ensures { IsSomeCall seat.old.engine seat.new.engine result anything
-        (λ draft. telemetry.capture_metric no_callbacks (hub_key hub) draft now) }
+        (λ draft. telemetry.capture_metric filter_meanings (hub_key hub) draft now) }
 {
     if seat.is_closed() {
         return CLOSED;

@@ -4,7 +4,7 @@ ghost use Rattle.sentry_base.specs.Losses.{category_at, loss_of, reason_at};
 ghost use Rattle.sentry_calls.specs.Clients as clients;
 ghost use Rattle.sentry_calls.specs.Losses as losses;
 ghost use Rattle.c_engine.specs.Calls.{anything};
-ghost use Rattle.c_engine.specs.Engines.{no_callbacks};
+ghost use Rattle.c_records.specs.Filters.{filter_meanings};
 ghost use Rattle.c_engine.specs.Keys as key;
 ghost use Rattle.c_engine.specs.Keys.{client_key};
 ghost use Rattle.dochirwa.specs.Exports.{IsCalled, IsSomeCall};
@@ -100,7 +100,7 @@ pub extern "C" fn dochirwa_add_client(
     client: &mut u64,
 ) -> u32
     ensures { IsSomeCall seat.old.engine seat.new.engine result (λ key. client.new ≡ key.number)
-        (λ options. clients.add_client no_callbacks options true (key.label label) now) }
+        (λ options. clients.add_client filter_meanings options true (key.label label) now) }
 {
     if seat.is_closed() {
         return CLOSED;

@@ -4,7 +4,7 @@ ghost use Rattle.sentry_calls.specs.Hubs as hubs;
 ghost use Rattle.sentry_scope.specs.declared.scope.edit.ScopeEdit.TheVariants.{SetTag, SetSpan, Clear, ClearBreadcrumbs, ClearAttachments, AddAttachment};
 ghost use Rattle.sentry_state.specs.Breadcrumbs.{add_breadcrumbs};
 ghost use Rattle.c_engine.specs.Calls.{anything};
-ghost use Rattle.c_engine.specs.Engines.{no_callbacks};
+ghost use Rattle.c_records.specs.Filters.{filter_meanings};
 ghost use Rattle.c_engine.specs.Keys.{hub_key, either_key};
 ghost use Rattle.c_engine.specs.Moments.{fresh_of};
 ghost use Rattle.dochirwa.specs.Exports.{IsCalled, IsSomeCall};
@@ -95,7 +95,7 @@ pub extern "C" fn dochirwa_add_breadcrumb(
     now: u64,
 ) -> u32
     ensures { IsSomeCall seat.old.engine seat.new.engine result anything
-        (λ breadcrumbs. add_breadcrumbs no_callbacks (hub_key hub) breadcrumbs) }
+        (λ breadcrumbs. add_breadcrumbs filter_meanings (hub_key hub) breadcrumbs) }
 {
     if seat.is_closed() {
         return CLOSED;

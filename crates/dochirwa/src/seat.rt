@@ -22,6 +22,9 @@ impl Model for Seat {
     ghost also_owns = { λ s. seat_owns s.alloc s.at s.engine };
 }
 
+// Its engine may be used and freed by any thread. The proof is in `proofs/seat/Seat/TheSendSync`.
+unsafe impl Send for Seat {}
+
 impl Seat {
     ghost use types.Logic.{sem};
     ghost use Rattle.dochirwa.specs.SeatFollows.{seat_follows};

@@ -5,7 +5,7 @@ ghost use Rattle.sentry_span_edits.specs.Setters as setters;
 ghost use Rattle.sentry_spans.specs.Spans as spans;
 ghost use Rattle.sentry_trace.specs.Contexts.{new_context};
 ghost use Rattle.c_engine.specs.Calls.{anything};
-ghost use Rattle.c_engine.specs.Engines.{no_callbacks};
+ghost use Rattle.c_records.specs.Filters.{filter_meanings};
 ghost use Rattle.c_engine.specs.Keys.{hub_key, span_key, transaction_key, either_key};
 ghost use Rattle.c_engine.specs.Moments.{fresh_of};
 ghost use Rattle.dochirwa.specs.Exports.{IsCalled, IsSomeCall, IsRead};
@@ -26,7 +26,7 @@ pub extern "C" fn dochirwa_start_transaction(
     transaction: &mut u64,
 ) -> u32
     ensures { IsCalled seat.old.engine seat.new.engine result (λ key. transaction.new ≡ key.number)
-        (spans.start_transaction no_callbacks (hub_key hub)
+        (spans.start_transaction filter_meanings (hub_key hub)
         (new_context name.now op.now (fresh_of fresh.entry.now).trace_id (fresh_of fresh.entry.now).span_id) (fresh_of fresh.entry.now)) }
 {
     if seat.is_closed() {
@@ -82,7 +82,7 @@ pub extern "C" fn dochirwa_finish_transaction(
     now: u64,
 ) -> u32
     ensures { IsCalled seat.old.engine seat.new.engine result anything
-        (spans.finish_transaction no_callbacks (transaction_key transaction) (hub_key hub) now) }
+        (spans.finish_transaction (transaction_key transaction) (hub_key hub) now) }
 {
     if seat.is_closed() {
         return CLOSED;
@@ -115,7 +115,7 @@ pub extern "C" fn dochirwa_continue_transaction(
     transaction: &mut u64,
 ) -> u32
     ensures { IsSomeCall seat.old.engine seat.new.engine result (λ key. transaction.new ≡ key.number)
-        (λ context. spans.start_transaction no_callbacks (hub_key hub) context (fresh_of fresh.entry.now)) }
+        (λ context. spans.start_transaction filter_meanings (hub_key hub) context (fresh_of fresh.entry.now)) }
 {
     if seat.is_closed() {
         return CLOSED;

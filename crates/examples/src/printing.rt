@@ -166,7 +166,7 @@ fn print_metrics(rt: &impl Print, metrics: &[Metric]) -> io::Result<()> {
 
 fn print_attributes(rt: &impl Print, attributes: &TextMap<LogAttribute>) -> io::Result<()> {
     for (key, value) in attributes.iter() {
-        print_attribute(rt, key.as_str(), &value.0)?;
+        print_attribute(rt, key, &value.0)?;
     }
     Ok(())
 }

@@ -2,10 +2,13 @@
 use crate::workshop::{Minute, SEED, new_sink};
 use sentry_core::protocol::Refusal;
 use sentry_core::{
-    ClientInitGuard, ClientOptions, Envelope, ThreadHub, Transport, init, logger_info,
+    ClientInitGuard, ClientOptions, Envelope, ThreadHub, TickClock, Transport, init, logger_info,
 };
 use std::alloc::Global;
+use std::sync::Arc;
+use std::sync::atomic::{AtomicU64, Ordering};
 use std::test::Fail;
+use std::thread::yield_now;
 
 fn options(alloc: Global) -> Result<ClientOptions, Refusal> {
     ClientOptions::from_dsn(alloc, "https://public@sentry.invalid/1")
@@ -23,11 +26,12 @@ impl Transport for Stuck {
     }
 }
 
-// Drops the guard of a client in whose queue a log waits. Answers whether the client is active then.
-fn drop_guard(guard: ClientInitGuard, thread: &mut ThreadHub) -> Result<bool, Refusal> {
+// Drops the guard of a client in whose queue a log waits. Answers whether the client is active before and after.
+fn drop_guard(guard: ClientInitGuard, thread: &mut ThreadHub) -> Result<[bool; 2], Refusal> {
     logger_info!(thread, "it waits")?;
+    let before = guard.client().is_enabled()?;
     drop(guard);
-    thread.current.is_active()
+    Ok([before, thread.current.is_active()?])
 }
 
 #[test]
@@ -35,10 +39,10 @@ fn a_guard_closes_its_client(rt: HostRuntime) -> Result<(), Fail> {
     let options = options(rt.alloc())?;
     let sink = new_sink(rt.alloc())?;
     let (guard, mut thread) = init!(rt, options, sink.clone()?)?;
-    let is_active = drop_guard(guard, &mut thread)?;
+    let are_active = drop_guard(guard, &mut thread)?;
     drop(thread);
     let sent = sink.take(rt.alloc()).len();
-    assert_eq!(rt; (is_active, sent), (false, 1));
+    assert_eq!(rt; (are_active, sent), ([true, false], 1));
     Ok(())
 }
 
@@ -49,5 +53,38 @@ fn a_guard_tells_that_not_all_was_sent(rt: HostRuntime) -> Result<(), Fail> {
     drop(thread);
     let has_sent_all = guard.close()?;
     assert!(rt; !has_sent_all);
+    Ok(())
+}
+
+/// Tells a moment at each call. When it is dropped, it counts that in a word.
+struct Endless(Arc<AtomicU64>);
+
+impl Drop for Endless {
+    fn drop(self) {
+        let Endless(dropped) = self;
+        dropped.fetch_add(1, Ordering::SeqCst);
+    }
+}
+
+impl TickClock for Endless {
+    fn next(&mut self) -> Option<u64> {
+        yield_now();
+        Some(1)
+    }
+}
+
+#[test]
+fn a_guard_ends_its_worker(rt: HostRuntime) -> Result<(), Fail> {
+    let dropped = Arc::new(rt.alloc(), AtomicU64::new(0))?;
+    let ticks = Endless(dropped.clone()?);
+    let (guard, thread) = init!(rt, options(rt.alloc())?, Stuck, Minute, SEED, ticks)?;
+    drop(thread);
+    let has_sent_all = guard.close()?;
+    assert_eq!(rt; (has_sent_all, dropped.load(Ordering::SeqCst)), (false, 1));
+    let ticks = Endless(dropped.clone()?);
+    let (guard, thread) = init!(rt, options(rt.alloc())?, Stuck, Minute, SEED, ticks)?;
+    drop(thread);
+    drop(guard);
+    assert_eq!(rt; dropped.load(Ordering::SeqCst), 2);
     Ok(())
 }

@@ -40,13 +40,22 @@ fn is_lent<L: CoreLock>(thread: &mut Thread<L>) -> Result<bool, Refusal> {
     Hub::with_active(thread, |hub, thread| hub.key() == thread.current.key())
 }
 
-// The same while the hub has a client, and when it has none any more. At last, whether one is lent any hub.
-fn ask<L: CoreLock>(thread: &mut Thread<L>) -> Result<[bool; 3], Refusal> {
+// Whether a closure runs while another hub is the current one, which it is lent.
+fn is_run_under<L: CoreLock>(thread: &mut Thread<L>) -> Result<bool, Refusal> {
+    let hub = Hub::new_from_top(&thread.current)?;
+    let (before, key) = (thread.current.key(), hub.key());
+    let lent = Hub::run(hub, thread, |hub, thread| (hub.key(), thread.current.key()))?;
+    Ok(lent == (key, key) && thread.current.key() == before)
+}
+
+// The same of the current hub while it has a client, and when it has none any more. At last, whether one is lent any hub.
+fn ask<L: CoreLock>(thread: &mut Thread<L>) -> Result<[bool; 4], Refusal> {
+    let other = is_run_under(thread)?;
     let first = is_lent(thread)?;
     unbind_client(&thread.current)?;
     let second = is_lent(thread)?;
     let any = Hub::with(thread, |hub, thread| hub.key() == thread.current.key())?;
-    Ok([first, second, any])
+    Ok([other, first, second, any])
 }
 
 #[test]
@@ -54,7 +63,7 @@ fn closures_are_lent_an_active_hub(rt: HostRuntime) -> Result<(), Fail> {
     let mut bench = Bench::new(rt, rt.alloc())?;
     let are_lent = ask(&mut bench.thread)?;
     drop(bench);
-    assert_eq!(rt; are_lent, [true, false, true]);
+    assert_eq!(rt; are_lent, [true, true, false, true]);
     Ok(())
 }
 

@@ -7,6 +7,8 @@ mod breadcrumbs;
 #[cfg(test)]
 mod current;
 #[cfg(test)]
+mod ends;
+#[cfg(test)]
 mod errors;
 #[cfg(test)]
 mod guards;

@@ -1,12 +1,9 @@
 //! Work that is run in a scope, on a hub of its own, and under a transaction and a span; and what is left after it.
 use crate::current::draw_ids;
 use crate::workshop::{Bench, Thread, fresh};
-use sentry_core::protocol::{HubKey, Refusal, SpanKey, TransactionKey, TransactionOrSpanKey};
+use sentry_core::protocol::{Refusal, SpanKey, TransactionOrSpanKey};
 use sentry_core::{Level, in_new_hub, in_scope, in_span, in_transaction, transaction_context};
-use sentry_engine::call::{Call, HubCall};
-use sentry_hub::performance::TransactionOrSpan;
 use sentry_lock::core_lock::CoreLock;
-use sentry_lock::shared_core::SharedCore;
 use std::alloc::{AllocError, Global};
 use std::test::Fail;
 
@@ -54,56 +51,40 @@ fn run_all<L: CoreLock>(thread: &mut Thread<L>, refusal: Option<Refusal>) -> [An
     [first, second, run_traced(thread, refusal)]
 }
 
-// The transaction and the span of a number.
-fn names(number: u64) -> [TransactionOrSpanKey; 2] {
-    [
-        TransactionOrSpanKey::Transaction(TransactionKey { tag: 5, number }),
-        TransactionOrSpanKey::Span(SpanKey { tag: 5, number }),
-    ]
+// What work answers in a scope that is refused: it doesn't run.
+fn run_refused<L: CoreLock>(thread: &mut Thread<L>) -> Answer {
+    in_scope(
+        thread,
+        |_edits| -> Result<(), AllocError> { Err(AllocError) },
+        |thread| -> Answer { work(thread, 4, None) },
+    )
 }
 
-// How many are held of the transactions and spans of a number.
-fn count_held<L: CoreLock>(core: &SharedCore<L>, number: u64) -> Result<u64, AllocError> {
-    let mut held = 0u64;
-    for name in names(number) {
-        if TransactionOrSpan::new(core, name)?.get_status() != Err(Refusal::Stale) {
-            held = held.wrapping_add(1);
-        }
-    }
-    Ok(held)
-}
-
-// Whether a hub is held.
-fn holds_hub<L: CoreLock>(core: &SharedCore<L>, number: u64) -> bool {
-    let hub = HubKey { tag: 5, number };
-    core.call(Call::Hub(HubCall::LastEventId(hub))).is_ok()
-}
-
-// What is left after work that was run twice in each way: whether its hubs are held, how many of its transactions and
-// spans are, what is active, and why the hub isn't given back.
-type Left = (
-    [bool; 2],
-    [u64; 2],
-    Option<TransactionOrSpanKey>,
-    Result<(), Refusal>,
-);
+// What is left of work: what the core holds, as it is printed, what is active, and why the hub isn't given back.
+type Left = (String, Option<TransactionOrSpanKey>, Result<(), Refusal>);
 
 fn look<L: CoreLock>(thread: &mut Thread<L>) -> Result<Left, Refusal> {
     let core = thread.current.core();
-    let hubs = [holds_hub(core, 1), holds_hub(core, 2)];
-    let held = [count_held(core, 0)?, count_held(core, 1)?];
+    let held = format!(in core.allocator(); "{core:?}")?;
     let active = thread.current.scope()?.get_span();
     let hub = thread.current.clone()?;
-    Ok((hubs, held, active, hub.release(thread)))
+    Ok((held, active, hub.release(thread)))
 }
 
-// What work answers that is let be, what work answers that is refused, and what is left.
-type Found = ([Answer; 3], [Answer; 3], Left);
+// What work answers that is let be, that is refused, and whose scope is refused; and what is left.
+type Found = ([Answer; 3], [Answer; 3], Answer, Left);
 
-fn run_twice<L: CoreLock>(thread: &mut Thread<L>) -> Result<Found, Refusal> {
+fn run_thrice<L: CoreLock>(thread: &mut Thread<L>) -> Result<Found, Refusal> {
     let first = run_all(thread, None);
     let second = run_all(thread, Some(Refusal::Full));
-    Ok((first, second, look(thread)?))
+    let third = run_refused(thread);
+    Ok((first, second, third, look(thread)?))
+}
+
+// What is left where nothing is: the client, and its hub with one layer.
+fn nothing_left(alloc: Global) -> Result<Left, AllocError> {
+    let held = "Held { clients: 1, hubs: 1, layers: 1, transactions: 0, spans: 0, sessions: 0 }";
+    Ok((String::from_str(alloc, held)?, None, Ok(())))
 }
 
 // What is sent, as a text.
@@ -127,15 +108,16 @@ fn what_is_sent(alloc: Global) -> Result<String, AllocError> {
 #[test]
 fn nothing_is_left_of_work_that_ended(rt: HostRuntime) -> Result<(), Fail> {
     let mut bench = Bench::new(rt, rt.alloc())?;
-    let found = run_twice(&mut bench.thread)?;
+    let (first, second, third, left) = run_thrice(&mut bench.thread)?;
     let sent = bench.finish()?;
-    let [_, span] = names(0);
-    let first = [Ok(None), Ok(None), Ok(Some(span))];
-    let left = ([false; 2], [0; 2], None, Ok(()));
-    let expected = what_is_sent(rt.alloc())?;
+    let span = TransactionOrSpanKey::Span(SpanKey { tag: 5, number: 0 });
+    assert_eq!(rt; first, [Ok(None), Ok(None), Ok(Some(span))]);
     assert_eq!(rt;
-        (found, sent.as_str()),
-        ((first, [Err(Refusal::Full); 3], left), expected.as_str())
+        (second, third),
+        ([Err(Refusal::Full); 3], Err(Refusal::OutOfMemory))
     );
+    assert_eq!(rt; left, nothing_left(rt.alloc())?);
+    let expected = what_is_sent(rt.alloc())?;
+    assert_eq!(rt; sent.as_str(), expected.as_str());
     Ok(())
 }

@@ -15,11 +15,19 @@ fn send_within<L: CoreLock>(hub: &Hub<L>) -> Result<Uuid, Refusal> {
     )?
 }
 
+// Pushes a layer and pops it.
+fn push_and_pop<L: CoreLock>(hub: &Hub<L>) -> Result<(), Refusal> {
+    let guard = hub.push_scope()?;
+    hub.pop_scope(guard, at(1))?;
+    Ok(())
+}
+
 // Sends messages under a scope of its own and after it. Answers whether the hub's scope had no tags, before each of two
 // is set.
 fn send_both<L: CoreLock>(hub: &Hub<L>) -> Result<(bool, bool), Refusal> {
     let first = set_tag(hub, "a", "1")?;
     send_within(hub)?;
+    push_and_pop(hub)?;
     let second = set_tag(hub, "c", "3")?;
     hub.capture_message("later", Level::Info, fresh(2))?;
     Ok((first, second))

@@ -59,7 +59,7 @@ fn push_event(text: &mut String, event: &Event) -> Result<(), AllocError> {
 
 fn push_tags(text: &mut String, tags: &TextMap<Text>) -> Result<(), AllocError> {
     for (key, value) in tags.iter() {
-        write!(text, " {}={}", key.as_str(), value.as_str())?;
+        write!(text, " {key}={}", value.as_str())?;
     }
     Ok(())
 }
@@ -135,7 +135,7 @@ fn push_attributes(
     attributes: &TextMap<LogAttribute>,
 ) -> Result<(), AllocError> {
     for (key, attribute) in attributes.iter() {
-        match key.as_str() {
+        match key {
             "sentry.release" | "sentry.sdk.name" | "sentry.sdk.version" => {}
             key => push_attribute(text, key, &attribute.0)?,
         }

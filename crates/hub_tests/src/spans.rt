@@ -1,5 +1,5 @@
 //! The data of transactions and spans as closures are lent it, and values of which some are equal.
-use crate::workshop::{Bench, Thread, fresh};
+use crate::workshop::{Bench, Thread, at, fresh};
 use sentry_core::TransactionContext;
 use sentry_core::protocol::{Refusal, SpanId, TraceId, Value};
 use sentry_hub::performance::{Span, Transaction, TransactionOrSpan};
@@ -14,7 +14,7 @@ fn edit<L: CoreLock>(
     span: &Span<L>,
 ) -> Result<(usize, bool), Refusal> {
     let count = transaction.data(|data| {
-        data.set_data("color", Value::Int(1))?;
+        data.set_data("color", 1u64)?;
         data.set_tag("os", "linux")?;
         Ok(data.iter().count())
     })?;
@@ -26,7 +26,7 @@ fn edit<L: CoreLock>(
     Ok((count, is_there))
 }
 
-// Edits both twice, finishes them by the thread's clock, and edits them once more.
+// Edits both twice, finishes them at the seconds 50 and 59, the transaction a second time, and edits both once more.
 fn edit_thrice<L: CoreLock>(
     thread: &mut Thread<L>,
     transaction: &Transaction<L>,
@@ -34,8 +34,9 @@ fn edit_thrice<L: CoreLock>(
 ) -> Result<[(usize, bool); 3], Refusal> {
     let first = edit(transaction, span)?;
     let second = edit(transaction, span)?;
-    span.finish(thread)?;
-    transaction.finish(thread)?;
+    span.finish_with_timestamp(at(50))?;
+    TransactionOrSpan::from(transaction.clone()?).finish_with_timestamp(thread, at(59))?;
+    transaction.finish_with_timestamp(thread, at(70))?;
     Ok([first, second, edit(transaction, span)?])
 }
 
@@ -76,7 +77,7 @@ fn data_is_lent_as_a_copy_with_its_setters(rt: HostRuntime) -> Result<(), Fail> 
     let mut bench = Bench::new(rt, rt.alloc())?;
     let found = trace(&mut bench.thread)?;
     let sent = bench.finish()?;
-    let expected = "; transaction 1 since 1 until 60 os=linux, span until 60 db=old";
+    let expected = "; transaction 1 since 1 until 59 os=linux, span until 50 db=old";
     // a finished transaction has no data, a finished span keeps its own
     let edited = [(0, false), (1, true), (0, true)];
     assert_eq!(rt; (found, sent.as_str()), ((edited, (true, false)), expected));

@@ -208,8 +208,8 @@ fn is_sampled(alloc: Global, engine: &mut Engine, hub: HubKey) -> Result<bool, R
     let ids = fresh();
     let context = TransactionContext::new(alloc, "sell", "till", ids.trace_id, ids.span_id)?;
     let sale = engine.start_transaction(hub, context, ids)?.reply;
-    let name = TransactionOrSpanKey::Transaction(sale);
-    Ok(engine.is_sampled(name)?.reply)
+    let span = TransactionOrSpanKey::Transaction(sale);
+    Ok(engine.is_sampled(span)?.reply)
 }
 
 /// What the other callbacks come to: what no breadcrumbs come to, and what three do; whether a metric has its unit; and

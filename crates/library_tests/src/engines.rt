@@ -1,7 +1,7 @@
 //! Texts that are played on engines which no program makes: with another tag than the keys that the text names, with
 //! few numbers left, or with something that they hold before the first line.
 use scenario_run::callbacks::{Callbacks, Handler};
-use scenario_run::{TAG, run_scenario_by};
+use scenario_run::{Envelopes, TAG, run_scenario_by};
 use sentry_core::TransactionContext;
 use sentry_core::protocol::{
     Draw, Fresh, Label, Refusal, SpanId, TraceId, TransactionOrSpanKey, Uuid,
@@ -56,7 +56,7 @@ fn fill(alloc: Global, tag: u64, engine: &mut Engine) -> Result<(), Refusal> {
 fn play(alloc: Global, engine: Engine, text: &str) -> Option<Vec<u8>> {
     let mut text = text.as_bytes();
     let mut written: Vec<u8> = Vec::new(alloc);
-    match run_scenario_by(alloc, engine, &mut text, &mut written) {
+    match run_scenario_by(alloc, engine, Envelopes::Lines, &mut text, &mut written) {
         Ok(()) => Some(written),
         Err(_) => None,
     }

@@ -1,5 +1,5 @@
-//! Tests of what no text given to a program can show: boxed callbacks, engines that no program makes, and keys of
-//! another engine. Beside them stands a caller of `Engine::run` that promises a law of whole runs.
+//! Tests of what no text given to a program can show: boxed callbacks, engines that no program makes, keys of another
+//! engine, envelopes as bytes, and scopes that a caller holds. Beside them stands a caller of `Engine::run` that promises a law of whole runs.
 #![tactic(auto)]
 
 #[cfg(test)]
@@ -9,7 +9,11 @@ mod callbacks;
 #[cfg(test)]
 mod engines;
 #[cfg(test)]
+mod envelopes;
+#[cfg(test)]
 mod names;
 pub mod promises;
+#[cfg(test)]
+mod scopes;
 #[cfg(test)]
 mod streams;

@@ -3,9 +3,10 @@ use crate::engines::{Engine, engine_with_a_span, fresh, scope};
 use crate::promises::run_calls;
 use scenario_run::callbacks::{Callbacks, Handler};
 use sentry_core::SpanTable;
+use sentry_core::client_report::LossWords;
 use sentry_core::protocol::{
-    ClientKey, Draw, Event, HubKey, Log, LogLevel, Refusal, SampleRate, SpanKey,
-    TransactionOrSpanKey, Uuid,
+    ClientKey, Draw, Event, HubKey, Label, Log, LogLevel, Refusal, SampleRate, SpanId, SpanKey,
+    TraceId, TransactionOrSpanKey, Uuid,
 };
 use sentry_engine::call::{Answer, Call, ClientCall, HubCall, Reply};
 use sentry_engine::engine::Out;
@@ -66,6 +67,44 @@ fn a_guard_of_another_engine_is_handed_back(rt: HostRuntime) -> Result<(), Fail>
     let back = foreign_guard(rt.alloc())?;
     let guard = (HubKey { tag: 4, number: 0 }, 1);
     assert!(rt; back == Some((Refusal::Stale, guard)));
+    Ok(())
+}
+
+/// The trace and the parent of a context that goes on from the span.
+fn continued(alloc: Global) -> Result<(TraceId, Option<SpanId>), Refusal> {
+    let engine = engine_with_a_span(alloc, 0)?;
+    let context = engine
+        .continue_from_span("name", "op", Some(SPAN), fresh())?
+        .reply;
+    Ok((context.trace_id(), context.parent_span_id))
+}
+
+#[test]
+fn a_trace_goes_on_from_a_span(rt: HostRuntime) -> Result<(), Fail> {
+    let ids = fresh();
+    assert!(rt; continued(rt.alloc())? == (ids.trace_id, Some(ids.span_id)));
+    Ok(())
+}
+
+/// Why an engine doesn't absorb losses of this label, and the label of those that come back.
+fn unabsorbed(alloc: Global, label: Label) -> Result<Option<(Refusal, Label)>, Refusal> {
+    let mut engine = engine_with_a_span(alloc, 0)?;
+    let (_recorder, mut drainer) = LossWords::new(alloc, label)?;
+    match engine.absorb(drainer.drain()) {
+        Ok(_) => Ok(None),
+        Err((refusal, drained)) => {
+            let (label, _) = drained.into_parts();
+            Ok(Some((refusal, label)))
+        }
+    }
+}
+
+#[test]
+fn losses_of_another_label_are_handed_back(rt: HostRuntime) -> Result<(), Fail> {
+    let (held, other) = (Label { tag: 0, number: 0 }, Label { tag: 0, number: 1 });
+    assert!(rt; unabsorbed(rt.alloc(), held)?.is_none());
+    let back = Some((Refusal::ForeignLosses, other));
+    assert!(rt; unabsorbed(rt.alloc(), other)? == back);
     Ok(())
 }
 

@@ -39,9 +39,9 @@ impl Read for Broken<'_> {
 
 /// Keeps so many bytes, and then answers only errors.
 #[derive(Drop)]
-struct Full {
-    kept: Vec<u8>,
-    room: usize,
+pub(crate) struct Full {
+    pub(crate) kept: Vec<u8>,
+    pub(crate) room: usize,
 }
 
 impl Write for Full {

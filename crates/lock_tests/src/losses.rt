@@ -2,7 +2,7 @@
 use crate::workshop::{Held, Lock, Notebook, Options, event, fresh, options};
 use sentry_base::protocol::{ClientKey, Envelope, Refusal};
 use sentry_lock::core_lock::{Gate, Waiting};
-use sentry_lock::transport::Transport;
+use sentry_transport::transport::Transport;
 use std::alloc::Global;
 use std::sync::Arc;
 use std::test::Fail;

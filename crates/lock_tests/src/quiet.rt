@@ -2,7 +2,7 @@
 use sentry_base::callbacks::EventCallback;
 use sentry_base::protocol::{Breadcrumb, Event, Log, Metric};
 use sentry_options::clientoptions::{Callbacks, PlainOptions};
-use sentry_plain::{Items, Text};
+use sentry_plain::{Boxed, Items, Text};
 use sentry_trace::performance::TransactionContext;
 use std::alloc::{AllocError, Global};
 
@@ -48,7 +48,7 @@ impl Callbacks for Quiet {
 
     fn process_event(
         &self,
-        _event: &mut Option<Event>,
+        _event: &mut Option<Boxed<Event>>,
         _options: &PlainOptions,
     ) -> Result<(), AllocError> {
         Ok(())
@@ -58,7 +58,7 @@ impl Callbacks for Quiet {
         Ok(event)
     }
 
-    fn before_send(&self, _event: &mut Option<Event>) -> Result<(), AllocError> {
+    fn before_send(&self, _event: &mut Option<Boxed<Event>>) -> Result<(), AllocError> {
         if self.is_starving {
             return Err(AllocError);
         }

@@ -8,7 +8,8 @@ use sentry_engine::call::{Call, ClientCall};
 use sentry_lock::client::Client;
 use sentry_lock::core_lock::{CoreLock, Waiting};
 use sentry_lock::shared_core::SharedCore;
-use sentry_lock::transport::{
+use sentry_plain::Boxed;
+use sentry_transport::transport::{
     BoxedTransport, NoOpTransport, Transport, TransportFactory, TransportOptions,
 };
 use std::alloc::{AllocError, Global};
@@ -54,7 +55,7 @@ fn the_answers_of_a_shared_transport_are_handed_on(rt: HostRuntime) -> Result<()
 /// An envelope of an event with the id of a number.
 fn envelope(alloc: Global, number: u64) -> Result<Envelope, AllocError> {
     let mut envelope = Envelope::new(alloc);
-    envelope.add_item(EnvelopeItem::Event(event(alloc, number)?))?;
+    envelope.add_item(EnvelopeItem::Event(Boxed::new(alloc, event(alloc, number)?)?))?;
     Ok(envelope)
 }
 

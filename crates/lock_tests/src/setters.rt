@@ -1,6 +1,6 @@
 //! The setters of a copy of a scope.
 use crate::quiet::Passes;
-use sentry_base::protocol::{Attachment, Context, Level, SpanId, TraceId, User, Value, ValueMap};
+use sentry_base::protocol::{Attachment, Context, Level, SpanId, TraceId, User, ValueMap};
 use sentry_lock::scope_edits::ScopeEdits;
 use sentry_plain::{Items, Text};
 use sentry_scope::scope::Scope;
@@ -16,17 +16,18 @@ fn attachment(alloc: Global) -> Result<Attachment, AllocError> {
     })
 }
 
-/// Whether ten setters, each of a part of its own, have memory enough.
+/// Whether eleven calls of setters have memory enough.
 fn set_all(alloc: Global, edits: &mut ScopeEdits<Passes>, file: Attachment) -> bool {
     edits.set_level(Some(Level::Error)).is_ok()
         & edits.set_fingerprint(Some(&["till", "drawer"])).is_ok()
         & edits.set_transaction(Some("sell")).is_ok()
         & edits.set_user(Some(User::new(alloc))).is_ok()
         & edits.set_tag("till", "3").is_ok()
-        & edits.set_extra("lamps", Value::Int(2)).is_ok()
+        & edits.set_extra("lamps", 2u64).is_ok()
         & edits
             .set_context("shop", Context::Other(ValueMap::new(alloc)))
             .is_ok()
+        & edits.set_context("town", ("name", "Bern")).is_ok()
         & edits.add_attachment(file).is_ok()
         & edits.add_event_processor(Passes).is_ok()
         & edits.set_span(None).is_ok()
@@ -48,7 +49,8 @@ fn each_setter_is_an_edit(rt: HostRuntime) -> Result<(), Fail> {
     let file = attachment(alloc)?;
     let mut edits = ScopeEdits::new(alloc, Scope::new(alloc, TraceId([1; 16]), SpanId([2; 8])));
     let are_done = set_all(alloc, &mut edits, file) & remove_all(&mut edits);
-    assert!(rt; are_done && edits.user().is_none());
-    assert_eq!(rt; edits.into_edits().len(), 16);
+    assert!(rt; are_done && edits.user().is_none() && edits.get_span().is_none());
+    assert!(rt; edits.scope().user().is_none());
+    assert_eq!(rt; edits.into_edits().len(), 17);
     Ok(())
 }

@@ -8,8 +8,8 @@ use sentry_client_reports::client_reports::{Recorder, TransportLossReason};
 use sentry_lock::client::Client;
 use sentry_lock::core_lock::{CoreLock, Gate, Locked};
 use sentry_lock::shared_core::SharedCore;
-use sentry_lock::transport::Transport;
 use sentry_options::clientoptions::ClientOptions;
+use sentry_transport::transport::Transport;
 use std::alloc::{AllocError, Global};
 use std::sync::{Mutex, Wait};
 

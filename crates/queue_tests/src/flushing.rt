@@ -1,8 +1,8 @@
 //! What reaches the inner transport: what is passed on, in which order, and what a flush and a shutdown do.
 use crate::workshop::{Five, Notebook, Queue, event_alone, send, transport_options};
 use sentry_base::protocol::{Category, Envelope, Refusal};
-use sentry_lock::transport::Transport;
-use sentry_queue_transport::queue_transport::{DEFAULT_CAPACITY, QueueTransport};
+use sentry_transport::queue_transport::{DEFAULT_CAPACITY, QueueTransport};
+use sentry_transport::transport::Transport;
 use std::alloc::{AllocError, Global};
 use std::num::NonZeroUsize;
 use std::sync::atomic::{AtomicU64, Ordering};

@@ -1,11 +1,12 @@
 //! What the tests are made of: a clock that stands, an inner transport that takes notes, options and envelopes.
+use sentry_base::clock::Clock;
 use sentry_base::protocol::{Envelope, EnvelopeItem, Event, Refusal, Uuid};
 use sentry_client_reports::client_reports::Recorder;
-use sentry_clock::Clock;
-use sentry_lock::transport::{Transport, TransportOptions};
 use sentry_options::clientoptions::UserAgent;
-use sentry_queue_transport::queue_transport::QueueTransport;
+use sentry_plain::Boxed;
 use sentry_texts::dsn::Dsn;
+use sentry_transport::queue_transport::QueueTransport;
+use sentry_transport::transport::{Transport, TransportOptions};
 use std::alloc::{AllocError, Global};
 use std::num::NonZeroUsize;
 use std::sync::{Mutex, Wait};
@@ -92,7 +93,7 @@ pub(crate) type Queue<R, T> = QueueTransport<R, T, Five>;
 pub(crate) fn event_alone(alloc: Global, number: u64) -> Result<Envelope, AllocError> {
     let event = Event::new(alloc, Uuid::from_u128(u128::from(number)), number)?;
     let mut envelope = Envelope::new(alloc);
-    envelope.add_item(EnvelopeItem::Event(event))?;
+    envelope.add_item(EnvelopeItem::Event(Boxed::new(alloc, event)?))?;
     Ok(envelope)
 }
 

@@ -65,10 +65,10 @@ fn print_tags(tags: &TextMap<Text>, text: &mut String) -> Result<(), AllocError>
     let Some((key, value)) = entries.next() else {
         return text.push_str("-");
     };
-    print_tag(key.as_str(), value.as_str(), text)?;
+    print_tag(key, value.as_str(), text)?;
     for (key, value) in entries {
         text.push_str(",")?;
-        print_tag(key.as_str(), value.as_str(), text)?;
+        print_tag(key, value.as_str(), text)?;
     }
     Ok(())
 }

@@ -4,7 +4,7 @@ use Rattle.std.specs.Io.KnownBytes.{Appends, Keeps}
 use Rattle.sentry_plain.specs.Texts.{Bytes}
 use Rattle.sentry_base.specs.declared.protocol.refusal.Refusal.TheVariants as refusal
 use Rattle.sentry_state.specs.Worlds.{Stands, first_world}
-use Rattle.sentry_calls.specs.Runs.{May}
+use Rattle.sentry_calls.specs.Runs.{StepsTo}
 use Rattle.replay_run.specs.declared.command.Command.{Command}
 use Rattle.replay_run.specs.declared.fault.ReplayFault.TheVariants.{BadCommand, OutOfMemory, InputOutput}
 use Rattle.replay_run.specs.Calls.{call_of}
@@ -27,7 +27,7 @@ is_out_of_memory (Err other) = false
 -- the engine may answer the call so, other than by out of memory, and then stand for the next world
 abbrev pub MayAnswer : ReplayWorld → ReplayCall → ReplayAnswer → ReplayWorld → Type 0
 MayAnswer world call answer next =
-    May same_event no_callbacks world call answer next × (is_out_of_memory answer ≡ false)
+    StepsTo same_event no_callbacks world call answer next × (is_out_of_memory answer ≡ false)
 
 -- the line of this number may print this and lead to the next world: it prints the answer to the
 -- call of its command; an empty line does nothing

@@ -6,7 +6,7 @@ use sentry_base::protocol::{Breadcrumb, Event, Log, Metric};
 use sentry_engine::call::{Answer, Call};
 use sentry_engine::engine::Engine;
 use sentry_options::clientoptions::{Callbacks, PlainOptions};
-use sentry_plain::{Items, Text};
+use sentry_plain::{Boxed, Items, Text};
 use sentry_trace::performance::TransactionContext;
 use std::alloc::{AllocError, Global};
 
@@ -45,7 +45,7 @@ impl Callbacks for NoCallbacks {
 
     fn process_event(
         &self,
-        _event: &mut Option<Event>,
+        _event: &mut Option<Boxed<Event>>,
         _options: &PlainOptions,
     ) -> Result<(), AllocError> {
         Ok(())
@@ -55,7 +55,7 @@ impl Callbacks for NoCallbacks {
         Ok(event)
     }
 
-    fn before_send(&self, _event: &mut Option<Event>) -> Result<(), AllocError> {
+    fn before_send(&self, _event: &mut Option<Boxed<Event>>) -> Result<(), AllocError> {
         Ok(())
     }
 

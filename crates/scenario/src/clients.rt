@@ -150,27 +150,32 @@ impl<R: Wait + Copy + Drop> Locked<R> {
         Ok(client.key())
     }
 
-    // Records losses in the words of a client, and drains these.
+    // Records losses in the words of a client, where they stay until the next call that can hand out envelopes. The drain
+    // before that tells whether a client has the label.
     fn absorb(&mut self, number: u64, losses: &Losses) -> Result<CallReply, Refusal> {
+        self.drain(number)?;
         let Some(words) = self.words.get_mut(number) else {
             return Err(Refusal::ForeignLosses);
         };
-        let label = words.record(losses)?;
-        self.drain(label)?;
+        words.record(losses)?;
         Ok(Reply::Done)
     }
 
-    fn drain(&self, label: Label) -> Result<Option<Losses>, Refusal> {
-        let mut guard = self.core.lock();
-        guard.under.core.drain_and_absorb(label)
-    }
-
-    fn take_report(&self, number: u64) -> Result<CallReply, Refusal> {
+    // Drains the words of a client, and answers its label.
+    fn drain(&self, number: u64) -> Result<Label, Refusal> {
         let Some(words) = self.words.get(number) else {
             return Err(Refusal::ForeignLosses);
         };
+        let label = words.label;
         let mut guard = self.core.lock();
-        let report = guard.under.core.take_report(words.label)?;
+        guard.under.core.drain_and_absorb(label)?;
+        Ok(label)
+    }
+
+    fn take_report(&self, number: u64) -> Result<CallReply, Refusal> {
+        let label = self.drain(number)?;
+        let mut guard = self.core.lock();
+        let report = guard.under.core.take_report(label)?;
         Ok(Reply::Report(report))
     }
 }

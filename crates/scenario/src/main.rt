@@ -3,7 +3,8 @@
 //! `scenario` does them on an engine. `scenario lock` does them over the lock: each command is a call of a `Client`, a
 //! `Hub`, a `Transaction` or a `Span`, and the envelopes that are printed are those that the transports were handed.
 //! `scenario either` does that too, but makes the calls on transactions and spans by `TransactionOrSpan`. `scenario lent`
-//! sets their data and tags by closures that are lent the data.
+//! sets their data and tags by closures that are lent the data. With `--envelopes` before that word, or alone, the bytes
+//! of each envelope are printed too.
 #![tactic(auto)]
 
 mod clients;
@@ -16,7 +17,7 @@ mod transport;
 mod words;
 
 use locked::{Locked, SpanCalls};
-use scenario_run::{ScenarioFault, run_scenario, run_scenario_by};
+use scenario_run::{Envelopes, ScenarioFault, run_scenario, run_scenario_by};
 use std::alloc::Global;
 use std::io::BufReader;
 use std::process::ExitCode;
@@ -24,7 +25,10 @@ use std::rt::Stdin;
 use std::sync::Wait;
 use std::{env, io};
 
-const USAGE: &str = "the argument is `lock`, `either`, `lent`, or none";
+const USAGE: &str = "the arguments are `--envelopes` or not, and `lock`, `either`, `lent`, or none";
+
+/// The word that asks for the bytes of envelopes.
+const BYTES: &str = "--envelopes";
 
 /// On what the commands are done.
 #[derive(Clone, Copy)]
@@ -33,22 +37,61 @@ enum Mode {
     Lock(SpanCalls),
 }
 
-/// The mode that the arguments name; `None` if they are others.
-fn read_mode(rt: &HostRuntime) -> io::Result<Option<Mode>> {
+/// What the arguments ask for.
+#[derive(Clone, Copy)]
+struct Asked {
+    envelopes: Envelopes,
+    mode: Mode,
+}
+
+impl Asked {
+    fn of_mode(envelopes: Envelopes, word: &str) -> Option<Asked> {
+        let calls = match word {
+            "lock" => SpanCalls::Own,
+            "either" => SpanCalls::Either,
+            "lent" => SpanCalls::Lent,
+            _other => return None,
+        };
+        Some(Asked {
+            envelopes,
+            mode: Mode::Lock(calls),
+        })
+    }
+
+    fn on_engine(envelopes: Envelopes) -> Asked {
+        Asked {
+            envelopes,
+            mode: Mode::Engine,
+        }
+    }
+
+    // The words after the program's name; `None` if they are others.
+    fn read(first: Option<String>, second: Option<String>) -> Option<Asked> {
+        let Some(first) = first else {
+            return Some(Asked::on_engine(Envelopes::Lines));
+        };
+        if first.as_str() == BYTES {
+            return match second {
+                None => Some(Asked::on_engine(Envelopes::LinesAndBytes)),
+                Some(word) => Asked::of_mode(Envelopes::LinesAndBytes, word.as_str()),
+            };
+        }
+        match second {
+            None => Asked::of_mode(Envelopes::Lines, first.as_str()),
+            Some(_) => None,
+        }
+    }
+}
+
+/// What the arguments ask for; `None` if they are others.
+fn read_arguments(rt: &HostRuntime) -> io::Result<Option<Asked>> {
     let mut words = env::args(rt)?;
-    let word = words.nth(1);
+    let first = words.nth(1);
+    let second = words.next();
     if words.next().is_some() {
         return Ok(None);
     }
-    match word {
-        None => Ok(Some(Mode::Engine)),
-        Some(word) => match word.as_str() {
-            "lock" => Ok(Some(Mode::Lock(SpanCalls::Own))),
-            "either" => Ok(Some(Mode::Lock(SpanCalls::Either))),
-            "lent" => Ok(Some(Mode::Lock(SpanCalls::Lent))),
-            _other => Ok(None),
-        },
-    }
+    Ok(Asked::read(first, second))
 }
 
 // Where memory is refused for the buffer, it is asked for once more.
@@ -75,35 +118,36 @@ fn make_locked<R: Wait + Copy + Drop>(
     }
 }
 
-fn play_on_engine(rt: &HostRuntime) -> Result<(), ScenarioFault> {
+fn play_on_engine(rt: &HostRuntime, envelopes: Envelopes) -> Result<(), ScenarioFault> {
     let mut reader = open_input(rt)?;
-    run_scenario(rt.alloc(), &mut reader, &mut rt.stdout())
+    run_scenario(rt.alloc(), envelopes, &mut reader, &mut rt.stdout())
 }
 
 fn play_over_lock<R: Wait + Copy + Drop>(
     rt: &HostRuntime,
     wait: R,
+    envelopes: Envelopes,
     span_calls: SpanCalls,
 ) -> Result<(), ScenarioFault> {
     let alloc: Global = rt.alloc();
     let mut reader = open_input(rt)?;
     let locked = make_locked(wait, alloc, span_calls)?;
-    run_scenario_by(alloc, locked, &mut reader, &mut rt.stdout())
+    run_scenario_by(alloc, locked, envelopes, &mut reader, &mut rt.stdout())
 }
 
 fn main(rt: HostRuntime) -> ExitCode {
     // The same of the arguments.
-    let mode = match read_mode(&rt) {
-        Ok(mode) => Ok(mode),
-        Err(_) => read_mode(&rt),
+    let asked = match read_arguments(&rt) {
+        Ok(asked) => Ok(asked),
+        Err(_) => read_arguments(&rt),
     };
-    let Ok(Some(mode)) = mode else {
+    let Ok(Some(Asked { envelopes, mode })) = asked else {
         let _ = eprintln!(rt; "scenario: {USAGE}");
         return ExitCode::from(2);
     };
     let played = match mode {
-        Mode::Engine => play_on_engine(&rt),
-        Mode::Lock(span_calls) => play_over_lock(&rt, rt, span_calls),
+        Mode::Engine => play_on_engine(&rt, envelopes),
+        Mode::Lock(span_calls) => play_over_lock(&rt, rt, envelopes, span_calls),
     };
     match played {
         Ok(()) => ExitCode::SUCCESS,

@@ -6,7 +6,7 @@ use sentry_base::protocol::{
     TransactionOrSpanKey, Value,
 };
 use sentry_engine::call::{Call, Reply, SpanCall, SpanReply};
-use sentry_hub::performance::TransactionOrSpan;
+use sentry_hub::performance::{Span, Transaction, TransactionOrSpan};
 use sentry_plain::{Text, ValueMap};
 use sentry_trace::headers::TraceHeadersIter;
 use std::alloc::{AllocError, Global};
@@ -16,12 +16,21 @@ use std::sync::Wait;
 // Makes one call on a transaction or a span by its own type, or by the one that is either. The call has the same name
 // and arguments for all three types.
 macro_rules! call {
-    ($lock:expr, $name:expr, $value:ident => $call:expr) => {{
-        let either = TransactionOrSpan::new(&$lock.core, $name)?;
-        match ($lock.span_calls, &either) {
-            (SpanCalls::Either, $value) => $call,
-            (_, TransactionOrSpan::Transaction($value)) => $call,
-            (_, TransactionOrSpan::Span($value)) => $call,
+    ($lock:expr, $span:expr, $value:ident => $call:expr) => {{
+        let lock = $lock;
+        match (lock.span_calls, $span) {
+            (SpanCalls::Either, span) => {
+                let $value = TransactionOrSpan::new(&lock.core, span)?;
+                $call
+            }
+            (_, TransactionOrSpanKey::Transaction(key)) => {
+                let $value = Transaction::new(&lock.core, key)?;
+                $call
+            }
+            (_, TransactionOrSpanKey::Span(key)) => {
+                let $value = Span::new(&lock.core, key)?;
+                $call
+            }
         }
     }};
 }
@@ -75,11 +84,11 @@ impl<R: Wait + Copy + Drop> Locked<R> {
                 hub,
                 moment,
             } => {
-                let name = TransactionOrSpanKey::Transaction(transaction);
-                self.finish(name, self.hub(hub)?, moment)
+                let span = TransactionOrSpanKey::Transaction(transaction);
+                self.finish(span, self.hub(hub)?, moment)
             }
             SpanCall::FinishSpan { span, moment } => self.finish_span(span, moment),
-            SpanCall::Discard(name) => self.discard(name),
+            SpanCall::Discard(span) => self.discard(span),
             call => self.edit_span(call),
         }
     }
@@ -117,12 +126,12 @@ impl<R: Wait + Copy + Drop> Locked<R> {
 
     fn finish(
         &self,
-        name: TransactionOrSpanKey,
+        span: TransactionOrSpanKey,
         hub: &LockedHub<R>,
         moment: u64,
     ) -> Result<SpanReply, Refusal> {
         let mut thread = thread_of(hub, moment)?;
-        call!(self, name, value => value.finish(&mut thread))?;
+        call!(self, span, value => value.finish(&mut thread))?;
         Ok(SpanReply::Done)
     }
 
@@ -134,90 +143,80 @@ impl<R: Wait + Copy + Drop> Locked<R> {
         }
     }
 
-    fn discard(&self, name: TransactionOrSpanKey) -> Result<SpanReply, Refusal> {
-        call!(self, name, value => value.discard())?;
+    fn discard(&self, span: TransactionOrSpanKey) -> Result<SpanReply, Refusal> {
+        call!(self, span, value => value.discard())?;
         Ok(SpanReply::Done)
     }
 
     // A call of a setter that transactions and spans have.
     fn edit_span(&self, call: SpanCall) -> Result<SpanReply, Refusal> {
         match call {
-            SpanCall::SetData { name, key, value } => self.set_data(name, &key, value)?,
-            SpanCall::SetTag { name, key, value } => self.set_tag(name, &key, &value)?,
-            SpanCall::SetStatus { name, status } => self.set_status(name, status)?,
-            SpanCall::SetOp { name, op } => self.set_op(name, &op)?,
-            SpanCall::SetName { name, text } => self.set_name(name, &text)?,
-            SpanCall::SetRequest { name, request } => {
-                self.set_request(name, request.into_inner())?
+            SpanCall::SetData { span, key, value } => self.set_data(span, &key, value)?,
+            SpanCall::SetTag { span, key, value } => self.set_tag(span, &key, &value)?,
+            SpanCall::SetStatus { span, status } => self.set_status(span, status)?,
+            SpanCall::SetOp { span, op } => self.set_op(span, &op)?,
+            SpanCall::SetName { span, name } => self.set_name(span, &name)?,
+            SpanCall::SetRequest { span, request } => {
+                self.set_request(span, request.into_inner())?
             }
             call => return self.edit_transaction(call),
         }
         Ok(SpanReply::Done)
     }
 
-    fn set_data(&self, name: TransactionOrSpanKey, key: &Text, data: Value) -> Result<(), Refusal> {
+    fn set_data(&self, span: TransactionOrSpanKey, key: &Text, data: Value) -> Result<(), Refusal> {
         match self.span_calls {
-            SpanCalls::Lent => self.set_lent_data(name, key, data),
-            _other => { call!(self, name, value => value.set_data(key.as_str(), data)) }
+            SpanCalls::Lent => self.set_lent_data(span, key, data),
+            _other => { call!(self, span, value => value.set_data(key.as_str(), data)) }
         }
     }
 
     fn set_lent_data(
         &self,
-        name: TransactionOrSpanKey,
+        span: TransactionOrSpanKey,
         key: &Text,
         data: Value,
     ) -> Result<(), Refusal> {
         let key = key.as_str();
-        let either = TransactionOrSpan::new(&self.core, name)?;
-        match &either {
-            TransactionOrSpan::Transaction(transaction) => {
-                transaction.data(|lent| lent.set_data(key, data))
-            }
-            TransactionOrSpan::Span(span) => { span.data(|lent| lent.set_data(key, data)) }
-        }
+        let either = TransactionOrSpan::new(&self.core, span)?;
+        either.data(|lent| lent.set_data(key, data))
     }
 
-    fn set_tag(&self, name: TransactionOrSpanKey, key: &Text, tag: &Text) -> Result<(), Refusal> {
+    fn set_tag(&self, span: TransactionOrSpanKey, key: &Text, tag: &Text) -> Result<(), Refusal> {
         match self.span_calls {
-            SpanCalls::Lent => self.set_lent_tag(name, key, tag),
+            SpanCalls::Lent => self.set_lent_tag(span, key, tag),
             _other => {
                 let (key, tag) = (key.as_str(), tag.as_str());
-                call!(self, name, value => value.set_tag(key, tag))
+                call!(self, span, value => value.set_tag(key, tag))
             }
         }
     }
 
     fn set_lent_tag(
         &self,
-        name: TransactionOrSpanKey,
+        span: TransactionOrSpanKey,
         key: &Text,
         tag: &Text,
     ) -> Result<(), Refusal> {
         let (key, tag) = (key.as_str(), tag.as_str());
-        let either = TransactionOrSpan::new(&self.core, name)?;
-        match &either {
-            TransactionOrSpan::Transaction(transaction) => {
-                transaction.data(|lent| lent.set_tag(key, tag))
-            }
-            TransactionOrSpan::Span(span) => span.data(|lent| lent.set_tag(key, tag)),
-        }
+        let either = TransactionOrSpan::new(&self.core, span)?;
+        either.data(|lent| lent.set_tag(key, tag))
     }
 
-    fn set_status(&self, name: TransactionOrSpanKey, status: SpanStatus) -> Result<(), Refusal> {
-        call!(self, name, value => value.set_status(status))
+    fn set_status(&self, span: TransactionOrSpanKey, status: SpanStatus) -> Result<(), Refusal> {
+        call!(self, span, value => value.set_status(status))
     }
 
-    fn set_op(&self, name: TransactionOrSpanKey, op: &Text) -> Result<(), Refusal> {
-        call!(self, name, value => value.set_op(op.as_str()))
+    fn set_op(&self, span: TransactionOrSpanKey, op: &Text) -> Result<(), Refusal> {
+        call!(self, span, value => value.set_op(op.as_str()))
     }
 
-    fn set_name(&self, name: TransactionOrSpanKey, text: &Text) -> Result<(), Refusal> {
-        call!(self, name, value => value.set_name(text.as_str()))
+    fn set_name(&self, span: TransactionOrSpanKey, name: &Text) -> Result<(), Refusal> {
+        call!(self, span, value => value.set_name(name.as_str()))
     }
 
-    fn set_request(&self, name: TransactionOrSpanKey, request: Request) -> Result<(), Refusal> {
-        call!(self, name, value => value.set_request(request))
+    fn set_request(&self, span: TransactionOrSpanKey, request: Request) -> Result<(), Refusal> {
+        call!(self, span, value => value.set_request(request))
     }
 
     // A call of a setter that transactions alone have.
@@ -245,68 +244,51 @@ impl<R: Wait + Copy + Drop> Locked<R> {
     }
 
     fn transaction(&self, key: TransactionKey) -> Result<LockedTransaction<R>, Refusal> {
-        let either = TransactionOrSpan::new(&self.core, TransactionOrSpanKey::Transaction(key))?;
-        match &either {
-            TransactionOrSpan::Transaction(transaction) => Ok(transaction.clone()?),
-            // No key of a transaction gives a span.
-            TransactionOrSpan::Span(_) => Err(Refusal::Stale),
-        }
+        Ok(Transaction::new(&self.core, key)?)
     }
 
     // A call that changes nothing.
     fn ask_span(&self, call: SpanCall) -> Result<SpanReply, Refusal> {
         match call {
-            SpanCall::GetStatus(name) => Ok(SpanReply::Status(self.get_status(name)?)),
-            SpanCall::GetTraceContext(name) => {
-                Ok(SpanReply::TraceContext(self.get_trace_context(name)?))
+            SpanCall::GetStatus(span) => Ok(SpanReply::Status(self.get_status(span)?)),
+            SpanCall::GetTraceContext(span) => {
+                Ok(SpanReply::TraceContext(self.get_trace_context(span)?))
             }
             SpanCall::GetSpanId(span) => Ok(SpanReply::SpanId(self.get_span_id(span)?)),
-            SpanCall::Data(name) => Ok(SpanReply::Data(self.data(name)?)),
-            SpanCall::IterHeaders(name) => Ok(SpanReply::Headers(self.iter_headers(name)?)),
-            SpanCall::IsSampled(name) => Ok(SpanReply::Decision(self.is_sampled(name)?)),
+            SpanCall::Data(span) => Ok(SpanReply::Data(self.data(span)?)),
+            SpanCall::IterHeaders(span) => Ok(SpanReply::Headers(self.iter_headers(span)?)),
+            SpanCall::IsSampled(span) => Ok(SpanReply::Decision(self.is_sampled(span)?)),
             call => self.call_as_value(call),
         }
     }
 
-    fn get_status(&self, name: TransactionOrSpanKey) -> Result<Option<SpanStatus>, Refusal> {
-        call!(self, name, value => value.get_status())
+    fn get_status(&self, span: TransactionOrSpanKey) -> Result<Option<SpanStatus>, Refusal> {
+        call!(self, span, value => value.get_status())
     }
 
-    fn get_trace_context(&self, name: TransactionOrSpanKey) -> Result<TraceContext, Refusal> {
-        call!(self, name, value => value.get_trace_context())
+    fn get_trace_context(&self, span: TransactionOrSpanKey) -> Result<TraceContext, Refusal> {
+        call!(self, span, value => value.get_trace_context())
     }
 
     fn get_span_id(&self, key: SpanKey) -> Result<SpanId, Refusal> {
-        let either = TransactionOrSpan::new(&self.core, TransactionOrSpanKey::Span(key))?;
-        match &either {
-            TransactionOrSpan::Span(span) => span.get_span_id(),
-            // No key of a span gives a transaction.
-            TransactionOrSpan::Transaction(_) => Err(Refusal::Stale),
-        }
+        Span::new(&self.core, key)?.get_span_id()
     }
 
-    // What is either has no such call.
-    fn data(&self, name: TransactionOrSpanKey) -> Result<ValueMap, Refusal> {
+    fn data(&self, span: TransactionOrSpanKey) -> Result<ValueMap, Refusal> {
         let alloc = self.alloc;
-        let either = TransactionOrSpan::new(&self.core, name)?;
-        match &either {
-            TransactionOrSpan::Transaction(transaction) => {
-                transaction.data(|lent| copy_entries(alloc, lent.iter()))
-            }
-            TransactionOrSpan::Span(span) => { span.data(|lent| copy_entries(alloc, lent.iter())) }
-        }
+        call!(self, span, value => value.data(|lent| copy_entries(alloc, lent.iter())))
     }
 
     /// The headers that pass on the trace of a transaction or a span.
     pub(crate) fn iter_headers(
         &self,
-        name: TransactionOrSpanKey,
+        span: TransactionOrSpanKey,
     ) -> Result<TraceHeadersIter, Refusal> {
-        call!(self, name, value => value.iter_headers())
+        call!(self, span, value => value.iter_headers())
     }
 
-    fn is_sampled(&self, name: TransactionOrSpanKey) -> Result<bool, Refusal> {
-        call!(self, name, value => value.is_sampled())
+    fn is_sampled(&self, span: TransactionOrSpanKey) -> Result<bool, Refusal> {
+        call!(self, span, value => value.is_sampled())
     }
 
     // The call that continues a trace: no value has it.

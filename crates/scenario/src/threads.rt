@@ -1,6 +1,6 @@
 //! The hubs of a thread, as calls that ask for a clock or a current hub take them.
 use crate::locked::LockedHub;
-use sentry_clock::Clock;
+use sentry_base::clock::Clock;
 use sentry_thread_hub::thread_hub::ThreadHub;
 use std::alloc::AllocError;
 

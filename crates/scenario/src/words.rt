@@ -23,15 +23,15 @@ impl LossSource for Quantities {
 }
 
 impl Words {
-    /// Records losses, and answers under which label. It takes no memory.
+    /// Records losses. It takes no memory.
     ///
     /// `ForeignLosses`: there is no recorder.
-    pub fn record(&mut self, losses: &Losses) -> Result<Label, Refusal> {
-        let Words { label, recorder } = self;
+    pub fn record(&mut self, losses: &Losses) -> Result<(), Refusal> {
+        let Words { label: _, recorder } = self;
         match recorder {
             Some(recorder) => {
                 recorder.record_lost_data(&Quantities(*losses), TransportLossReason::SendError);
-                Ok(*label)
+                Ok(())
             }
             None => Err(Refusal::ForeignLosses),
         }

@@ -1,6 +1,7 @@
 //! How `scenario` prints: the text of each record is its impl of `Shown`, and an envelope or a reply is one line.
 #![tactic(auto)]
 
+mod bytes;
 mod contexts;
 mod envelopes;
 mod events;
@@ -12,6 +13,7 @@ mod telemetry;
 mod transactions;
 mod values;
 
+pub use bytes::push_bytes;
 pub use envelopes::push_envelope;
 pub use replies::{
     push_dsn_answer, push_last_event, push_line, push_line_if_any, push_line_of,

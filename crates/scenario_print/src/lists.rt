@@ -1,6 +1,6 @@
 //! Lists, maps, what may be absent, and plain texts and numbers.
 use crate::Shown;
-use sentry_plain::{Items, Text, TextMap};
+use sentry_plain::{Items, Shared, Text, TextMap};
 use std::alloc::AllocError;
 use std::collections::btree_map::Iter;
 
@@ -26,6 +26,12 @@ impl<T: Shown> Shown for Option<T> {
             Some(value) => value.push_to(text),
             None => text.push_str(NONE),
         }
+    }
+}
+
+impl<T: Shown> Shown for Shared<T> {
+    fn push_to(&self, text: &mut String) -> Result<(), AllocError> {
+        self.get().push_to(text)
     }
 }
 
@@ -119,5 +125,13 @@ pub fn push_map<V: Shown>(
     map: &TextMap<V>,
     style: MapStyle,
 ) -> Result<(), AllocError> {
-    push_entries(text, map.iter(), style)
+    let mut before = None;
+    for (key, value) in map.iter() {
+        push_entry(text, before.unwrap_or(""), key, style.between, value)?;
+        before = Some(style.separator);
+    }
+    match before {
+        Some(_) => Ok(()),
+        None => text.push_str(NONE),
+    }
 }

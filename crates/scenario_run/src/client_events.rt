@@ -1,6 +1,6 @@
 //! How a message is handed to a client itself, without a scope.
 ghost use Rattle.std.specs.Prelude.{◌≡◌, IfOk};
-ghost use Rattle.sentry_captures.specs.Captures.{message_event};
+ghost use Rattle.sentry_events.specs.Captures.{message_event};
 
 use crate::answer::Answer;
 use crate::caller::Caller;

@@ -36,5 +36,6 @@ mod texts;
 mod transactions;
 
 pub use fault::ScenarioFault;
+pub use print::Envelopes;
 pub use run::{run_scenario, run_scenario_by};
 pub use scenario::TAG;

@@ -3,14 +3,88 @@ use crate::answer::{Answer, Reply};
 use crate::headers::Header;
 use crate::originals::Originals;
 use scenario_print::{
-    Shown, push_dsn_answer, push_envelope, push_last_event, push_line, push_line_if_any,
-    push_line_of, push_parsed_headers, push_report,
+    Shown, push_bytes, push_dsn_answer, push_envelope, push_last_event, push_line,
+    push_line_if_any, push_line_of, push_parsed_headers, push_report,
 };
-use std::alloc::AllocError;
+use std::alloc::{AllocError, Global};
+use std::io;
+use std::io::Write;
 
-/// Puts the lines of an answer at the end of the text: the reply, and each envelope, under the client whose transport
-/// it goes through.
-pub fn push_answer(
+/// What is printed of an envelope.
+#[derive(Clone, Copy)]
+pub enum Envelopes {
+    /// A line that tells each field.
+    Lines,
+    /// That line, and the bytes.
+    LinesAndBytes,
+}
+
+/// What is printed of one command: text, and then bytes.
+pub struct Printed {
+    alloc: Global,
+    envelopes: Envelopes,
+    text: String,
+    bytes: Vec<u8>,
+}
+
+impl Drop for Printed {
+    fn drop(self) {
+        let Printed {
+            alloc: _,
+            envelopes: _,
+            text: _,
+            bytes: _,
+        } = self;
+    }
+}
+
+impl Printed {
+    /// Nothing yet. It takes no memory.
+    pub fn new(alloc: Global, envelopes: Envelopes) -> Printed {
+        Printed {
+            alloc,
+            envelopes,
+            text: String::new(alloc),
+            bytes: Vec::new(alloc),
+        }
+    }
+
+    /// Makes what is printed of an answer, in place of what was there.
+    pub fn make(&mut self, originals: &Originals, answer: &Answer<'_>) -> Result<(), AllocError> {
+        self.text.clear();
+        self.bytes.clear();
+        push_answer(&mut self.text, originals, answer)?;
+        match self.envelopes {
+            Envelopes::Lines => Ok(()),
+            Envelopes::LinesAndBytes => push_all_bytes(self.alloc, &mut self.bytes, answer),
+        }
+    }
+
+    /// Writes it.
+    pub fn write<W: Write>(&self, writer: &mut W) -> io::Result<()> {
+        writer.write_all(self.text.as_bytes())?;
+        match self.envelopes {
+            Envelopes::Lines => Ok(()),
+            Envelopes::LinesAndBytes => writer.write_all(self.bytes.as_slice()),
+        }
+    }
+}
+
+// The bytes of each envelope.
+fn push_all_bytes(
+    alloc: Global,
+    bytes: &mut Vec<u8>,
+    answer: &Answer<'_>,
+) -> Result<(), AllocError> {
+    for (_, envelope) in answer.sent.as_slice() {
+        push_bytes(alloc, bytes, envelope)?;
+    }
+    Ok(())
+}
+
+// Puts the lines of an answer at the end of the text: the reply, and each envelope, under the client whose transport it
+// goes through.
+fn push_answer(
     text: &mut String,
     originals: &Originals,
     answer: &Answer<'_>,

@@ -3,7 +3,7 @@ use crate::copies::Copies;
 use sentry_base::protocol::{
     Breadcrumb, ClientSdkInfo, Context, Event, Fresh, Level, User, ValueMap,
 };
-use sentry_plain::{Items, Text};
+use sentry_plain::{Items, Shared, Text};
 use std::alloc::{AllocError, Global};
 
 /// The text of each part but the message.
@@ -59,7 +59,7 @@ fn set_names(alloc: Global, event: &mut Event) -> Result<(), AllocError> {
 fn set_lists(alloc: Global, event: &mut Event) -> Result<(), AllocError> {
     event.fingerprint = own_list(alloc)?;
     event.extra = own_map(alloc, OWN)?;
-    event.sdk = Some(own_sdk(alloc)?);
+    event.sdk = Some(Shared::new(alloc, own_sdk(alloc)?)?);
     Ok(())
 }
 

@@ -29,31 +29,31 @@ fn request(alloc: Global, copies: &mut Copies, words: RequestWords<'_>) -> Reque
 fn edit_of_span(
     alloc: Global,
     copies: &mut Copies,
-    name: TransactionOrSpanKey,
+    span: TransactionOrSpanKey,
     edit: SpanEdit<'_>,
 ) -> Result<SpanCall, AllocError> {
     match edit {
         SpanEdit::SetTag(Entry { key, value }) => Ok(SpanCall::SetTag {
-            name,
+            span,
             key: copies.text(key),
             value: copies.text(value),
         }),
         SpanEdit::SetData(Entry { key, value }) => Ok(SpanCall::SetData {
-            name,
+            span,
             key: copies.text(key),
             value: copies.value(value),
         }),
-        SpanEdit::SetName(text) => Ok(SpanCall::SetName {
-            name,
-            text: copies.text(text),
+        SpanEdit::SetName(name) => Ok(SpanCall::SetName {
+            span,
+            name: copies.text(name),
         }),
         SpanEdit::SetOp(op) => Ok(SpanCall::SetOp {
-            name,
+            span,
             op: copies.text(op),
         }),
-        SpanEdit::SetStatus(status) => Ok(SpanCall::SetStatus { name, status }),
+        SpanEdit::SetStatus(status) => Ok(SpanCall::SetStatus { span, status }),
         SpanEdit::SetRequest(words) => Ok(SpanCall::SetRequest {
-            name,
+            span,
             request: Boxed::new(alloc, request(alloc, copies, words))?,
         }),
     }

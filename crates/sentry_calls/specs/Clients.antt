@@ -18,13 +18,13 @@ use Rattle.sentry_pipeline.specs.Pipeline.{loss_reason}
 use Rattle.sentry_pipeline.specs.Pipeline as pipeline
 use Rattle.sentry_state.specs.Books.{with_book, without_unused_book, pending_report, with_entry, with_entry_if_any}
 use Rattle.sentry_base.specs.Envelopes.{with_report}
-use Rattle.sentry_captures.specs.Captures.{lost_event, event_to_send, capture, captured_id, captured_envelopes, attachments_of}
-use Rattle.sentry_queues.specs.declared.flushes.Flush.TheVariants.{All, Due, Closing}
-use Rattle.sentry_queues.specs.Flushes.{flush_queues}
+use Rattle.sentry_events.specs.Captures.{event_loss, event_to_send, capture, captured_id, captured_envelopes, attachments_of}
+use Rattle.sentry_telemetry.specs.declared.flushes.Flush.TheVariants.{All, Due, Closing}
+use Rattle.sentry_telemetry.specs.Flushes.{flush_queues}
 use Rattle.sentry_sending.specs.Sending.{reply_sending}
 use Rattle.sentry_span_table.specs.SpanTables.{has_transaction_of, is_held}
 use Rattle.sentry_state.specs.Worlds.{World, span_table}
-use Rattle.sentry_state.specs.Outcomes.{Outcome, require_some, require, reply_with, client_at, plain_client_at}
+use Rattle.sentry_state.specs.Outcomes.{Outcome, require_some, require, reply_with, client_at, stored_client_at}
 use Rattle.sentry_state.specs.Clients.{is_enabled_client, is_client_named, has_session_of, new_client, clone_from}
 
 -- what the scope names as active is held, where there is a scope
@@ -47,17 +47,17 @@ module _ {P C : Type 0} where
   -- the options of a client
   unfoldable pub options : ClientKey → World P C → Outcome P C (ClientOptions C)
   options key world =
-      require_some Stale world (plain_client_at world key) (λ client. reply_with client.options [] world)
+      require_some Stale world (stored_client_at world key) (λ client. reply_with client.options [] world)
 
   -- where a client sends to
   unfoldable pub dsn : ClientKey → World P C → Outcome P C (Option DsnParts)
   dsn key world =
-      require_some Stale world (plain_client_at world key) (λ client. reply_with client.options.plain.dsn [] world)
+      require_some Stale world (stored_client_at world key) (λ client. reply_with client.options.plain.dsn [] world)
 
   -- whether a client is enabled
   unfoldable pub is_enabled : ClientKey → World P C → Outcome P C Bool
   is_enabled key world =
-      require_some Stale world (plain_client_at world key) (λ client.
+      require_some Stale world (stored_client_at world key) (λ client.
       reply_with (is_enabled_client client) [] world)
 
   -- what has this draw is sent where the draw lies below the rate
@@ -68,7 +68,7 @@ module _ {P C : Type 0} where
   unfoldable pub client_capture_event : (P → Partial) → (C → Meanings) → ClientKey → Event → Option (Scope P) → Fresh
       → World P C → Outcome P C (List ℕ)
   client_capture_event gives meanings key event scope fresh world =
-      require_some Stale world (plain_client_at world key) (λ client.
+      require_some Stale world (stored_client_at world key) (λ client.
       require Stale world (holds_active_span world scope)
       (let made = capture gives meanings (span_table world) client scope fresh event in
       reply_with (captured_id made.event)
@@ -79,16 +79,16 @@ module _ {P C : Type 0} where
   unfoldable pub prepare_event : (P → Partial) → (C → Meanings) → ClientKey → Event → Option (Scope P) → Fresh
       → World P C → Outcome P C (Option Event)
   prepare_event gives meanings key event scope fresh world =
-      require_some Stale world (plain_client_at world key) (λ client.
+      require_some Stale world (stored_client_at world key) (λ client.
       require Stale world (holds_active_span world scope)
-      (let prepared = pipeline.prepare_event gives meanings (span_table world) client.options scope fresh event in
+      (let prepared = pipeline.prepare_event gives meanings (span_table world) client.options client.sdk scope fresh event in
       reply_with (event_to_send prepared.preparation prepared.event) []
-      (with_entry_if_any world client.label (option_map lost_event (loss_reason prepared.preparation)))))
+      (with_entry_if_any world client.label (option_map event_loss (loss_reason prepared.preparation)))))
 
   -- an envelope of a client, with the pending report as its last item; on an empty slot nothing is sent
   unfoldable pub send_envelope : ClientKey → Envelope → World P C → Outcome P C (Unit {0})
   send_envelope key envelope world =
-      require_some Stale world (plain_client_at world key) (λ client.
+      require_some Stale world (stored_client_at world key) (λ client.
       if client.occupied
       then reply_with tt ((key, with_report (pending_report world client.label) envelope) ∷ [])
       (with_entry world client.label report_point)
@@ -97,18 +97,18 @@ module _ {P C : Type 0} where
   -- what waits in the queues of a client
   unfoldable pub flush : ClientKey → World P C → Outcome P C (Unit {0})
   flush key world =
-      require_some Stale world (plain_client_at world key) (λ client. reply_sending tt (flush_queues All key world))
+      require_some Stale world (stored_client_at world key) (λ client. reply_sending tt (flush_queues All key world))
 
   -- what waits in those queues of a client whose last due tick lies their interval or more before this moment
   unfoldable pub tick : ClientKey → ℕ → World P C → Outcome P C (Unit {0})
   tick key now world =
-      require_some Stale world (plain_client_at world key) (λ client.
+      require_some Stale world (stored_client_at world key) (λ client.
       reply_sending tt (flush_queues (Due now) key world))
 
   -- what waits in the queues of a client, to which nothing comes any more; its slot is empty from then on
   unfoldable pub close : ClientKey → World P C → Outcome P C (Unit {0})
   close key world =
-      require_some Stale world (plain_client_at world key) (λ client. reply_sending tt (flush_queues Closing key world))
+      require_some Stale world (stored_client_at world key) (λ client. reply_sending tt (flush_queues Closing key world))
 
   -- a client with the options, the label and the slot of another, under the next number
   unfoldable pub clone_client : ClientKey → ℕ → World P C → Outcome P C ClientKey
@@ -124,7 +124,7 @@ module _ {P C : Type 0} where
   -- longer held; the losses of its label are forgotten with the last client of it
   unfoldable pub drop_client : ClientKey → World P C → Outcome P C (Unit {0})
   drop_client key world =
-      require_some Stale world (plain_client_at world key) (λ client.
+      require_some Stale world (stored_client_at world key) (λ client.
       require StillNamed world (not (is_client_named key world.hubs))
       (require StillNamed world (not (has_session_of key world.sessions))
       (require StillNamed world (not (has_transaction_of (span_table world) key))

@@ -19,7 +19,7 @@ use Rattle.sentry_scope.specs.Scopes.{edit_all}
 use Rattle.sentry_scope.specs.Stacks.{one_layer}
 use Rattle.sentry_base.specs.Callbacks.{Partial}
 use Rattle.sentry_options.specs.Meanings.{Meanings}
-use Rattle.sentry_captures.specs.Captures.{message_event, capture_event}
+use Rattle.sentry_events.specs.Captures.{message_event, capture_event}
 use Rattle.sentry_sending.specs.SessionEnds.{release_session}
 use Rattle.sentry_state.specs.Changes.{with_session, next_hub_key, with_new_hub}
 use Rattle.sentry_state.specs.Clients.{is_enabled_client}
@@ -27,7 +27,7 @@ use Rattle.sentry_span_table.specs.SpanTables.{is_held}
 use Rattle.sentry_span_edits.specs.Setters.{with_edited}
 use Rattle.sentry_span_edits.specs.declared.edit.SpanEdit.TheVariants.{Name}
 use Rattle.sentry_state.specs.Worlds.{World, span_table}
-use Rattle.sentry_state.specs.Outcomes.{Outcome, require_some, let_some, require, reply_with, hub_at, plain_client_at, is_held_or_none, with_hub, with_scope}
+use Rattle.sentry_state.specs.Outcomes.{Outcome, require_some, let_some, require, reply_with, hub_at, stored_client_at, is_held_or_none, with_hub, with_scope}
 
 -- the edit gives the top layer a default scope, and no session
 abbrev pub is_clear : {P : Type 0} → ScopeEdit P → Bool
@@ -91,7 +91,7 @@ module _ {P C : Type 0} where
   is_active key world =
       require_some Stale world (hub_at world key) (λ hub.
       let_some hub.stack.top.client (reply_with false [] world) (λ client_key.
-      let_some (plain_client_at world client_key) (reply_with false [] world) (λ client.
+      let_some (stored_client_at world client_key) (reply_with false [] world) (λ client.
       reply_with (is_enabled_client client) [] world)))
 
   -- a copy of the top scope

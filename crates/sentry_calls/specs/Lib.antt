@@ -2,7 +2,10 @@ pub mod Clients
 pub mod Hubs
 pub mod Layers
 pub mod Sessions
+pub mod Active
 pub mod Telemetry
 pub mod Losses
 pub mod Steps
 pub mod Runs
+pub mod Replies
+pub mod SpanCalls

@@ -12,17 +12,17 @@ use Rattle.sentry_state.specs.Outcomes.{IsAnswer}
 
 module _ {P C : Type 0} (gives : P → Partial) (meanings : C → Meanings) where
   -- the call may be answered so, and lead on to the next world, which a refusal leaves as it was
-  abbrev pub May : World P C → Call P C → Result (Out (Reply P C)) Refusal → World P C → Type 0
-  May world call (Ok out) next =
+  abbrev pub StepsTo : World P C → Call P C → Result (Out (Reply P C)) Refusal → World P C → Type 0
+  StepsTo world call (Ok out) next =
       IsAnswer (takes_no_memory call) (step gives meanings call world).answer (Ok out)
       × (next ≡ (step gives meanings call world).after)
-  May world call (Err refusal) next =
+  StepsTo world call (Err refusal) next =
       IsAnswer (takes_no_memory call) (step gives meanings call world).answer (Err refusal) × (next ≡ world)
 
   -- the answers are those of the definition, one call after another, up to the last world
   abbrev pub Run : World P C → List (Call P C) → List (Result (Out (Reply P C)) Refusal) → World P C → Type 0
   Run world [] [] last = last ≡ world
   Run world (call ∷ calls) (answer ∷ answers) last =
-      (next : World P C) × May world call answer next × Run next calls answers last
+      (next : World P C) × StepsTo world call answer next × Run next calls answers last
   Run world [] (answer ∷ answers) last = ⊥
   Run world (call ∷ calls) [] last = ⊥

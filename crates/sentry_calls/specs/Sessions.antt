@@ -6,7 +6,7 @@ use Rattle.sentry_base.specs.declared.protocol.refusal.Refusal.TheVariants.{Stal
 use Rattle.sentry_base.specs.declared.protocol.session.SessionStatus.{SessionStatus}
 use Rattle.sentry_sessions.specs.Sessions.{start_of}
 use Rattle.sentry_state.specs.Worlds.{World}
-use Rattle.sentry_state.specs.Outcomes.{Outcome, require_some, require, let_some, reply_with, hub_at, plain_client_at}
+use Rattle.sentry_state.specs.Outcomes.{Outcome, require_some, require, let_some, reply_with, hub_at, stored_client_at}
 use Rattle.sentry_sending.specs.Sending.{reply_sending}
 use Rattle.sentry_sending.specs.SessionEnds.{end_session}
 use Rattle.sentry_state.specs.Changes.{is_session_number_left}
@@ -18,11 +18,11 @@ module _ {P C : Type 0} where
   start_session key fresh world =
       require_some Stale world (hub_at world key) (λ hub.
       let_some hub.stack.top.client (reply_with tt [] world) (λ client_key.
-      let_some (plain_client_at world client_key) (reply_with tt [] world) (λ client.
-      let_some (start_of client_key client.options.plain hub.stack.top.scope.user fresh.uuid fresh.now)
-      (reply_with tt [] world) (λ start.
+      let_some (stored_client_at world client_key) (reply_with tt [] world) (λ client.
+      let_some client.session_attributes (reply_with tt [] world) (λ attributes.
       require Full world (is_session_number_left world)
-      (reply_sending tt (replace_session key.number hub fresh.now start world))))))
+      (reply_sending tt (replace_session key.number hub fresh.now
+      (start_of client_key attributes hub.stack.top.scope.user fresh.uuid fresh.now) world))))))
 
   -- the session of the top layer ends with this status, for every layer that names it
   unfoldable pub end_session_with_status : HubKey → SessionStatus → ℕ → World P C → Outcome P C (Unit {0})

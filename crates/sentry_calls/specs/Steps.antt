@@ -18,11 +18,11 @@ use Rattle.sentry_calls.specs.Layers as layers
 use Rattle.sentry_calls.specs.Losses as losses
 use Rattle.sentry_calls.specs.Sessions as sessions
 use Rattle.sentry_calls.specs.Telemetry as telemetry
-use Rattle.sentry_span_calls.specs.Calls.{span_step}
-use Rattle.sentry_span_calls.specs.Calls as spans
-use Rattle.sentry_span_calls.specs.Replies.{map_reply}
+use Rattle.sentry_calls.specs.SpanCalls.{span_step}
+use Rattle.sentry_calls.specs.SpanCalls as spans
+use Rattle.sentry_calls.specs.Replies.{map_reply}
 use Rattle.sentry_state.specs.Breadcrumbs.{add_breadcrumbs}
-use Rattle.sentry_captures.specs.Captures.{capture_event}
+use Rattle.sentry_events.specs.Captures.{capture_event}
 
 -- the calls on hubs that take no memory
 abbrev pub hub_takes_no_memory : {P : Type 0} → HubCall P → Bool

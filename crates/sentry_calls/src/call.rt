@@ -2,6 +2,7 @@
 
 mod clients;
 mod hubs;
+mod spans;
 
 pub use clients::ClientCall;
 pub use hubs::HubCall;
@@ -9,9 +10,9 @@ use sentry_base::protocol::{ClientKey, ClientReport, Event, HubKey, Refusal, Uui
 use sentry_options::clientoptions::ClientOptions;
 use sentry_plain::{Boxed, Shared};
 use sentry_scope::scope::Scope;
-use sentry_span_calls::call::{SpanCall, SpanReply};
 use sentry_state::state::Out;
 use sentry_texts::dsn::Dsn;
+pub use spans::{SpanCall, SpanReply, apply_span_call};
 
 /// A call of an engine, with its arguments. `P` is the type of a scope's processors, `C` that of a client's callbacks.
 #[derive(Drop)]

@@ -1,14 +1,43 @@
 //! The start of a program: a client, its hub, and the hubs of the first thread.
 use crate::boxed::{Client, ClientOptions, Hub, Scope, Seed, SharedCore, ThreadHub};
+use sentry_base::clock::{BoxedClock, TickClock};
 use sentry_base::protocol::Refusal;
-use sentry_clock::BoxedClock;
+use sentry_hub::worker::{BoxedJoiner, Worker};
 use sentry_lock::core_lock::BoxedGate;
-use sentry_lock::transport::BoxedTransport;
+use sentry_transport::transport::BoxedTransport;
 use std::alloc::Global;
+use std::sync::Wait;
+use std::thread::Threads;
 
-/// The client of a program, which is closed when this is dropped: what waits is sent then.
+/// A worker that ticks the client of a program, and what waits for its end.
+#[derive(Drop)]
+struct Ticker {
+    worker: Worker,
+    joiner: BoxedJoiner,
+}
+
+impl Ticker {
+    // Stops the worker, and waits until its thread has ended.
+    fn stop(self) {
+        let Ticker { worker, joiner } = self;
+        joiner.join(worker);
+    }
+}
+
+// Starts the worker. A function that is also handed a box gets no proof of `Send` here.
+fn start_worker<R: Threads + Wait + Copy + Send + 'static, K: TickClock + Drop + Send + 'static>(
+    rt: R,
+    client: Client,
+    ticks: K,
+) -> Result<Worker, Refusal> {
+    Worker::start(rt, client, ticks)
+}
+
+/// The client of a program, which is closed when this is dropped: what waits is sent then. A worker that ticks the client
+/// is stopped before, and its thread has ended then.
 pub struct ClientInitGuard {
     client: Client,
+    ticker: Option<Ticker>,
 }
 
 impl ClientInitGuard {
@@ -17,19 +46,50 @@ impl ClientInitGuard {
         &self.client
     }
 
-    /// Closes the client, and answers whether its transport has sent all.
+    /// Starts a worker that ticks the client at the moments of a clock, until the guard is closed or dropped. `joiner`
+    /// waits for its thread then. A guard that has a worker stops that one first.
+    ///
+    /// `OutOfMemory`, also where the system has no thread: then the client is closed.
+    pub fn ticked<R: Threads + Wait + Copy + Send + 'static, K: TickClock + Drop + Send + 'static>(
+        self,
+        rt: R,
+        ticks: K,
+        joiner: BoxedJoiner,
+    ) -> Result<ClientInitGuard, Refusal> {
+        let worker = start_worker(rt, self.client.clone()?, ticks)?;
+        Ok(self.with_ticker(Ticker { worker, joiner }))
+    }
+
+    // The same client with this worker in place of the one that it has.
+    fn with_ticker(self, ticker: Ticker) -> ClientInitGuard {
+        let ClientInitGuard {
+            client,
+            ticker: earlier,
+        } = self;
+        if let Some(earlier) = earlier {
+            earlier.stop();
+        }
+        ClientInitGuard {
+            client,
+            ticker: Some(ticker),
+        }
+    }
+
+    /// Stops the worker, if there is one, closes the client, and answers whether its transport has sent all.
     ///
     /// `Stale`: the client isn't held. `OutOfMemory`.
     pub fn close(self) -> Result<bool, Refusal> {
-        let ClientInitGuard { client } = self;
+        let ClientInitGuard { client, ticker } = self;
+        if let Some(ticker) = ticker {
+            ticker.stop();
+        }
         client.close(None)
     }
 }
 
 impl Drop for ClientInitGuard {
     fn drop(self) {
-        let ClientInitGuard { client } = self;
-        drop(client.close(None));
+        drop(self.close());
     }
 }
 
@@ -59,5 +119,6 @@ pub fn start(
         clock: drawing.clock,
         generator: drawing.generator,
     };
-    Ok((ClientInitGuard { client }, thread))
+    let ticker = None;
+    Ok((ClientInitGuard { client, ticker }, thread))
 }

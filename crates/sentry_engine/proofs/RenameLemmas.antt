@@ -12,7 +12,7 @@ use Rattle.sentry_span_edits.specs.Edits.{edit_transaction}
 use Rattle.sentry_span_edits.specs.Setters.{with_edited, with_found_edited}
 use Rattle.sentry_span_edits.specs.declared.edit.SpanEdit.TheVariants.{Name}
 use Rattle.sentry_span_edits.proofs.EditLemmas.{held_edited}
-use Rattle.sentry_span_table.specs.SpanLists.{TransactionState, plain_transaction}
+use Rattle.sentry_span_table.specs.SpanLists.{TransactionHistory, stored_transaction}
 use Rattle.sentry_span_table.specs.SpanTables.{transaction_in, with_found_named, with_name, with_transaction_named}
 use Rattle.sentry_span_table.specs.declared.table.records.SpanTable.{SpanTable}
 use Rattle.sentry_span_table.specs.declared.table.records.TransactionRecord.{TransactionRecord}
@@ -24,25 +24,25 @@ use Rattle.sentry_state.proofs.Keeping.{option_map-cond, value_at-map_values, re
 module _ {P C : Type 0} where
   -- what the table of a world has of a transaction
   found_in_table : (world : World P C) (key : TransactionKey)
-      → transaction_in (span_table world) key ≡ option_map plain_transaction (transaction_at world key)
+      → transaction_in (span_table world) key ≡ option_map stored_transaction (transaction_at world key)
   found_in_table world key =
-      ap (λ o. cond (key.tag == world.tag) o None) (value_at-map_values plain_transaction world.transactions key.number)
-      ∙ option_map-cond plain_transaction (key.tag == world.tag) (value_at world.transactions key.number) None
+      ap (λ o. cond (key.tag == world.tag) o None) (value_at-map_values stored_transaction world.transactions key.number)
+      ∙ option_map-cond stored_transaction (key.tag == world.tag) (value_at world.transactions key.number) None
 
   -- the table of a world with other transactions
   abbrev table_with : World P C → List (ℕ × TransactionRecord) → SpanTable
   table_with world transactions = record { tag = world.tag; transactions = transactions; spans = world.spans }
 
   -- the table in which the transaction that was found has another name
-  named_in_table : (world : World P C) (number : ℕ) (found : Option TransactionState) (name : Bytes)
-      → with_found_named (span_table world) number (option_map plain_transaction found) name
+  named_in_table : (world : World P C) (number : ℕ) (found : Option TransactionHistory) (name : Bytes)
+      → with_found_named (span_table world) number (option_map stored_transaction found) name
       ≡ span_table (with_found_edited (Name name) number found world)
   named_in_table world number None name = refl
   named_in_table world number (Some state) name =
-      ap (λ (held : TransactionRecord). table_with world (replace_at (map_values plain_transaction world.transactions) number held))
+      ap (λ (held : TransactionRecord). table_with world (replace_at (map_values stored_transaction world.transactions) number held))
       (held_edited (Name name) state)
       ∙ ap (table_with world)
-      (sym (replace_at-map_values plain_transaction world.transactions number (edit_transaction (Name name) state)))
+      (sym (replace_at-map_values stored_transaction world.transactions number (edit_transaction (Name name) state)))
 
   -- the same of a key
   renamed_in_table : (world : World P C) (key : TransactionKey) (name : Bytes)
@@ -53,7 +53,7 @@ module _ {P C : Type 0} where
 
   -- an engine stands for the world in which what was found has another name, if its table does
   stands_with_found : (engine : State P C) (world : World P C) → Stands engine world → (number : ℕ)
-      (found : Option TransactionState) (name : Bytes) (spans : SpanTable)
+      (found : Option TransactionHistory) (name : Bytes) (spans : SpanTable)
       → spans ≡ span_table (with_found_edited (Name name) number found world)
       → Stands (record engine { spans = spans }) (with_found_edited (Name name) number found world)
   stands_with_found engine world s number None name spans is = record {

@@ -8,7 +8,7 @@ use Rattle.sentry_state.specs.declared.state.State.{State}
 use Rattle.sentry_calls.specs.declared.call.Reply.{Reply}
 use Rattle.sentry_state.specs.Worlds.{World}
 use Rattle.sentry_state.specs.Outcomes.{Outcome, IsAnswer, DoesWith}
-use Rattle.sentry_span_calls.specs.Replies.{map_answer, map_reply}
+use Rattle.sentry_calls.specs.Replies.{map_answer, map_reply}
 
 module _ {P C T : Type 0} where
   is_ok-map_answer : (f : T → Reply P C) (answer : Result (Out T) Refusal) → is_ok answer ≡ true → is_ok (map_answer f answer) ≡ true

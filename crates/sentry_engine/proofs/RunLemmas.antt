@@ -11,14 +11,14 @@ use Rattle.sentry_base.specs.Callbacks.{Partial}
 use Rattle.sentry_options.specs.Meanings.{Meanings}
 use Rattle.sentry_state.specs.Worlds.{World, Stands}
 use Rattle.sentry_state.specs.Outcomes.{DoesWith}
-use Rattle.sentry_calls.specs.Runs.{May, Run}
+use Rattle.sentry_calls.specs.Runs.{StepsTo, Run}
 use Rattle.sentry_calls.specs.Steps.{step, takes_no_memory}
 
 module _ {P C : Type 0} (gives : P → Partial) (meanings : C → Meanings) where
   -- what a call did is a step that the definition allows, to a world that the engine stands for
   pub may_from_does : (old new : State P C) (call : Call P C) (answer : Result (Out (Reply P C)) Refusal)
       → DoesWith (takes_no_memory call) old new answer (step gives meanings call) → (world : World P C) → Stands old world
-      → (next : World P C) × May gives meanings world call answer next × Stands new next
+      → (next : World P C) × StepsTo gives meanings world call answer next × Stands new next
   may_from_does old new call (Ok out) d world s = ((step gives meanings call world).after, ((d world s).0, refl), (d world s).1)
   may_from_does old new call (Err refusal) d world s = (world, (d.1 world s, refl), subst (λ e. Stands e world) (sym d.0) s)
 

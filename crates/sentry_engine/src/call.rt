@@ -13,6 +13,7 @@ ghost use Rattle.sentry_laws.specs.Reachable.{
   SessionsAreNamed,
 };
 ghost use Rattle.sentry_laws.specs.Reports.{LabelsAddUp};
+ghost use Rattle.sentry_laws.specs.LossesByCalls.{RecordsLossesByCalls, CallsAddUp};
 ghost use Rattle.sentry_laws.specs.SentItems.{SendsAcceptedLogs, SendsAcceptedMetrics};
 ghost use Rattle.sentry_laws.specs.SentItems.{SendsLogsAtEachCall, SendsMetricsAtEachCall};
 ghost use Rattle.sentry_laws.specs.Accepted.{AcceptsLogsByCalls, AcceptsMetricsByCalls};
@@ -30,9 +31,8 @@ mod replies;
 use crate::engine::Engine;
 use sentry_base::callbacks::EventCallback;
 use sentry_base::protocol::Refusal;
-pub use sentry_calls::call::{Answer, Call, ClientCall, HubCall, Reply};
+pub use sentry_calls::call::{Answer, Call, ClientCall, HubCall, Reply, SpanCall, SpanReply};
 use sentry_options::clientoptions::Callbacks;
-pub use sentry_span_calls::call::{SpanCall, SpanReply};
 use std::alloc::Global;
 
 impl<P: EventCallback + Drop, C: Callbacks> Engine<P, C> {
@@ -51,9 +51,9 @@ impl<P: EventCallback + Drop, C: Callbacks> Engine<P, C> {
     ///
     /// The laws of `sentry_laws` hold of these calls and answers: a hub shows what its own calls did (`hubs`), options
     /// of clients stay (`options`), accepted logs and metrics are sent (`logs`, `metrics`), spans are in the trace of
-    /// their transaction (`traces`), reports add up (`reports`), a pop undoes its push (`layers`), the status of a session
-    /// that ended stays (`status`), a second end is silent (`once`), and what is named is held, as each session that is
-    /// held is named (`worlds`). `runs_split` takes a run apart.
+    /// their transaction (`traces`), reports add up (`reports`) to what the calls lose (`losses`), a pop undoes its push
+    /// (`layers`), the status of a session that ended stays (`status`), a second end is silent (`once`), and what is named
+    /// is held, as each session that is held is named (`worlds`). `runs_split` takes a run apart.
     ///
     /// `OutOfMemory`: no memory for the list of answers; then no call was made.
     pub fn run(
@@ -79,6 +79,9 @@ impl<P: EventCallback + Drop, C: Callbacks> Engine<P, C> {
             (λ last run. KeptSpansAreInTrace last × HeldSpansAreInTrace last)) }
         ensures reports { IfOk result (λ end. AtEnd P.gives C.meanings tag calls.items end.1.items
             (λ last run. LabelsAddUp P.gives C.meanings (first_world tag) calls.items end.1.items last run)) }
+        ensures losses { IfOk result (λ end. AtEnd P.gives C.meanings tag calls.items end.1.items
+            (λ last run. RecordsLossesByCalls P.gives C.meanings (first_world tag) calls.items end.1.items last run
+            × CallsAddUp P.gives C.meanings (first_world tag) calls.items end.1.items last run)) }
         ensures worlds { IfOk result (λ end. AtEnd P.gives C.meanings tag calls.items end.1.items
             (λ last run. NumbersAreFree last × BooksAreOfClients last × ClientsAreHeld last
             × ActiveSpansAreHeld last × SessionsAreNamed last)) }

@@ -13,6 +13,7 @@ mod sessions;
 mod spans;
 mod telemetry;
 
+pub use facts::Held;
 pub use layers::ScopeGuard;
 use sentry_options::clientoptions::Callbacks;
 use sentry_state::state::State;

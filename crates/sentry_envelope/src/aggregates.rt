@@ -55,7 +55,7 @@ pub fn write_aggregates(out: &mut Writer, aggregates: &SessionAggregates) -> Res
     out.key("aggregates")?;
     write_count_list(out, aggregates.aggregates.as_slice())?;
     out.key("attrs")?;
-    write_attributes(out, &aggregates.attributes)?;
+    write_attributes(out, aggregates.attributes.get())?;
     out.end_object()?;
     Ok(())
 }

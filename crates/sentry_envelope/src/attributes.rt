@@ -84,7 +84,7 @@ fn write_attributes(
 {
     out.begin_object()?;
     for (key, attribute) in attributes.iter() {
-        out.key(key.as_str())?;
+        out.key(key)?;
         write_attribute(out, alloc, attribute)?;
     }
     out.end_object()?;

@@ -18,7 +18,7 @@ fn write_text_map(out: &mut Writer, texts: &TextMap<Text>) -> Result<(), AllocEr
 {
     out.begin_object()?;
     for (key, text) in texts.iter() {
-        put_text(out, key.as_str(), text.as_str())?;
+        put_text(out, key, text.as_str())?;
     }
     out.end_object()?;
     Ok(())

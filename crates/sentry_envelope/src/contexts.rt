@@ -70,7 +70,7 @@ fn write_contexts(out: &mut Writer, contexts: &TextMap<Context>) -> Result<(), A
 {
     out.begin_object()?;
     for (key, context) in contexts.iter() {
-        out.key(key.as_str())?;
+        out.key(key)?;
         write_context(out, context)?;
     }
     out.end_object()?;

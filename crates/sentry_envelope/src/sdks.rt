@@ -10,6 +10,7 @@ use crate::collections::put_texts;
 use json::Writer;
 use sentry_base::protocol::{ClientSdkInfo, ClientSdkPackage};
 use sentry_framing::members::put_text;
+use sentry_plain::Shared;
 use std::alloc::AllocError;
 
 fn write_package(out: &mut Writer, item: &ClientSdkPackage) -> Result<(), AllocError>
@@ -57,7 +58,7 @@ fn write_sdk(out: &mut Writer, sdk: &ClientSdkInfo) -> Result<(), AllocError>
 }
 
 /// Writes the SDK, if it is known.
-pub fn put_sdk(out: &mut Writer, sdk: &Option<ClientSdkInfo>) -> Result<(), AllocError>
+pub fn put_sdk(out: &mut Writer, sdk: &Option<Shared<ClientSdkInfo>>) -> Result<(), AllocError>
     ensures { OnOk result (Puts out.old out.new (optional sdk_json (codes "sdk") sdk.now)) }
 {
     match sdk {

@@ -54,7 +54,7 @@ pub fn write_session(out: &mut Writer, session: &SessionUpdate) -> Result<(), Al
     put_text(out, "status", status_name(session.status))?;
     put_whole(out, "errors", session.errors)?;
     out.key("attrs")?;
-    write_attributes(out, &session.attributes)?;
+    write_attributes(out, session.attributes.get())?;
     out.end_object()?;
     Ok(())
 }

@@ -13,8 +13,8 @@ use crate::hub::{Hub, WithScopeError};
 use crate::performance::Transaction;
 use rand_core::Rng;
 use sentry_base::callbacks::{BreadcrumbCallback, EventCallback, LogCallback, MetricCallback};
+use sentry_base::clock::Clock;
 use sentry_base::protocol::{Event, Fresh, Level, Refusal, SessionStatus, SpanId, TraceId, Uuid};
-use sentry_clock::Clock;
 use sentry_engine::engine::ScopeGuard;
 use sentry_lock::core_lock::CoreLock;
 use sentry_lock::scope_edits::ScopeEdits;
@@ -323,11 +323,8 @@ pub fn start_session<L: CoreLock, K: Clock, G: Rng>(
     ensures main { thread.new.main ≡ thread.old.main }
     ensures current { thread.new.current ≡ thread.old.current }
 {
-    let hub = Hub::current(thread)?;
-    let Some(active) = hub.lock_active()? else {
-        return Ok(());
-    };
-    active.start_session(thread.fresh())
+    let fresh = thread.fresh_uuid();
+    thread.current.lock().start_active_session(fresh)
 }
 
 /// Ends the session, if there is one, as exited.
@@ -352,15 +349,13 @@ pub fn end_session_with_status<L: CoreLock, K: Clock, G>(
     ensures main { thread.new.main ≡ thread.old.main }
     ensures current { thread.new.current ≡ thread.old.current }
 {
-    let hub = Hub::current(thread)?;
-    let Some(active) = hub.lock_active()? else {
-        return Ok(());
-    };
-    active.end_session_with_status(status, thread.clock.now())
+    let now = thread.clock.now();
+    thread.current.lock().end_active_session(status, now)
 }
 
 /// Starts a transaction under the client of the current hub, or without a client if the hub isn't active: then it is
-/// finished from the start.
+/// finished from the start. A program that forgets to discard it leaves it in the core for as long as that lasts, also
+/// once it is finished: `in_transaction` discards it.
 ///
 /// `Stale`: the hub isn't held. `Full`: the numbers are used up. `OutOfMemory`.
 pub fn start_transaction<L: CoreLock, K: Clock, G: Rng>(

@@ -79,7 +79,9 @@ impl<L: CoreLock> Hub<L> {
         Ok(Hub { core: share, key })
     }
 
-    /// A hub with one layer, of the client of the other one's top layer and a copy of its scope.
+    /// A hub with one layer, of the client of the other one's top layer and a copy of its scope. A program that forgets
+    /// to release the hub leaves it in the core for as long as that lasts, and its client and session can't be dropped or
+    /// end with it: `in_new_hub` releases it.
     ///
     /// `Stale`: the other hub isn't held. `Full`: the numbers are used up. `OutOfMemory`.
     pub fn new_from_top(other: &Hub<L>) -> Result<Hub<L>, Refusal> {

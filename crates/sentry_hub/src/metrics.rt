@@ -2,9 +2,9 @@
 ghost use Rattle.std.specs.Prelude.{◌≡◌};
 
 use crate::hub::Hub;
+use sentry_base::clock::Clock;
 use sentry_base::protocol::Refusal;
 use sentry_batches::metrics::{IntoProtocolMetric, TypedMetric};
-use sentry_clock::Clock;
 use sentry_lock::core_lock::CoreLock;
 use sentry_thread_hub::thread_hub::ThreadHub;
 

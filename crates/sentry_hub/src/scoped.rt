@@ -4,10 +4,12 @@ ghost use Rattle.std.specs.Prelude.{◌≡◌};
 
 use crate::api::{start_transaction, with_scope};
 use crate::hub::Hub;
-use crate::performance::{Span, Transaction, TransactionOrSpan};
+use crate::performance::{Handle, HandleKey, Span, Transaction, TransactionOrSpan};
 use rand_core::Rng;
-use sentry_base::protocol::{Refusal, SpanStatus, TransactionOrSpanKey};
-use sentry_clock::Clock;
+use sentry_base::clock::Clock;
+use sentry_base::protocol::{
+    HubKey, Refusal, SpanKey, SpanStatus, TransactionKey, TransactionOrSpanKey,
+};
 use sentry_lock::core_lock::CoreLock;
 use sentry_lock::scope_edits::{IntoSpanKey, ScopeEdits};
 use sentry_scope::scope::ScopeEdit;
@@ -92,14 +94,6 @@ pub fn in_new_hub<
     settle(answer, hub.release(thread))
 }
 
-// What is active on the hub while the work runs, and what was before.
-#[derive(Drop)]
-struct Active<L, S> {
-    hub: Hub<L>,
-    span: S,
-    before: Option<TransactionOrSpanKey>,
-}
-
 // The call of the setter of a span.
 fn list_span<P: Drop>(
     alloc: Global,
@@ -143,17 +137,21 @@ fn restore<L: CoreLock>(
     }
 }
 
-// Starts a transaction and makes it the active one.
-fn enter_transaction<L: CoreLock, K: Clock, G: Rng>(
-    thread: &mut ThreadHub<Hub<L>, K, G>,
-    context: TransactionContext,
-) -> Result<Active<L, Transaction<L>>, Refusal>
-    ensures current { thread.new.current ≡ thread.old.current }
-{
-    let hub = Hub::current(thread)?;
-    let span = start_transaction(thread, context)?;
-    let key = TransactionOrSpanKey::Transaction(span.key());
-    match activate(&hub, Some(key), thread.clock.now()) {
+// What is active on the hub while the work runs, and what was before.
+#[derive(Drop)]
+struct Active<L, N> {
+    hub: Hub<L>,
+    span: Handle<L, N>,
+    before: Option<TransactionOrSpanKey>,
+}
+
+// Makes what was started the active one. Where that is refused, it is forgotten.
+fn enter<L: CoreLock, N: HandleKey>(
+    hub: Hub<L>,
+    span: Handle<L, N>,
+    now: u64,
+) -> Result<Active<L, N>, Refusal> {
+    match activate(&hub, (&span).into_span_key(), now) {
         Ok(before) => Ok(Active { hub, span, before }),
         Err(refusal) => {
             drop(span.discard());
@@ -162,23 +160,73 @@ fn enter_transaction<L: CoreLock, K: Clock, G: Rng>(
     }
 }
 
-// The transaction of work that failed has the status `InternalError`, unless the work has set one.
-fn note_failed_transaction<L: CoreLock>(
-    transaction: &Transaction<L>,
-    has_failed: bool,
-) -> Result<(), Refusal> {
-    if !has_failed || transaction.get_status()?.is_some() {
-        return Ok(());
-    }
-    transaction.set_status(SpanStatus::InternalError)
+// Starts a transaction and makes it the active one.
+fn enter_transaction<L: CoreLock, K: Clock, G: Rng>(
+    thread: &mut ThreadHub<Hub<L>, K, G>,
+    context: TransactionContext,
+) -> Result<Active<L, TransactionKey>, Refusal>
+    ensures current { thread.new.current ≡ thread.old.current }
+{
+    let hub = Hub::current(thread)?;
+    let transaction = start_transaction(thread, context)?;
+    enter(hub, transaction, thread.clock.now())
 }
 
-// The same of a span.
-fn note_failed_span<L: CoreLock>(span: &Span<L>, has_failed: bool) -> Result<(), Refusal> {
+// Starts a child and makes it the active one.
+fn enter_span<L: CoreLock, K: Clock, G: Rng>(
+    thread: &mut ThreadHub<Hub<L>, K, G>,
+    parent: Option<TransactionOrSpanKey>,
+    op: &str,
+    description: &str,
+) -> Result<Active<L, SpanKey>, Refusal>
+    ensures current { thread.new.current ≡ thread.old.current }
+{
+    let hub = Hub::current(thread)?;
+    let Some(parent) = parent else {
+        return Err(Refusal::Stale);
+    };
+    let parent = TransactionOrSpan::new(hub.core(), parent)?;
+    let span = parent.start_child(op, description, thread.fresh())?;
+    enter(hub, span, thread.clock.now())
+}
+
+// What work that failed was under has the status `InternalError`, unless the work has set one.
+fn note_failed<L: CoreLock, N: HandleKey>(
+    span: &Handle<L, N>,
+    has_failed: bool,
+) -> Result<(), Refusal> {
     if !has_failed || span.get_status()?.is_some() {
         return Ok(());
     }
     span.set_status(SpanStatus::InternalError)
+}
+
+// Finishes and forgets what the work was under. What can't be finished is forgotten all the same.
+fn end_or_discard<L: CoreLock, N: HandleKey>(
+    span: &Handle<L, N>,
+    hub: HubKey,
+    moment: u64,
+) -> Result<(), Refusal> {
+    let ended = span.end_on(hub, moment);
+    if ended.is_err() {
+        drop(span.discard());
+    }
+    ended
+}
+
+// What was active before the work is active again, and what the work was under ends.
+fn leave<L: CoreLock, N: HandleKey, K: Clock, G>(
+    thread: &mut ThreadHub<Hub<L>, K, G>,
+    span: &Handle<L, N>,
+    before: Option<TransactionOrSpanKey>,
+    has_failed: bool,
+) -> Result<(), Refusal> {
+    let moment = thread.clock.now();
+    let hub = &thread.current;
+    let noted = note_failed(span, has_failed);
+    let restored = restore(hub, before, moment);
+    let ended = end_or_discard(span, hub.key(), moment);
+    first(first(noted, restored), ended)
 }
 
 /// Runs the work under a transaction, which is active on the current hub until it is finished and forgotten after the
@@ -201,38 +249,8 @@ pub fn in_transaction<
     let Active { hub, span, before } = enter_transaction(thread, context)?;
     let mut guard = HubSwitchGuard::new(thread, hub);
     let answer = work(guard.thread_hub(), &span);
-    let thread = guard.thread_hub();
-    let moment = thread.clock.now();
-    let noted = note_failed_transaction(&span, answer.is_err());
-    let finished = first(noted, span.finish_with_timestamp(thread, moment));
-    let restored = restore(&thread.current, before, moment);
-    let ended = first(first(finished, restored), span.discard());
+    let ended = leave(guard.thread_hub(), &span, before, answer.is_err());
     settle(answer, ended)
-}
-
-// Starts a child and makes it the active one.
-fn enter_span<L: CoreLock, K: Clock, G: Rng>(
-    thread: &mut ThreadHub<Hub<L>, K, G>,
-    parent: Option<TransactionOrSpanKey>,
-    op: &str,
-    description: &str,
-) -> Result<Active<L, Span<L>>, Refusal>
-    ensures current { thread.new.current ≡ thread.old.current }
-{
-    let hub = Hub::current(thread)?;
-    let Some(parent) = parent else {
-        return Err(Refusal::Stale);
-    };
-    let parent = TransactionOrSpan::new(hub.core(), parent)?;
-    let span = parent.start_child(op, description, thread.fresh())?;
-    let key = TransactionOrSpanKey::Span(span.key());
-    match activate(&hub, Some(key), thread.clock.now()) {
-        Ok(before) => Ok(Active { hub, span, before }),
-        Err(refusal) => {
-            drop(span.discard());
-            Err(refusal)
-        }
-    }
 }
 
 /// Runs the work under a child of a transaction or span, as `in_transaction` does under a transaction.
@@ -261,11 +279,6 @@ pub fn in_span<
     let Active { hub, span, before } = enter_span(thread, parent, op, description)?;
     let mut guard = HubSwitchGuard::new(thread, hub);
     let answer = work(guard.thread_hub(), &span);
-    let thread = guard.thread_hub();
-    let moment = thread.clock.now();
-    let noted = note_failed_span(&span, answer.is_err());
-    let finished = first(noted, span.finish_with_timestamp(moment));
-    let restored = restore(&thread.current, before, moment);
-    let ended = first(first(finished, restored), span.discard());
+    let ended = leave(guard.thread_hub(), &span, before, answer.is_err());
     settle(answer, ended)
 }

@@ -1,6 +1,6 @@
 //! A thread that ticks a client.
+pub use sentry_base::clock::{BoxedTickClock, TickClock};
 use sentry_base::protocol::Refusal;
-pub use sentry_clock::{BoxedTickClock, TickClock};
 use sentry_lock::client::Client;
 use sentry_lock::core_lock::CoreLock;
 use std::alloc::AllocError;
@@ -8,6 +8,25 @@ use std::sync::atomic::{AtomicU64, Ordering};
 use std::sync::{Arc, Wait};
 use std::thread;
 use std::thread::{JoinHandle, Threads};
+
+/// Waits until the thread of a worker has ended, by a runtime that it keeps.
+pub trait Joiner {
+    /// Asks the thread to end before its next tick, and waits until it has ended.
+    fn join(&self, worker: Worker);
+}
+
+/// Waits by a runtime.
+#[derive(Drop)]
+pub struct Joining<R>(pub R);
+
+impl<R: Threads> Joiner for Joining<R> {
+    fn join(&self, worker: Worker) {
+        worker.stop(&self.0);
+    }
+}
+
+/// What waits for a worker, in a box, which hides the runtime.
+pub type BoxedJoiner = Box<dyn Joiner + Drop>;
 
 /// A thread that ticks a client at the moments of a clock. It ends when the clock has no more of them, and when a tick is
 /// refused for anything but want of memory. A worker that is dropped and not stopped runs on.

@@ -18,7 +18,7 @@ use Rattle.sentry_scope.specs.Stacks.{is_client, is_session, stack_of, stack_of_
 use Rattle.sentry_scope.specs.declared.scope.stack.Stack.{Stack}
 use Rattle.sentry_scope.specs.declared.scope.stack.StackLayer.{StackLayer}
 use Rattle.sentry_hub_table.specs.Hubs.{is_transaction, is_span}
-use Rattle.sentry_hub_table.specs.Tallies.{one_if, is_named, tally_at, Keeps, Raises, Lowers}
+use Rattle.sentry_hub_table.specs.Tallies.{one_if, is_named, tally_at, tally_total, Keeps, Raises, Lowers}
 use Rattle.sentry_hub_table.specs.Names.{client_name, session_name, transaction_name, span_name, layers_passing, height, over_hubs, all_layers_passing, all_layers, Counts, LowersBy, HasLayers, HasName}
 use Rattle.sentry_hub_table.specs.declared.hub.Hub.{Hub}
 use Rattle.sentry_hub_table.specs.declared.tally.Key.{Key}
@@ -184,7 +184,7 @@ module _ {P : Type 0} where
     -- once the name of a layer on top is taken away, there is room for another
     pub has_room : (hubs : List (ℕ × Hub P)) (number : ℕ) (hub : Hub P) → value_at hubs number ≡ Some hub
         → (tally lowered : Tally) → Counts tally name hubs → Lowers tally lowered (name hub.stack.top)
-        → length lowered.late.items < vec_capacity lowered.late
+        → tally_total lowered < vec_capacity lowered.late
     has_room hubs number hub h tally lowered counts lowers =
         let room = room_at (λ layer. is_some (name layer)) hubs number hub h in
         let capacity = counts.room in
@@ -261,7 +261,7 @@ module _ {P : Type 0} where
 
     -- with room for one more layer than there are, there is room for one more name
     pub has_room_for : (hubs : List (ℕ × Hub P)) (tally : Tally) → Counts tally name hubs → all_layers hubs + 1 ≤ vec_capacity tally.late
-        → length tally.late.items < vec_capacity tally.late
+        → tally_total tally < vec_capacity tally.late
     has_room_for hubs tally counts room =
         let total = counts.total in
         let most : all_layers_passing (λ layer. is_some (name layer)) hubs ≤ all_layers hubs =

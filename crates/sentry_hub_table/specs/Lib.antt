@@ -1,3 +1,4 @@
+pub mod Entries
 pub mod Tallies
 pub mod Hubs
 pub mod Names

@@ -125,10 +125,10 @@ pub record HasNames (names : Names) (layer : LayerNames) : Type 0 where
 
 -- there is room for one more name of each kind
 pub record HasRoom (names : Names) : Type 0 where
-  pub clients : length names.clients.late.items < vec_capacity names.clients.late
-  pub sessions : length names.sessions.late.items < vec_capacity names.sessions.late
-  pub transactions : length names.transactions.late.items < vec_capacity names.transactions.late
-  pub spans : length names.spans.late.items < vec_capacity names.spans.late
+  pub clients : tally_total names.clients < vec_capacity names.clients.late
+  pub sessions : tally_total names.sessions < vec_capacity names.sessions.late
+  pub transactions : tally_total names.transactions < vec_capacity names.transactions.late
+  pub spans : tally_total names.spans < vec_capacity names.spans.late
 
 pub record KeepsNames (old new : Names) : Type 0 where
   pub clients : Keeps old.clients new.clients

@@ -1,18 +1,15 @@
 -- How many layers name each record of a kind.
-use Rattle.std.specs.Prelude.{◌≡◌, ℕ, ◌+◌, ◌≤◌, ◌==◌, ◌&&◌, Bool, false, Option, Some, None, unwrap_or, cond, if◌then◌else◌, List, count_by, length, sum, vec_capacity}
+use Rattle.std.specs.Prelude.{◌≡◌, ℕ, ◌+◌, ◌≤◌, ◌==◌, Bool, false, Option, Some, None, unwrap_or, cond, if◌then◌else◌, List, count_by, length, sum, vec_capacity}
 use Rattle.std.specs.Option.{is_some}
 use Rattle.std.specs.Map.{values_of}
 use Rattle.sentry_plain.specs.Tables.{value_at}
 use Rattle.sentry_hub_table.specs.declared.tally.Key.{Key}
 use Rattle.sentry_hub_table.specs.declared.tally.Tally.{Tally}
+pub use Rattle.sentry_hub_table.specs.Entries.{is_key}
 
 -- 1 where the test holds
 abbrev pub one_if : Bool → ℕ
 one_if b = cond b 1 0
-
--- the key is this one
-abbrev pub is_key : Key → Key → Bool
-is_key key other = (other.tag == key.tag) && (other.number == key.number)
 
 -- a record is named, and it is the one of this key
 abbrev pub is_named : Key → Option Key → Bool

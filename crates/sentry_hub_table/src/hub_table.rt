@@ -4,6 +4,7 @@ ghost use Rattle.sentry_plain.specs.Tables.{value_at, put, replace_at, without};
 ghost use Rattle.sentry_scope.specs.Scopes.{edit, breadcrumb_trail};
 ghost use Rattle.sentry_scope.specs.Stacks.{depth, push, pop};
 ghost use Rattle.sentry_hub_table.specs.declared.hub.Hub.{Hub};
+ghost use Rattle.sentry_hub_table.specs.Names.{all_layers};
 ghost use Rattle.sentry_hub_table.specs.Hubs.{with_client, with_session, with_stack, with_scope};
 ghost use Rattle.sentry_hub_table.specs.Hubs.{is_client_named, is_session_named, is_transaction_named, is_span_named};
 
@@ -69,6 +70,20 @@ impl<P> HubTable<P> {
         ensures { option_copied result ≡ value_at self.now number }
     {
         self.hubs.get(number)
+    }
+
+    /// How many hubs there are.
+    pub fn len(&self) -> usize
+        ensures { result ≡ length self.now }
+    {
+        self.hubs.len()
+    }
+
+    /// How many layers all hubs have. It looks at no hub.
+    pub fn layers(&self) -> usize
+        ensures { result ≡ all_layers self.now }
+    {
+        self.layers
     }
 
     /// Whether a layer names the client. It looks at no layer.

@@ -9,7 +9,7 @@ use Rattle.sentry_base.specs.declared.protocol.keys.Label.{Label}
 use Rattle.sentry_options.specs.Meanings.{Meanings}
 use Rattle.sentry_client_reports.specs.LossBooks.{LossEntry, engine_losses, report_point}
 use Rattle.sentry_sending.specs.Sending.{after_sending, send}
-use Rattle.sentry_state.specs.Changes.{with_client_state}
+use Rattle.sentry_state.specs.Changes.{with_client_history}
 use Rattle.sentry_state.specs.Books.{with_entry}
 use Rattle.sentry_state.specs.Worlds.{World}
 use Rattle.std.specs.Prelude.{Result, Ok, Err}
@@ -56,10 +56,10 @@ module _ {X : Type 0} where
   replace_absent (e ∷ es) n x h = absent-at (is_at (nat_cmp n) e.0) e es n x h (replace_absent es n x)
 
 module _ where
-  unchanged : (books : List (ℕ × List LossEntry)) → KeepsBooks books books
+  pub unchanged : (books : List (ℕ × List LossEntry)) → KeepsBooks books books
   unchanged books = record { increasing = λ b. b; same = λ b n now at. (now, at, λ i. refl) }
 
-  then_keeps : (first second third : List (ℕ × List LossEntry)) → KeepsBooks first second → KeepsBooks second third
+  pub then_keeps : (first second third : List (ℕ × List LossEntry)) → KeepsBooks first second → KeepsBooks second third
       → KeepsBooks first third
   then_keeps first second third k l = record {
     increasing = λ b. l.increasing (k.increasing b);
@@ -166,12 +166,12 @@ module _ {P C : Type 0} {meanings : C → Meanings} where
   books_change (drops_client world key client label found same none) h = removed _ world.books label.number
   books_change (arrives world key client arrival is_off found open_ came) h =
       sending_books client.label (send key client (envelopes_on_arrival arrival client)
-      (with_client_state world key (after_arrival arrival client))).sent
-      (with_client_state world key (after_arrival arrival client))
+      (with_client_history world key (after_arrival arrival client))).sent
+      (with_client_history world key (after_arrival arrival client))
   books_change (accepts world key client arrival is_log is_off found open_ came) h =
       sending_books client.label (send key client (envelopes_on_arrival arrival client)
-      (with_client_state world key (after_arrival arrival client))).sent
-      (with_client_state world key (after_arrival arrival client))
+      (with_client_history world key (after_arrival arrival client))).sent
+      (with_client_history world key (after_arrival arrival client))
   books_change (mails world key client envelope found occupied none told_) h =
       with_silent world client.label report_point (λ history i. refl)
   books_change (loses world key client losses found) h = with_silent world client.label (engine_losses losses)

@@ -21,15 +21,15 @@ use Rattle.sentry_client_reports.specs.LossBooks.{LossEntry}
 use Rattle.sentry_scope.specs.declared.scope.Scope as declared_scope
 use Rattle.sentry_span_table.specs.SpanTables.{is_held}
 use Rattle.sentry_batches.specs.declared.batcher.TheConstants.{BATCH_INTERVAL}
-use Rattle.sentry_queues.specs.Flushes.{is_flushed, batch_envelopes}
-use Rattle.sentry_queues.specs.Telemetry.{client_log, client_metric, keep_log, keep_metric, accept_log, accept_metric}
+use Rattle.sentry_telemetry.specs.Flushes.{is_flushed, batch_envelopes}
+use Rattle.sentry_telemetry.specs.Telemetry.{client_log, client_metric, keep_log, keep_metric, accept_log, accept_metric}
 use Rattle.sentry_sending.specs.Sending.{send, send_nothing, send_some, after_sending}
 use Rattle.sentry_state.specs.declared.state.Client.{Client}
 use Rattle.sentry_state.specs.declared.state.Out.{Out}
 use Rattle.sentry_state.specs.Clients.{queues_from, clone_from}
 use Rattle.sentry_state.specs.Outcomes.{Outcome, require, require_some, let_some, client_at, hub_at}
-use Rattle.sentry_state.specs.Changes.{with_client_state, with_log_entry, with_metric_entry}
-use Rattle.sentry_state.specs.Worlds.{World, ClientState, QueueHistories, plain_client, span_table, starting_world}
+use Rattle.sentry_state.specs.Changes.{with_client_history, with_log_entry, with_metric_entry}
+use Rattle.sentry_state.specs.Worlds.{World, ClientHistory, QueueHistories, stored_client, span_table, starting_world}
 use Rattle.sentry_calls.specs.declared.call.Call.{Call}
 use Rattle.sentry_calls.specs.declared.call.Call.TheVariants as group
 use Rattle.sentry_calls.specs.declared.call.clients.ClientCall.{ClientCall}
@@ -39,9 +39,9 @@ use Rattle.sentry_calls.specs.declared.call.hubs.HubCall.TheVariants.{NewHub, Ne
 use Rattle.sentry_calls.specs.declared.call.Reply.{Reply}
 use Rattle.sentry_calls.specs.declared.call.Reply.TheVariants as reply
 use Rattle.sentry_calls.specs.Telemetry as telemetry
-use Rattle.sentry_calls.specs.Runs.{May, Run}
+use Rattle.sentry_calls.specs.Runs.{StepsTo, Run}
 use Rattle.sentry_calls.specs.Steps.{client_step, hub_step}
-use Rattle.sentry_span_calls.specs.Replies.{map_answer}
+use Rattle.sentry_calls.specs.Replies.{map_answer}
 use Rattle.sentry_laws.specs.Accepted.{comes_to, comes_under, comes_on, logs_by, metrics_by, AcceptsByCalls, AcceptsLogsByCalls, AcceptsMetricsByCalls}
 use Rattle.sentry_laws.proofs.Effects.{Effect, scope_edited, breadcrumbs_came, client_bound, layer_pushed, layer_popped, session_named, hub_changed, client_added, client_cloned, hub_made, hub_made_from, hub_released, losses_absorbed, report_taken, session_begun, client_dropped, item_came, effects, client_effects, hub_effects}
 use Rattle.sentry_laws.proofs.Changes.{Change, Changes, nothing, one, both, IsArrival, IsItem, Arrival, log_came, metric_came, session_ended, flush_came, after_arrival, envelopes_on_arrival, makes_hub, makes_hub_from, changes_hub, leaves_hub, notes_event_id, releases_hub, adds_client, clones_client, drops_client, arrives, accepts, accepts_none, mails, loses, takes_report, absorbs, starts_none, starts_session, changes_session, ends_session, starts_transaction, starts_span, changes_spans}
@@ -90,9 +90,9 @@ module _ (l : Bool) {P C : Type 0} where
 
 module _ {T C : Type 0} (history : QueueHistories → List (BatchEntry T)) (is_log : Bool)
     (new_history : (now : ℕ) → history (queues_from now) ≡ [])
-    (arrival_keeps : (arrival : Arrival) (client : ClientState C) → (IsItem is_log arrival → ⊥)
+    (arrival_keeps : (arrival : Arrival) (client : ClientHistory C) → (IsItem is_log arrival → ⊥)
     → accepted_items (history (after_arrival arrival client).queues) ≡ accepted_items (history client.queues)) where
-  abbrev accepted_by : ClientState C → List T
+  abbrev accepted_by : ClientHistory C → List T
   accepted_by client = accepted_items (history client.queues)
 
   not_item : (l : Bool) {P : Type 0} (world : World P C) (arrival : Arrival) → IsArrival world arrival → IsItem l arrival
@@ -121,11 +121,11 @@ module _ {T C : Type 0} (history : QueueHistories → List (BatchEntry T)) (is_l
   module _ {P : Type 0} (meanings : C → Meanings) (n : ℕ) (items : List T) where
     -- the client with this number, if it is held, accepted these items so far
     record Accepted (world : World P C) : Type 0 where
-      so_far : (c : ClientState C) → value_at world.clients n ≡ Some c → accepted_by c ≡ items
+      so_far : (c : ClientHistory C) → value_at world.clients n ≡ Some c → accepted_by c ≡ items
       given : (n < world.next.client) ⊎ (items ≡ [])
       clients : AreBelow 0 world.next.client world.clients
 
-    added : (world : World P C) (client : ClientState C) (books : List (ℕ × List LossEntry)) → history client.queues ≡ []
+    added : (world : World P C) (client : ClientHistory C) (books : List (ℕ × List LossEntry)) → history client.queues ≡ []
         → Accepted world → Accepted (record world {
           next = record world.next { client = world.next.client + 1 };
           clients = put world.clients world.next.client client;
@@ -142,16 +142,16 @@ module _ {T C : Type 0} (history : QueueHistories → List (BatchEntry T)) (is_l
         none e (inl h) = let same = same_number n world.next.client e in absurd (omega (arith, same, h))
         none e (inr h) = h
 
-        by_number : (b : Bool) → (n == world.next.client) ≡ b → (c : ClientState C)
+        by_number : (b : Bool) → (n == world.next.client) ≡ b → (c : ClientHistory C)
             → (if b then Some client else value_at world.clients n) ≡ Some c → accepted_by c ≡ items
         by_number true e c at =
             let same : client ≡ c = cc in
             ap accepted_by (sym same) ∙ (ap accepted_items new_ ∙ sym (none e a.given))
         by_number false e c at = a.so_far c at
 
-    arrived : (world : World P C) (key : ClientKey) (client : ClientState C) (arrival : Arrival)
+    arrived : (world : World P C) (key : ClientKey) (client : ClientHistory C) (arrival : Arrival)
         → client_at world key ≡ Some client → (IsItem is_log arrival → ⊥) → Accepted world
-        → Accepted (with_client_state world key (after_arrival arrival client))
+        → Accepted (with_client_history world key (after_arrival arrival client))
     arrived world key client arrival found other a = record {
       so_far = λ c at. by_number (n == key.number) refl c
           (sym (found_replaced world.clients key.number n (after_arrival arrival client) client here) ∙ at);
@@ -162,7 +162,7 @@ module _ {T C : Type 0} (history : QueueHistories → List (BatchEntry T)) (is_l
         here : value_at world.clients key.number ≡ Some client
         here = found_under world.tag world.clients key.tag key.number client found
 
-        by_number : (b : Bool) → (n == key.number) ≡ b → (c : ClientState C)
+        by_number : (b : Bool) → (n == key.number) ≡ b → (c : ClientHistory C)
             → (if b then Some (after_arrival arrival client) else value_at world.clients n) ≡ Some c
             → accepted_by c ≡ items
         by_number true e c at =
@@ -202,19 +202,19 @@ module _ {T C : Type 0} (history : QueueHistories → List (BatchEntry T)) (is_l
       clients = below_without 0 world.next.client key.number world.clients a.clients;
     }
       where
-        by_number : (b : Bool) (c : ClientState C) → (if b then None else value_at world.clients n) ≡ Some c
+        by_number : (b : Bool) (c : ClientHistory C) → (if b then None else value_at world.clients n) ≡ Some c
             → accepted_by c ≡ items
         by_number true c at = absurd cc
         by_number false c at = a.so_far c at
     accepted_change (arrives world key client arrival is_off found open_ came) h a =
         sending_accepted client.label (send key client (envelopes_on_arrival arrival client)
-        (with_client_state world key (after_arrival arrival client))).sent
-        (with_client_state world key (after_arrival arrival client))
+        (with_client_history world key (after_arrival arrival client))).sent
+        (with_client_history world key (after_arrival arrival client))
         (arrived world key client arrival found (not_item is_log world arrival came) a)
     accepted_change (accepts world key client arrival b is_off found open_ came) h a =
         sending_accepted client.label (send key client (envelopes_on_arrival arrival client)
-        (with_client_state world key (after_arrival arrival client))).sent
-        (with_client_state world key (after_arrival arrival client))
+        (with_client_history world key (after_arrival arrival client))).sent
+        (with_client_history world key (after_arrival arrival client))
         (arrived world key client arrival found (not_both is_log arrival
         (subst (λ l. IsItem l arrival) (other_kind b is_log (or_left (agree b is_log) _ h)) came)) a)
     accepted_change (accepts_none world b) h a = a
@@ -253,8 +253,8 @@ module _ {T C : Type 0} (history : QueueHistories → List (BatchEntry T)) (is_l
   -- what clients accept by the way from one world to the next
   abbrev Brings : {P : Type 0} → ℕ → World P C → World P C → List T → Type 0
   Brings n world next brought =
-      (after : ClientState C) → value_at next.clients n ≡ Some after
-      → ((before : ClientState C) → value_at world.clients n ≡ Some before
+      (after : ClientHistory C) → value_at next.clients n ≡ Some after
+      → ((before : ClientHistory C) → value_at world.clients n ≡ Some before
       → accepted_by after ≡ accepted_by before ++ brought)
       × (value_at world.clients n ≡ None → accepted_by after ≡ [])
 
@@ -263,9 +263,9 @@ module _ {T C : Type 0} (history : QueueHistories → List (BatchEntry T)) (is_l
       → list_any (is_mine is_log) (effects meanings call made) ≡ false → brought n world call ≡ [])
       (brings : (n : ℕ) (call : Call P C) (out : Out (Reply P C)) (world next : World P C)
       → list_any (is_mine is_log) (effects meanings call out.reply) ≡ true
-      → May gives meanings world call (Ok out) next → Brings n world next (brought n world call)) where
+      → StepsTo gives meanings world call (Ok out) next → Brings n world next (brought n world call)) where
     call_brings : (call : Call P C) (out : Out (Reply P C)) (world next : World P C)
-        → May gives meanings world call (Ok out) next → IsNumbered world → (n : ℕ)
+        → StepsTo gives meanings world call (Ok out) next → IsNumbered world → (n : ℕ)
         → Brings n world next (brought n world call)
     call_brings call out world next may numbered n =
         by_client (value_at world.clients n) refl
@@ -273,14 +273,14 @@ module _ {T C : Type 0} (history : QueueHistories → List (BatchEntry T)) (is_l
         told_mine : (items : List T) (b : Bool)
             → list_any (is_mine is_log) (effects meanings call out.reply) ≡ b
             → Accepted {P = P} meanings n items world
-            → (b ≡ false → (c : ClientState C) → value_at next.clients n ≡ Some c → accepted_by c ≡ items)
+            → (b ≡ false → (c : ClientHistory C) → value_at next.clients n ≡ Some c → accepted_by c ≡ items)
         told_mine items b e a none =
             let trail = trail_of gives meanings call out world next may in
             (accepted_changes {P = P} meanings n items trail.changes
             (sym (own_mine is_log trail.effects)
             ∙ (ap (list_any (is_mine is_log)) trail.same ∙ (e ∙ none))) a).so_far
 
-        by_client : (o : Option (ClientState C)) → value_at world.clients n ≡ o
+        by_client : (o : Option (ClientHistory C)) → value_at world.clients n ≡ o
             → Brings n world next (brought n world call)
         by_client (Some c) at =
             by_mine (list_any (is_mine is_log) (effects meanings call out.reply)) refl
@@ -292,7 +292,7 @@ module _ {T C : Type 0} (history : QueueHistories → List (BatchEntry T)) (is_l
               clients = numbered.clients;
             }
               where
-                same_accepted : (c d : ClientState C) → Some c ≡ Some d → accepted_by d ≡ accepted_by c
+                same_accepted : (c d : ClientHistory C) → Some c ≡ Some d → accepted_by d ≡ accepted_by c
                 same_accepted c d e = let same : c ≡ d = cc in ap accepted_by (sym same)
 
             by_mine : (b : Bool) → list_any (is_mine is_log) (effects meanings call out.reply) ≡ b
@@ -350,9 +350,9 @@ module _ {P C Y : Type 0} (make : Y → Reply P C) (out : Out (Reply P C)) (R : 
   lands_some refusal world None h = record { lands = λ e. absurd cc }
   lands_some refusal world (Some x) h = h x refl
 
-  lands_client : (refusal : Refusal) (world : World P C) (o : Option (ClientState C)) (go : Client C → Outcome P C Y)
-      → ((client : ClientState C) → o ≡ Some client → Lands (go (plain_client client)))
-      → Lands (require_some refusal world (option_map plain_client o) go)
+  lands_client : (refusal : Refusal) (world : World P C) (o : Option (ClientHistory C)) (go : Client C → Outcome P C Y)
+      → ((client : ClientHistory C) → o ≡ Some client → Lands (go (stored_client client)))
+      → Lands (require_some refusal world (option_map stored_client o) go)
   lands_client refusal world None go h = record { lands = λ e. absurd cc }
   lands_client refusal world (Some client) go h = h client refl
 
@@ -366,10 +366,10 @@ module _ {P C Y : Type 0} (make : Y → Reply P C) (out : Out (Reply P C)) (R : 
   lands_let None k h = k refl
   lands_let (Some x) k h = h x refl
 
-  lands_let_client : (o : Option (ClientState C)) (otherwise : Outcome P C Y) (go : Client C → Outcome P C Y)
+  lands_let_client : (o : Option (ClientHistory C)) (otherwise : Outcome P C Y) (go : Client C → Outcome P C Y)
       → (o ≡ None → Lands otherwise)
-      → ((client : ClientState C) → o ≡ Some client → Lands (go (plain_client client)))
-      → Lands (let_some (option_map plain_client o) otherwise go)
+      → ((client : ClientHistory C) → o ≡ Some client → Lands (go (stored_client client)))
+      → Lands (let_some (option_map stored_client o) otherwise go)
   lands_let_client None otherwise go k h = k refl
   lands_let_client (Some client) otherwise go k h = h client refl
 
@@ -385,25 +385,25 @@ if_same false x = refl
 -- ---- an item that was kept
 
 module _ {T C : Type 0} (history : QueueHistories → List (BatchEntry T)) (arrival_of : T → Arrival)
-    (mine : (x : T) (client : ClientState C)
+    (mine : (x : T) (client : ClientHistory C)
     → accepted_items (history (after_arrival (arrival_of x) client).queues)
     ≡ accepted_items (history client.queues) ++ x ∷ []) where
-  abbrev accepted_of : ClientState C → List T
+  abbrev accepted_of : ClientHistory C → List T
   accepted_of client = accepted_items (history client.queues)
 
   -- the clients where an item was kept, or not
-  abbrev kept_client : ℕ → ClientKey → ClientState C → Option T → Option (ClientState C) → Option (ClientState C)
+  abbrev kept_client : ℕ → ClientKey → ClientHistory C → Option T → Option (ClientHistory C) → Option (ClientHistory C)
   kept_client n key client None old = old
   kept_client n key client (Some x) old =
       if client.closed then old else (if n == key.number then Some (after_arrival (arrival_of x) client) else old)
 
-  abbrev BringsAt : ℕ → Option (ClientState C) → Option (ClientState C) → List T → Type 0
+  abbrev BringsAt : ℕ → Option (ClientHistory C) → Option (ClientHistory C) → List T → Type 0
   BringsAt n old new brought =
-      (after : ClientState C) → new ≡ Some after
-      → ((before : ClientState C) → old ≡ Some before → accepted_of after ≡ accepted_of before ++ brought)
+      (after : ClientHistory C) → new ≡ Some after
+      → ((before : ClientHistory C) → old ≡ Some before → accepted_of after ≡ accepted_of before ++ brought)
       × (old ≡ None → accepted_of after ≡ [])
 
-  unchanged : (n : ℕ) (old : Option (ClientState C)) (brought : List T) → brought ≡ [] → BringsAt n old old brought
+  unchanged : (n : ℕ) (old : Option (ClientHistory C)) (brought : List T) → brought ≡ [] → BringsAt n old old brought
   unchanged n old brought none = λ after found. (
     λ before held.
         let both_ : Some after ≡ Some before = sym found ∙ held in
@@ -421,7 +421,7 @@ module _ {T C : Type 0} (history : QueueHistories → List (BatchEntry T)) (arri
   and_closed true = refl
   and_closed false = refl
 
-  kept_brings : (n : ℕ) (key : ClientKey) (client : ClientState C) (o : Option T) (old : Option (ClientState C))
+  kept_brings : (n : ℕ) (key : ClientKey) (client : ClientHistory C) (o : Option T) (old : Option (ClientHistory C))
       → ((n == key.number) ≡ true → old ≡ Some client)
       → BringsAt n old (kept_client n key client o old)
       (if (n == key.number) && not client.closed then option_to_list o else [])
@@ -446,7 +446,7 @@ module _ {T C : Type 0} (history : QueueHistories → List (BatchEntry T)) (arri
 -- ---- logs
 
 module _ {P C : Type 0} where
-  kept_log : (key : ClientKey) (label : Label) (o : Option Log) (world : World P C) (client : ClientState C)
+  kept_log : (key : ClientKey) (label : Label) (o : Option Log) (world : World P C) (client : ClientHistory C)
       → client_at world key ≡ Some client → (n : ℕ)
       → value_at (keep_log key label o world).after.clients n
       ≡ kept_client {C = C} (λ q. q.logs) log_came (λ x client. refl) n key client o (value_at world.clients n)
@@ -456,34 +456,34 @@ module _ {P C : Type 0} where
     where
       by_closed : (b : Bool)
           → value_at (if b then send_nothing world else send key client (batch_envelopes (batch_on client.options.plain.max_batch_items (accept item) client.queues.logs) None)
-          (with_client_state world key (with_log_entry (accept item) client))).after.clients n
+          (with_client_history world key (with_log_entry (accept item) client))).after.clients n
           ≡ (if b then value_at world.clients n
           else (if n == key.number then Some (after_arrival (log_came item) client) else value_at world.clients n))
       by_closed true = refl
       by_closed false =
-          ap (λ (t : List (ℕ × ClientState C)). value_at t n)
+          ap (λ (t : List (ℕ × ClientHistory C)). value_at t n)
           (sending_clients client.label (send key client (batch_envelopes (batch_on client.options.plain.max_batch_items (accept item) client.queues.logs) None)
-          (with_client_state world key (with_log_entry (accept item) client))).sent
-          (with_client_state world key (with_log_entry (accept item) client)))
+          (with_client_history world key (with_log_entry (accept item) client))).sent
+          (with_client_history world key (with_log_entry (accept item) client)))
           ∙ found_replaced world.clients key.number n (after_arrival (log_came item) client) client
           (found_under world.tag world.clients key.tag key.number client found)
 
-      by_found : (o : Option (ClientState C)) → o ≡ Some client
+      by_found : (o : Option (ClientHistory C)) → o ≡ Some client
           → value_at (send_some world o (λ c. if c.closed then send_nothing world else send key c (batch_envelopes (batch_on c.options.plain.max_batch_items (accept item) c.queues.logs) None)
-          (with_client_state world key (with_log_entry (accept item) c)))).after.clients n
+          (with_client_history world key (with_log_entry (accept item) c)))).after.clients n
           ≡ (if client.closed then value_at world.clients n
           else (if n == key.number then Some (after_arrival (log_came item) client) else value_at world.clients n))
       by_found None e = absurd cc
       by_found (Some c) e =
           let same : client ≡ c = cc in
-          subst (λ (c : ClientState C). value_at (if c.closed then send_nothing world else send key c (batch_envelopes (batch_on c.options.plain.max_batch_items (accept item) c.queues.logs) None)
-          (with_client_state world key (with_log_entry (accept item) c))).after.clients n
+          subst (λ (c : ClientHistory C). value_at (if c.closed then send_nothing world else send key c (batch_envelopes (batch_on c.options.plain.max_batch_items (accept item) c.queues.logs) None)
+          (with_client_history world key (with_log_entry (accept item) c))).after.clients n
           ≡ (if client.closed then value_at world.clients n
           else (if n == key.number then Some (after_arrival (log_came item) client) else value_at world.clients n))) same
           (by_closed client.closed)
 
-  log_comes : (n : ℕ) (key : ClientKey) (world : World P C) (client : ClientState C)
-      (item : ClientState C → Option Log) → client_at world key ≡ Some client
+  log_comes : (n : ℕ) (key : ClientKey) (world : World P C) (client : ClientHistory C)
+      (item : ClientHistory C → Option Log) → client_at world key ≡ Some client
       → BringsAt {C = C} (λ q. q.logs) log_came (λ x client. refl) n (value_at world.clients n)
       (value_at (keep_log key client.label (item client) world).after.clients n)
       (comes_to n key (client_at world key) item)
@@ -523,7 +523,7 @@ module _ {P C : Type 0} (gives : P → Partial) (meanings : C → Meanings) wher
   client_log_lands n key log scope out world =
       lands_client (λ _. reply.Done) out _ Stale world (client_at world key) _ (λ client found.
       lands_require (λ _. reply.Done) out _ Stale world (is_held (span_table world) scope.span)
-      (record { lands = λ e. log_comes n key world client (λ client. client_log meanings (span_table world) (plain_client client) scope log) found }))
+      (record { lands = λ e. log_comes n key world client (λ client. client_log meanings (span_table world) (stored_client client) scope log) found }))
 
   hub_log_lands : (n : ℕ) (key : HubKey) (log : Log) (out : Out (Reply P C)) (world : World P C)
       → Lands {Y = Unit {0}} (λ _. reply.Done) out
@@ -536,28 +536,28 @@ module _ {P C : Type 0} (gives : P → Partial) (meanings : C → Meanings) wher
       lands_let (λ _. reply.Done) out _ hub.stack.top.client
       (λ none. record {
         lands = λ e. unchanged (λ q. q.logs) log_came (λ x client. refl) n (value_at world.clients n) _
-            (ap (λ o. comes_on n world o (λ scope client. client_log meanings (span_table world) (plain_client client) scope log)) found
-            ∙ ap (λ o. comes_under n world o (λ client. client_log meanings (span_table world) (plain_client client) hub.stack.top.scope log)) none);
+            (ap (λ o. comes_on n world o (λ scope client. client_log meanings (span_table world) (stored_client client) scope log)) found
+            ∙ ap (λ o. comes_under n world o (λ client. client_log meanings (span_table world) (stored_client client) hub.stack.top.scope log)) none);
       })
       (λ client_key named_.
       lands_let_client (λ _. reply.Done) out _ (client_at world client_key) _ _
       (λ none. record {
         lands = λ e. unchanged (λ q. q.logs) log_came (λ x client. refl) n (value_at world.clients n) _
-            (ap (λ o. comes_on n world o (λ scope client. client_log meanings (span_table world) (plain_client client) scope log)) found
-            ∙ (ap (λ o. comes_under n world o (λ client. client_log meanings (span_table world) (plain_client client) hub.stack.top.scope log)) named_
-            ∙ ap (λ o. comes_to n client_key o (λ client. client_log meanings (span_table world) (plain_client client) hub.stack.top.scope log)) none));
+            (ap (λ o. comes_on n world o (λ scope client. client_log meanings (span_table world) (stored_client client) scope log)) found
+            ∙ (ap (λ o. comes_under n world o (λ client. client_log meanings (span_table world) (stored_client client) hub.stack.top.scope log)) named_
+            ∙ ap (λ o. comes_to n client_key o (λ client. client_log meanings (span_table world) (stored_client client) hub.stack.top.scope log)) none));
       })
       (λ client held. record {
         lands = λ e.
             subst (λ l. BringsAt {C = C} (λ q. q.logs) log_came (λ x client. refl) n (value_at world.clients n)
-            (value_at (keep_log client_key client.label (client_log meanings (span_table world) (plain_client client) hub.stack.top.scope log) world).after.clients n) l)
-            (sym (ap (λ o. comes_on n world o (λ scope client. client_log meanings (span_table world) (plain_client client) scope log)) found
-            ∙ ap (λ o. comes_under n world o (λ client. client_log meanings (span_table world) (plain_client client) hub.stack.top.scope log)) named_))
-            (log_comes n client_key world client (λ client. client_log meanings (span_table world) (plain_client client) hub.stack.top.scope log) held);
+            (value_at (keep_log client_key client.label (client_log meanings (span_table world) (stored_client client) hub.stack.top.scope log) world).after.clients n) l)
+            (sym (ap (λ o. comes_on n world o (λ scope client. client_log meanings (span_table world) (stored_client client) scope log)) found
+            ∙ ap (λ o. comes_under n world o (λ client. client_log meanings (span_table world) (stored_client client) hub.stack.top.scope log)) named_))
+            (log_comes n client_key world client (λ client. client_log meanings (span_table world) (stored_client client) hub.stack.top.scope log) held);
       })))
 
   log_brings : (n : ℕ) (call : Call P C) (out : Out (Reply P C)) (world next : World P C)
-      → list_any (is_mine true) (effects meanings call out.reply) ≡ true → May gives meanings world call (Ok out) next
+      → list_any (is_mine true) (effects meanings call out.reply) ≡ true → StepsTo gives meanings world call (Ok out) next
       → BringsAt {C = C} (λ q. q.logs) log_came (λ x client. refl) n (value_at world.clients n)
       (value_at next.clients n) (logs_by meanings n world call)
   unfolding client_step hub_step
@@ -599,7 +599,7 @@ module _ {P C : Type 0} (gives : P → Partial) (meanings : C → Meanings) wher
       by_hub call made h answered is = absurd cc
   log_brings n (group.Span call) out world next h may = absurd cc
 
-  logs_keep : (arrival : Arrival) (client : ClientState C) → (IsItem true arrival → ⊥)
+  logs_keep : (arrival : Arrival) (client : ClientHistory C) → (IsItem true arrival → ⊥)
       → accepted_items (after_arrival arrival client).queues.logs ≡ accepted_items client.queues.logs
   logs_keep (log_came item) client other = absurd (other tt)
   logs_keep (metric_came item) client other = refl
@@ -622,7 +622,7 @@ module _ {P C : Type 0} (gives : P → Partial) (meanings : C → Meanings) wher
 -- ---- metrics
 
 module _ {P C : Type 0} where
-  kept_metric : (key : ClientKey) (label : Label) (o : Option Metric) (world : World P C) (client : ClientState C)
+  kept_metric : (key : ClientKey) (label : Label) (o : Option Metric) (world : World P C) (client : ClientHistory C)
       → client_at world key ≡ Some client → (n : ℕ)
       → value_at (keep_metric key label o world).after.clients n
       ≡ kept_client {C = C} (λ q. q.metrics) metric_came (λ x client. refl) n key client o (value_at world.clients n)
@@ -632,34 +632,34 @@ module _ {P C : Type 0} where
     where
       by_closed : (b : Bool)
           → value_at (if b then send_nothing world else send key client (batch_envelopes None (batch_on client.options.plain.max_batch_items (accept item) client.queues.metrics))
-          (with_client_state world key (with_metric_entry (accept item) client))).after.clients n
+          (with_client_history world key (with_metric_entry (accept item) client))).after.clients n
           ≡ (if b then value_at world.clients n
           else (if n == key.number then Some (after_arrival (metric_came item) client) else value_at world.clients n))
       by_closed true = refl
       by_closed false =
-          ap (λ (t : List (ℕ × ClientState C)). value_at t n)
+          ap (λ (t : List (ℕ × ClientHistory C)). value_at t n)
           (sending_clients client.label (send key client (batch_envelopes None (batch_on client.options.plain.max_batch_items (accept item) client.queues.metrics))
-          (with_client_state world key (with_metric_entry (accept item) client))).sent
-          (with_client_state world key (with_metric_entry (accept item) client)))
+          (with_client_history world key (with_metric_entry (accept item) client))).sent
+          (with_client_history world key (with_metric_entry (accept item) client)))
           ∙ found_replaced world.clients key.number n (after_arrival (metric_came item) client) client
           (found_under world.tag world.clients key.tag key.number client found)
 
-      by_found : (o : Option (ClientState C)) → o ≡ Some client
+      by_found : (o : Option (ClientHistory C)) → o ≡ Some client
           → value_at (send_some world o (λ c. if c.closed then send_nothing world else send key c (batch_envelopes None (batch_on c.options.plain.max_batch_items (accept item) c.queues.metrics))
-          (with_client_state world key (with_metric_entry (accept item) c)))).after.clients n
+          (with_client_history world key (with_metric_entry (accept item) c)))).after.clients n
           ≡ (if client.closed then value_at world.clients n
           else (if n == key.number then Some (after_arrival (metric_came item) client) else value_at world.clients n))
       by_found None e = absurd cc
       by_found (Some c) e =
           let same : client ≡ c = cc in
-          subst (λ (c : ClientState C). value_at (if c.closed then send_nothing world else send key c (batch_envelopes None (batch_on c.options.plain.max_batch_items (accept item) c.queues.metrics))
-          (with_client_state world key (with_metric_entry (accept item) c))).after.clients n
+          subst (λ (c : ClientHistory C). value_at (if c.closed then send_nothing world else send key c (batch_envelopes None (batch_on c.options.plain.max_batch_items (accept item) c.queues.metrics))
+          (with_client_history world key (with_metric_entry (accept item) c))).after.clients n
           ≡ (if client.closed then value_at world.clients n
           else (if n == key.number then Some (after_arrival (metric_came item) client) else value_at world.clients n))) same
           (by_closed client.closed)
 
-  metric_comes : (n : ℕ) (key : ClientKey) (world : World P C) (client : ClientState C)
-      (item : ClientState C → Option Metric) → client_at world key ≡ Some client
+  metric_comes : (n : ℕ) (key : ClientKey) (world : World P C) (client : ClientHistory C)
+      (item : ClientHistory C → Option Metric) → client_at world key ≡ Some client
       → BringsAt {C = C} (λ q. q.metrics) metric_came (λ x client. refl) n (value_at world.clients n)
       (value_at (keep_metric key client.label (item client) world).after.clients n)
       (comes_to n key (client_at world key) item)
@@ -699,7 +699,7 @@ module _ {P C : Type 0} (gives : P → Partial) (meanings : C → Meanings) wher
   client_metric_lands n key draft scope now out world =
       lands_client (λ _. reply.Done) out _ Stale world (client_at world key) _ (λ client found.
       lands_require (λ _. reply.Done) out _ Stale world (is_held (span_table world) scope.span)
-      (record { lands = λ e. metric_comes n key world client (λ client. client_metric meanings (span_table world) (plain_client client) scope now draft) found }))
+      (record { lands = λ e. metric_comes n key world client (λ client. client_metric meanings (span_table world) (stored_client client) scope now draft) found }))
 
   hub_metric_lands : (n : ℕ) (key : HubKey) (draft : MetricDraft) (now : ℕ) (out : Out (Reply P C)) (world : World P C)
       → Lands {Y = Unit {0}} (λ _. reply.Done) out
@@ -712,28 +712,28 @@ module _ {P C : Type 0} (gives : P → Partial) (meanings : C → Meanings) wher
       lands_let (λ _. reply.Done) out _ hub.stack.top.client
       (λ none. record {
         lands = λ e. unchanged (λ q. q.metrics) metric_came (λ x client. refl) n (value_at world.clients n) _
-            (ap (λ o. comes_on n world o (λ scope client. client_metric meanings (span_table world) (plain_client client) scope now draft)) found
-            ∙ ap (λ o. comes_under n world o (λ client. client_metric meanings (span_table world) (plain_client client) hub.stack.top.scope now draft)) none);
+            (ap (λ o. comes_on n world o (λ scope client. client_metric meanings (span_table world) (stored_client client) scope now draft)) found
+            ∙ ap (λ o. comes_under n world o (λ client. client_metric meanings (span_table world) (stored_client client) hub.stack.top.scope now draft)) none);
       })
       (λ client_key named_.
       lands_let_client (λ _. reply.Done) out _ (client_at world client_key) _ _
       (λ none. record {
         lands = λ e. unchanged (λ q. q.metrics) metric_came (λ x client. refl) n (value_at world.clients n) _
-            (ap (λ o. comes_on n world o (λ scope client. client_metric meanings (span_table world) (plain_client client) scope now draft)) found
-            ∙ (ap (λ o. comes_under n world o (λ client. client_metric meanings (span_table world) (plain_client client) hub.stack.top.scope now draft)) named_
-            ∙ ap (λ o. comes_to n client_key o (λ client. client_metric meanings (span_table world) (plain_client client) hub.stack.top.scope now draft)) none));
+            (ap (λ o. comes_on n world o (λ scope client. client_metric meanings (span_table world) (stored_client client) scope now draft)) found
+            ∙ (ap (λ o. comes_under n world o (λ client. client_metric meanings (span_table world) (stored_client client) hub.stack.top.scope now draft)) named_
+            ∙ ap (λ o. comes_to n client_key o (λ client. client_metric meanings (span_table world) (stored_client client) hub.stack.top.scope now draft)) none));
       })
       (λ client held. record {
         lands = λ e.
             subst (λ l. BringsAt {C = C} (λ q. q.metrics) metric_came (λ x client. refl) n (value_at world.clients n)
-            (value_at (keep_metric client_key client.label (client_metric meanings (span_table world) (plain_client client) hub.stack.top.scope now draft) world).after.clients n) l)
-            (sym (ap (λ o. comes_on n world o (λ scope client. client_metric meanings (span_table world) (plain_client client) scope now draft)) found
-            ∙ ap (λ o. comes_under n world o (λ client. client_metric meanings (span_table world) (plain_client client) hub.stack.top.scope now draft)) named_))
-            (metric_comes n client_key world client (λ client. client_metric meanings (span_table world) (plain_client client) hub.stack.top.scope now draft) held);
+            (value_at (keep_metric client_key client.label (client_metric meanings (span_table world) (stored_client client) hub.stack.top.scope now draft) world).after.clients n) l)
+            (sym (ap (λ o. comes_on n world o (λ scope client. client_metric meanings (span_table world) (stored_client client) scope now draft)) found
+            ∙ ap (λ o. comes_under n world o (λ client. client_metric meanings (span_table world) (stored_client client) hub.stack.top.scope now draft)) named_))
+            (metric_comes n client_key world client (λ client. client_metric meanings (span_table world) (stored_client client) hub.stack.top.scope now draft) held);
       })))
 
   metric_brings : (n : ℕ) (call : Call P C) (out : Out (Reply P C)) (world next : World P C)
-      → list_any (is_mine false) (effects meanings call out.reply) ≡ true → May gives meanings world call (Ok out) next
+      → list_any (is_mine false) (effects meanings call out.reply) ≡ true → StepsTo gives meanings world call (Ok out) next
       → BringsAt {C = C} (λ q. q.metrics) metric_came (λ x client. refl) n (value_at world.clients n)
       (value_at next.clients n) (metrics_by meanings n world call)
   unfolding client_step hub_step
@@ -775,7 +775,7 @@ module _ {P C : Type 0} (gives : P → Partial) (meanings : C → Meanings) wher
       by_hub call made h answered is = absurd cc
   metric_brings n (group.Span call) out world next h may = absurd cc
 
-  metrics_keep : (arrival : Arrival) (client : ClientState C) → (IsItem false arrival → ⊥)
+  metrics_keep : (arrival : Arrival) (client : ClientHistory C) → (IsItem false arrival → ⊥)
       → accepted_items (after_arrival arrival client).queues.metrics ≡ accepted_items client.queues.metrics
   metrics_keep (metric_came item) client other = absurd (other tt)
   metrics_keep (log_came item) client other = refl

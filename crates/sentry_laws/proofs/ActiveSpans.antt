@@ -26,12 +26,12 @@ use Rattle.sentry_scope.specs.declared.scope.stack.Stack.{Stack}
 use Rattle.sentry_scope.specs.declared.scope.stack.StackLayer.{StackLayer}
 use Rattle.sentry_sending.specs.Sending.{send, after_sending}
 use Rattle.sentry_hub_table.specs.Hubs.{is_span, is_transaction}
-use Rattle.sentry_span_table.specs.SpanLists.{TransactionState, plain_transaction, with_finished}
+use Rattle.sentry_span_table.specs.SpanLists.{TransactionHistory, stored_transaction, with_span_finished}
 use Rattle.sentry_span_table.specs.SpanTables.{is_held}
 use Rattle.sentry_span_table.specs.declared.table.records.SpanRecord.{SpanRecord}
 use Rattle.sentry_span_table.specs.declared.table.records.SpanTable.{SpanTable}
 use Rattle.sentry_state.specs.declared.state.Out.{Out}
-use Rattle.sentry_state.specs.Changes.{with_client_state}
+use Rattle.sentry_state.specs.Changes.{with_client_history}
 use Rattle.sentry_state.specs.Outcomes.{value_under}
 use Rattle.sentry_state.specs.SpanChanges.{with_new_span, with_new_transaction}
 use Rattle.sentry_state.specs.Worlds.{World, map_values, span_table, starting_world}
@@ -111,11 +111,11 @@ module _ {P C : Type 0} (meanings : C → Meanings) where
 
 -- ---- what is held
 
-some_mapped : (m : List (ℕ × TransactionState)) (n : ℕ) → is_some (value_at (map_values plain_transaction m) n)
+some_mapped : (m : List (ℕ × TransactionHistory)) (n : ℕ) → is_some (value_at (map_values stored_transaction m) n)
     ≡ is_some (value_at m n)
-some_mapped m n = ap is_some (value_mapped plain_transaction m n) ∙ by_some (value_at m n)
+some_mapped m n = ap is_some (value_mapped stored_transaction m n) ∙ by_some (value_at m n)
   where
-    by_some : (o : Option TransactionState) → is_some (option_map plain_transaction o) ≡ is_some o
+    by_some : (o : Option TransactionHistory) → is_some (option_map stored_transaction o) ≡ is_some o
     by_some None = refl
     by_some (Some state) = refl
 
@@ -137,14 +137,14 @@ module _ {P C : Type 0} where
   held_transaction : (world : World P C) (key : TransactionKey) → is_held (span_table world)
       (Some (key_of.Transaction key)) ≡ ((key.tag == world.tag) && is_some (value_at world.transactions key.number))
   held_transaction world key =
-      some_if (key.tag == world.tag) (value_at (map_values plain_transaction world.transactions) key.number)
+      some_if (key.tag == world.tag) (value_at (map_values stored_transaction world.transactions) key.number)
       ∙ ap (λ b. (key.tag == world.tag) && b) (some_mapped world.transactions key.number)
 
   held_span : (world : World P C) (key : SpanKey) → is_held (span_table world) (Some (key_of.Span key)) ≡
       ((key.tag == world.tag) && is_some (value_at world.spans key.number))
   held_span world key = some_if (key.tag == world.tag) (value_at world.spans key.number)
 
-  keeps_more : (old : World P C) (transactions : List (ℕ × TransactionState)) (spans : List (ℕ × SpanRecord)) (next : ℕ)
+  keeps_more : (old : World P C) (transactions : List (ℕ × TransactionHistory)) (spans : List (ℕ × SpanRecord)) (next : ℕ)
       → ((n : ℕ) → is_some (value_at old.transactions n) ≡ true → is_some (value_at transactions n) ≡ true)
       → ((n : ℕ) → is_some (value_at old.spans n) ≡ true → is_some (value_at spans n) ≡ true)
       → KeepsHeld old (record old { transactions = transactions; spans = spans })
@@ -268,7 +268,7 @@ module _ {P C : Type 0} where
         world.hubs k hub found unnamed) (h.held k hub found);
   }
 
-  spans_kept : (world : World P C) (transactions : List (ℕ × TransactionState)) (spans : List (ℕ × SpanRecord))
+  spans_kept : (world : World P C) (transactions : List (ℕ × TransactionHistory)) (spans : List (ℕ × SpanRecord))
       → SpanChange world transactions spans
       → IsNumbered (record world { transactions = transactions; spans = spans }) → HoldsActive world
       → HoldsActive (record world { transactions = transactions; spans = spans })
@@ -281,7 +281,7 @@ module _ {P C : Type 0} where
       (λ k. some_replaced world.spans number k new old found)) n h
   spans_kept world transactions spans (keeps_span number held state found at) n h =
       spans_changed world _ refl (keeps_more world transactions spans 0
-      (λ k. some_replaced world.transactions held.transaction.number k (with_finished held.span state) state
+      (λ k. some_replaced world.transactions held.transaction.number k (with_span_finished held.span state) state
       (found_under world.tag world.transactions held.transaction.tag held.transaction.number state at))
       (λ k held. held)) n h
   spans_kept world transactions spans (drops_transaction key state at unnamed spanless) n h =
@@ -351,13 +351,13 @@ module _ {P C : Type 0} (meanings : C → Meanings) where
   held_by (drops_client world key client label found same none) n h = record { numbers = n; held = h.held }
   held_by (arrives world key client arrival is_off found open_ came) n h =
       held_sending client.label (send key client (envelopes_on_arrival arrival client)
-      (with_client_state world key (after_arrival arrival client))).sent
-      (with_client_state world key (after_arrival arrival client)) n
+      (with_client_history world key (after_arrival arrival client))).sent
+      (with_client_history world key (after_arrival arrival client)) n
       (record { numbers = client_numbered world key (after_arrival arrival client) h.numbers; held = h.held })
   held_by (accepts world key client arrival is_log is_off found open_ came) n h =
       held_sending client.label (send key client (envelopes_on_arrival arrival client)
-      (with_client_state world key (after_arrival arrival client))).sent
-      (with_client_state world key (after_arrival arrival client)) n
+      (with_client_history world key (after_arrival arrival client))).sent
+      (with_client_history world key (after_arrival arrival client)) n
       (record { numbers = client_numbered world key (after_arrival arrival client) h.numbers; held = h.held })
   held_by (mails world key client envelope found occupied plain told_) n h = record { numbers = n; held = h.held }
   held_by (loses world key client losses found) n h = record { numbers = n; held = h.held }

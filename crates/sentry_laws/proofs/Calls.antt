@@ -1,7 +1,7 @@
 -- Each call is a sequence of changes.
 use Rattle.std.proofs.Common.{◌≡◌, refl, ap, ◌∙◌, sym, ℕ, ◌-◌, ◌^◌, List, [], ◌∷◌, Bool, true, false, inl, length, arith}
 use Rattle.std.proofs.lemmas.Bool.Decides.{nat_tests}
-use Rattle.std.specs.Prelude.{Option, Some, None, if◌then◌else◌, nat_lt, ◌==◌, ◌&&◌, not, unwrap_or}
+use Rattle.std.specs.Prelude.{Option, Some, None, if◌then◌else◌, nat_lt, ◌==◌, ◌&&◌, not}
 use Rattle.std.specs.List.{list_any}
 use Rattle.std.specs.Option.{option_map, option_and_then}
 use Rattle.sentry_plain.specs.Texts.{Bytes}
@@ -21,10 +21,8 @@ use Rattle.sentry_base.specs.declared.protocol.log.Log.{Log}
 use Rattle.sentry_base.specs.declared.protocol.metric.MetricDraft.{MetricDraft}
 use Rattle.sentry_base.specs.declared.protocol.refusal.Refusal.TheVariants.{Stale, StillNamed, ForeignLosses, Full, OutOfOrder, ScopesOpen}
 use Rattle.sentry_base.specs.declared.protocol.session.SessionStatus.{SessionStatus}
-use Rattle.sentry_base.specs.declared.protocol.user.User.{User}
 use Rattle.sentry_options.specs.Meanings.{Meanings, call_on_each}
 use Rattle.sentry_options.specs.declared.clientoptions.ClientOptions.{ClientOptions}
-use Rattle.sentry_options.specs.declared.clientoptions.plain.PlainOptions.{PlainOptions}
 use Rattle.sentry_scope.specs.declared.scope.Scope as declared_scope
 use Rattle.sentry_scope.specs.declared.scope.edit.ScopeEdit.{ScopeEdit}
 use Rattle.sentry_scope.specs.declared.scope.stack.Stack.{Stack}
@@ -32,12 +30,11 @@ use Rattle.sentry_scope.specs.declared.scope.stack.StackLayer.{StackLayer}
 use Rattle.sentry_scope.specs.EditLists.{all_name_held_spans, renames_after}
 use Rattle.sentry_scope.specs.Scopes.{edit_all}
 use Rattle.sentry_scope.specs.Stacks.{depth, push, pop, stack_of_any}
-use Rattle.sentry_sessions.specs.Sessions.{start_of, distinct_id_of}
-use Rattle.sentry_sessions.specs.declared.session.record.SessionStart.{SessionStart}
+use Rattle.sentry_sessions.specs.Sessions.{session_attributes, start_of}
 use Rattle.sentry_pipeline.specs.Pipeline.{loss_reason}
 use Rattle.sentry_pipeline.specs.Pipeline as pipeline
 use Rattle.sentry_hub_table.specs.declared.hub.Hub.{Hub}
-use Rattle.sentry_state.specs.Worlds.{World, ClientState, plain_client, span_table}
+use Rattle.sentry_state.specs.Worlds.{World, ClientHistory, stored_client, span_table}
 use Rattle.sentry_state.specs.Outcomes.{client_at, hub_at, is_held_or_none, reply_with, with_stack, with_scope, with_client}
 use Rattle.sentry_span_table.specs.SpanTables.{has_transaction_of, is_held}
 use Rattle.sentry_calls.specs.Clients.{holds_active_span}
@@ -45,10 +42,10 @@ use Rattle.sentry_state.specs.Clients.{new_client, is_client_named, has_session_
 use Rattle.sentry_state.specs.Changes.{with_session, with_breadcrumbs, is_session_number_left, next_hub_key}
 use Rattle.sentry_state.specs.Books.{has_book}
 use Rattle.sentry_sending.specs.SessionEnds.{release_session}
-use Rattle.sentry_captures.specs.Captures.{capture, captured_id, capture_event, message_event, capture_named_session, attachments_of}
-use Rattle.sentry_queues.specs.declared.flushes.Flush.TheVariants.{All, Due, Closing}
-use Rattle.sentry_queues.specs.Flushes.{flush_queues}
-use Rattle.sentry_queues.specs.Telemetry.{client_log, client_metric}
+use Rattle.sentry_events.specs.Captures.{capture, captured_id, capture_event, message_event, capture_named_session, attachments_of}
+use Rattle.sentry_telemetry.specs.declared.flushes.Flush.TheVariants.{All, Due, Closing}
+use Rattle.sentry_telemetry.specs.Flushes.{flush_queues}
+use Rattle.sentry_telemetry.specs.Telemetry.{client_log, client_metric}
 use Rattle.sentry_state.specs.Breadcrumbs.{add_breadcrumbs}
 use Rattle.sentry_calls.specs.declared.call.Call.{Call}
 use Rattle.sentry_calls.specs.declared.call.Call.TheVariants as group
@@ -108,18 +105,6 @@ none_below deep e = grind (arith, nat_tests)
 same_depth : (deep given : ℕ) → (deep == given && nat_lt 0 given) ≡ true → deep ≡ given
 same_depth deep given top = let same : (deep == given) ≡ true = and_left (deep == given) (nat_lt 0 given) top in grind
     (arith, nat_tests)
-
-started_id : (client : ClientKey) (options : PlainOptions) (user : Option User) (id : List ℕ) (now : ℕ)
-    (start : SessionStart) (release : Option Bytes) → option_map (λ release. record {
-      client = client;
-      session_id = id;
-      distinct_id = distinct_id_of user;
-      started = now;
-      attributes = record { release = release; environment = options.environment };
-    }) release ≡ Some start → start.session_id ≡ id
-started_id client options user id now start None e = absurd cc
-started_id client options user id now start (Some release) e =
-    ap (λ (o : Option SessionStart). unwrap_or (option_map (λ (s : SessionStart). s.session_id) o) id) (sym e)
 
 module _ {P C : Type 0} (meanings : C → Meanings) where
   found_hub : (key : HubKey) (world : World P C) (hub : Hub P) → hub_at world key ≡ Some hub
@@ -219,7 +204,7 @@ module _ {P C : Type 0} (meanings : C → Meanings) where
         told_require meanings None Stale (holds_active_span world scope) (λ active.
         told_trail meanings None _ (loses_if_any meanings None world key client found
         (loss_reason (pipeline.prepare_event gives meanings (span_table world)
-        client.options scope fresh event).preparation)) refl refl))
+        client.options client.sdk scope fresh event).preparation)) refl refl))
 
     told_client_capture : (key : ClientKey) (event : Event) (scope : Option (declared_scope.Scope P)) (fresh : Fresh)
         (world : World P C) → Told meanings None world quiet
@@ -229,7 +214,7 @@ module _ {P C : Type 0} (meanings : C → Meanings) where
         told_client meanings None Stale (client_at world key) _ (λ client found.
         told_require meanings None Stale (holds_active_span world scope) (λ active.
         told_trail meanings None _ (captures meanings None refl world key client found None (attachments_of scope) _ _
-        (fate_of gives meanings (span_table world) (plain_client client) scope fresh event) (λ told_ e. absurd cc))
+        (fate_of gives meanings (span_table world) (stored_client client) scope fresh event) (λ told_ e. absurd cc))
         refl refl))
 
     told_capture : (key : HubKey) (event : Event) (fresh : Fresh) (world : World P C) → Told meanings None world quiet
@@ -240,13 +225,13 @@ module _ {P C : Type 0} (meanings : C → Meanings) where
         told_let meanings None hub.stack.top.client (λ none. told_nothing meanings None _ refl) (λ client_key named_.
         told_let_client meanings None (client_at world client_key) _ _ (λ none. told_nothing meanings None _ refl)
         (λ client held.
-        let made = capture gives meanings (span_table world) (plain_client client) (Some hub.stack.top.scope)
+        let made = capture gives meanings (span_table world) (stored_client client) (Some hub.stack.top.scope)
         fresh event in
-        let session = capture_named_session world hub.stack.top.session (plain_client client) made in
+        let session = capture_named_session world hub.stack.top.session (stored_client client) made in
         told_trail meanings None (captured_id made.event) (quiet_last meanings None
         (captures_with_session meanings None refl world client_key client held hub.stack.top.session
         hub.stack.top.scope.attachments made
-        (fate_of gives meanings (span_table world) (plain_client client) (Some hub.stack.top.scope) fresh event))
+        (fate_of gives meanings (span_table world) (stored_client client) (Some hub.stack.top.scope) fresh event))
         (notes_event_id _ key.number hub (record hub { last_event_id = Some (captured_id made.event) })
         (found_captured world client.label made.entry hub.stack.top.session session key.number hub
         (found_hub key world hub found)) refl)) refl refl)))
@@ -280,7 +265,7 @@ module _ {P C : Type 0} (meanings : C → Meanings) where
       told_client meanings None Stale (client_at world key) _ (λ client found.
       told_require meanings None Stale (is_held (span_table world) scope.span) (λ active.
       told_came true
-      (keeps_log meanings key client (client_log meanings (span_table world) (plain_client client) scope log)
+      (keeps_log meanings key client (client_log meanings (span_table world) (stored_client client) scope log)
       world found)))
 
   told_client_metric : (key : ClientKey) (draft : MetricDraft) (scope : declared_scope.Scope P) (now : ℕ)
@@ -291,7 +276,7 @@ module _ {P C : Type 0} (meanings : C → Meanings) where
       told_client meanings None Stale (client_at world key) _ (λ client found.
       told_require meanings None Stale (is_held (span_table world) scope.span) (λ active.
       told_came false
-      (keeps_metric meanings key client (client_metric meanings (span_table world) (plain_client client)
+      (keeps_metric meanings key client (client_metric meanings (span_table world) (stored_client client)
       scope now draft) world found)))
 
   told_log : (key : HubKey) (log : Log) (world : World P C) → Told meanings None world (λ _. item_came true ∷ [])
@@ -303,7 +288,7 @@ module _ {P C : Type 0} (meanings : C → Meanings) where
       told_let_client meanings None (client_at world client_key) _ _ (λ none. told_came_none true world)
       (λ client held.
       told_came true
-      (keeps_log meanings client_key client (client_log meanings (span_table world) (plain_client client)
+      (keeps_log meanings client_key client (client_log meanings (span_table world) (stored_client client)
       hub.stack.top.scope log) world held))))
 
   told_metric : (key : HubKey) (draft : MetricDraft) (now : ℕ) (world : World P C) → Told meanings None world (λ _. item_came false ∷ [])
@@ -315,7 +300,7 @@ module _ {P C : Type 0} (meanings : C → Meanings) where
       told_let_client meanings None (client_at world client_key) _ _ (λ none. told_came_none false world)
       (λ client held.
       told_came false
-      (keeps_metric meanings client_key client (client_metric meanings (span_table world) (plain_client client)
+      (keeps_metric meanings client_key client (client_metric meanings (span_table world) (stored_client client)
       hub.stack.top.scope now draft) world held))))
 
   -- ---- losses
@@ -399,15 +384,15 @@ module _ {P C : Type 0} (meanings : C → Meanings) where
       breadcrumbs hub.stack) none
 
   came_client : (world : World P C) (breadcrumbs : List Breadcrumb) (hub : Hub P) (key : ClientKey)
-      (o : Option (ClientState C)) → (length breadcrumbs == 0) ≡ false → hub.stack.top.client ≡ Some key
+      (o : Option (ClientHistory C)) → (length breadcrumbs == 0) ≡ false → hub.stack.top.client ≡ Some key
       → client_at world key ≡ o
       → change_layers meanings (held_options world) (breadcrumbs_came breadcrumbs) hub.stack ≡ add_under meanings
-      (option_map (λ (client : ClientState C). client.options) o) breadcrumbs hub.stack
+      (option_map (λ (client : ClientHistory C). client.options) o) breadcrumbs hub.stack
   came_client world breadcrumbs hub key o e named_ held =
       came_by world breadcrumbs hub e
       ∙ (ap (λ (o : Option ClientKey). add_under meanings (option_and_then (held_options world) o)
       breadcrumbs hub.stack) named_
-      ∙ ap (λ (o : Option (ClientState C)). add_under meanings (option_map (λ (client : ClientState C). client.options)
+      ∙ ap (λ (o : Option (ClientHistory C)). add_under meanings (option_map (λ (client : ClientHistory C). client.options)
       o) breadcrumbs hub.stack) held)
 
   told_breadcrumbs : (key : HubKey) (breadcrumbs : List Breadcrumb) (world : World P C)
@@ -523,14 +508,12 @@ module _ {P C : Type 0} (meanings : C → Meanings) where
       told_let meanings None hub.stack.top.client (λ none. begins_none key fresh world) (λ client_key named_.
       told_let_client meanings None (client_at world client_key) _ _ (λ none. begins_none key fresh world)
       (λ client held.
-      told_let meanings None (start_of client_key client.options.plain hub.stack.top.scope.user fresh.uuid fresh.now)
-      (λ none. begins_none key fresh world) (λ start is.
+      told_let meanings None (session_attributes client.options.plain) (λ none. begins_none key fresh world)
+      (λ attributes is.
+      let start = start_of client_key attributes hub.stack.top.scope.user fresh.uuid fresh.now in
       told_require meanings None Full (is_session_number_left world) (λ left.
       told_named meanings None tt (replaces meanings key.number hub fresh.now start world
-      (found_hub key world hub found)).changes
-      (ap (λ id. session_begun key.number id ∷ [])
-      (started_id client_key client.options.plain hub.stack.top.scope.user fresh.uuid fresh.now start
-      client.options.plain.release is))
+      (found_hub key world hub found)).changes refl
       (replaced_named key.number hub fresh.now start world (found_hub key world hub found)) (λ n h. h))))))
 
   told_end : (key : HubKey) (status : SessionStatus) (now : ℕ) (world : World P C) → Told meanings None world quiet

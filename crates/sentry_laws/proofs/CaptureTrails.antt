@@ -11,6 +11,7 @@ use Rattle.sentry_base.specs.declared.protocol.envelope.Envelope.{Envelope}
 use Rattle.sentry_base.specs.declared.protocol.envelope.EnvelopeItem.{EnvelopeItem}
 use Rattle.sentry_base.specs.declared.protocol.envelope.EnvelopeItem.TheVariants as item
 use Rattle.sentry_base.specs.declared.protocol.event.Event.{Event}
+use Rattle.sentry_base.specs.declared.protocol.sdk.ClientSdkInfo.{ClientSdkInfo}
 use Rattle.sentry_base.specs.declared.protocol.fresh.Fresh.{Fresh}
 use Rattle.sentry_base.specs.declared.protocol.keys.ClientKey.{ClientKey}
 use Rattle.sentry_base.specs.declared.protocol.keys.Label.{Label}
@@ -25,7 +26,7 @@ use Rattle.sentry_options.specs.declared.clientoptions.choices.EventSamplingStra
 use Rattle.sentry_client_reports.specs.LossBooks.{LossEntry, report_point}
 use Rattle.sentry_scope.specs.declared.scope.Scope.{Scope}
 use Rattle.sentry_sessions.specs.Sessions.{SessionEntry, SessionEnd, event_reached, handed_out, end_of, end_status, hand_out, pending_update}
-use Rattle.sentry_pipeline.specs.Pipeline.{Prepared, continue_or_drop, fill_if_any, process_if_any, sample, loss_reason, with_id, with_sdk, sdk_info, with_defaults}
+use Rattle.sentry_pipeline.specs.Pipeline.{Prepared, continue_or_drop, fill_if_any, process_if_any, sample, loss_reason, with_id, with_sdk, with_defaults}
 use Rattle.sentry_pipeline.specs.Pipeline as pipeline
 use Rattle.sentry_pipeline.specs.declared.pipeline.Place.{Place}
 use Rattle.sentry_pipeline.specs.declared.pipeline.Place.TheVariants.{EventProcessor, Integration, BeforeSend}
@@ -33,10 +34,10 @@ use Rattle.sentry_pipeline.specs.declared.pipeline.Preparation.TheVariants.{Kept
 use Rattle.sentry_span_table.specs.declared.table.records.SpanTable.{SpanTable}
 use Rattle.sentry_state.specs.declared.state.Client.{Client}
 use Rattle.sentry_hub_table.specs.declared.hub.Hub.{Hub}
-use Rattle.sentry_state.specs.Worlds.{World, ClientState, SessionState, plain_client, plain_session}
+use Rattle.sentry_state.specs.Worlds.{World, ClientHistory, SessionHistory, stored_client, stored_session}
 use Rattle.sentry_state.specs.Outcomes.{client_at, session_at}
 use Rattle.sentry_state.specs.Books.{pending_report, with_entry_if_any}
-use Rattle.sentry_captures.specs.Captures.{Capture, capture, capture_of_prepared, lost_event, capture_entry, event_to_send, captured_envelopes, with_update, with_attachments, capture_session, with_reached, takes_update, SessionCapture, capture_named_session, update_along, with_captured_session}
+use Rattle.sentry_events.specs.Captures.{Capture, capture, capture_of_prepared, event_loss, capture_entry, event_to_send, captured_envelopes, with_update, with_attachments, capture_session, with_reached, takes_update, SessionCapture, capture_named_session, captured_update, with_captured_session}
 use Rattle.sentry_laws.proofs.Changes.{Changes, IsOfHeld, ItemIsOfHeld, AreOfHeld, status_of, nothing, one, both, mails, loses, changes_session, is_batch_or_report}
 use Rattle.sentry_laws.proofs.Tables.{own_replaced}
 use Rattle.sentry_laws.proofs.Trails.{found_under}
@@ -45,7 +46,7 @@ use Rattle.sentry_laws.proofs.SendingTrails.{pending_told}
 -- an event is sent with the pending report, or lost, or neither, and only an occupied slot sends
 pub data Fate (occupied : Bool) : Option Event → Option LossEntry → Type 0 where
   ignored : Fate occupied None None
-  lost : (reason : Reason) → Fate occupied None (Some (lost_event reason))
+  lost : (reason : Reason) → Fate occupied None (Some (event_loss reason))
   goes : (event : Event) → occupied ≡ true → Fate occupied (Some event) (Some report_point)
 
 abbrev PreparedWell : Prepared → Type 0
@@ -75,12 +76,13 @@ strategy_well : (strategy : EventSamplingStrategy) (draw : ℕ) (event : Event)
 strategy_well (FixedRate rate) draw event = sampled_well (nat_lt draw rate) event
 
 module _ {P C : Type 0} (gives : P → Partial) (meanings : C → Meanings) where
-  prepared_well : (spans : SpanTable) (options : ClientOptions C) (scope : Option (Scope P)) (fresh : Fresh)
-      (event : Event) → PreparedWell (pipeline.prepare_event gives meanings spans options scope fresh event)
+  prepared_well : (spans : SpanTable) (options : ClientOptions C) (sdk : ClientSdkInfo) (scope : Option (Scope P))
+      (fresh : Fresh) (event : Event)
+      → PreparedWell (pipeline.prepare_event gives meanings spans options sdk scope fresh event)
   unfolding pipeline.prepare_event
-  prepared_well spans options scope fresh event =
+  prepared_well spans options sdk scope fresh event =
       let client = meanings options.callbacks in
-      let identified = with_sdk (sdk_info client) (with_id fresh.uuid event) in
+      let identified = with_sdk sdk (with_id fresh.uuid event) in
       continued_well EventProcessor (process_if_any gives scope (fill_if_any spans scope identified)) _ (λ processed.
       continued_well Integration (process_by_all client.integrations options.plain processed) _ (λ integrated.
       continued_well BeforeSend (call_if_any client.before_send (with_defaults options.plain integrated)) _ (λ made.
@@ -97,7 +99,7 @@ module _ {P C : Type 0} (gives : P → Partial) (meanings : C → Meanings) wher
       (capture gives meanings spans client scope fresh event).entry
   unfolding capture
   fate_of spans client scope fresh event =
-      captured-by client.occupied _ (prepared_well spans client.options scope fresh event)
+      captured-by client.occupied _ (prepared_well spans client.options client.sdk scope fresh event)
 
 -- ---- no batch is in the envelope of an event
 
@@ -144,7 +146,7 @@ module _ {P C : Type 0} (world : World P C) where
 
 module _ {P C : Type 0} (meanings : C → Meanings) (given : Option Envelope) where
   -- the envelopes of a capture and its entry in the book
-  pub captures : given ≡ None → (world : World P C) (key : ClientKey) (client : ClientState C)
+  pub captures : given ≡ None → (world : World P C) (key : ClientKey) (client : ClientHistory C)
       → client_at world key ≡ Some client
       → (update : Option SessionUpdate) (attachments : List Attachment) (event : Option Event)
       (entry : Option LossEntry) → Fate client.occupied event entry
@@ -158,18 +160,18 @@ module _ {P C : Type 0} (meanings : C → Meanings) (given : Option Envelope) wh
       one (mails world key client _ found occupied (inr (own, attached attachments _ (updated update sent)))
       (λ none. held_attached world attachments _ (held_updated world update sent held)))
 
-  pub loses_if_any : (world : World P C) (key : ClientKey) (client : ClientState C) → client_at world key ≡ Some client
+  pub loses_if_any : (world : World P C) (key : ClientKey) (client : ClientHistory C) → client_at world key ≡ Some client
       → (reason : Option Reason)
-      → Changes meanings given world [] [] (with_entry_if_any world client.label (option_map lost_event reason))
+      → Changes meanings given world [] [] (with_entry_if_any world client.label (option_map event_loss reason))
   loses_if_any world key client found None = nothing world
   loses_if_any world key client found (Some reason) = one (loses world key client _ found)
 
 -- ---- sessions that events reach
 
-abbrev IsLater : SessionState → SessionState → Type 0
+abbrev IsLater : SessionHistory → SessionHistory → Type 0
 IsLater old new = (later : List SessionEntry) × (new ≡ record old { history = later ++ old.history })
 
-handed_later : (b : Bool) (before : SessionState) (later : List SessionEntry)
+handed_later : (b : Bool) (before : SessionHistory) (later : List SessionEntry)
     → IsLater before (record before {
       history = if b then handed_out ∷ (later ++ before.history) else later
           ++ before.history;
@@ -177,11 +179,11 @@ handed_later : (b : Bool) (before : SessionState) (later : List SessionEntry)
 handed_later true before later = (handed_out ∷ later, refl)
 handed_later false before later = (later, refl)
 
-captured_later : (takes : Bool) (reached : Option Event) (before : SessionState)
+captured_later : (takes : Bool) (reached : Option Event) (before : SessionHistory)
     → IsLater before (capture_session takes reached before).after
 unfolding capture_session
-captured_later true None before = handed_later (plain_session before).dirty before []
-captured_later true (Some event) before = handed_later (plain_session (with_reached (Some event) before)).dirty before
+captured_later true None before = handed_later (stored_session before).dirty before []
+captured_later true (Some event) before = handed_later (stored_session (with_reached (Some event) before)).dirty before
     (event_reached event ∷ [])
 captured_later false None before = ([], refl)
 captured_later false (Some event) before = (event_reached event ∷ [], refl)
@@ -214,7 +216,7 @@ module _ {P C : Type 0} where
 
 module _ {P C : Type 0} (meanings : C → Meanings) (given : Option Envelope) where
   captured-found : (world middle : World P C) (key : SessionKey) (takes : Bool) (reached : Option Event)
-      (o : Option SessionState) → session_at world key ≡ o → middle.sessions ≡ world.sessions
+      (o : Option SessionHistory) → session_at world key ≡ o → middle.sessions ≡ world.sessions
       → Changes meanings given middle [] []
       (with_captured_session middle (Some key) (option_map (capture_session takes reached) o))
   captured-found world middle key takes reached None found same = nothing middle
@@ -244,15 +246,15 @@ handed_status true history = ap end_status (no_end (end_of history))
     no_end (Some end) = refl
 handed_status false history = refl
 
-handed_told : (session : SessionState) (update : SessionUpdate)
-    → pending_update (plain_session session) ≡ Some update
+handed_told : (session : SessionHistory) (update : SessionUpdate)
+    → pending_update (stored_session session) ≡ Some update
     → (session.start.session_id ≡ update.session_id)
-    × (end_status (end_of (hand_out (plain_session session) session.history)) ≡ update.status)
+    × (end_status (end_of (hand_out (stored_session session) session.history)) ≡ update.status)
 handed_told session update e =
     let told_ = pending_told session.start session.history update e in
-    (told_.0, handed_status (plain_session session).dirty session.history ∙ told_.1)
+    (told_.0, handed_status (stored_session session).dirty session.history ∙ told_.1)
 
-captured_told : (takes : Bool) (reached : Option Event) (before : SessionState) (update : SessionUpdate)
+captured_told : (takes : Bool) (reached : Option Event) (before : SessionHistory) (update : SessionUpdate)
     → (capture_session takes reached before).update ≡ Some update
     → ((capture_session takes reached before).after.start.session_id ≡ update.session_id)
     × (status_of (capture_session takes reached before).after ≡ update.status)
@@ -261,9 +263,9 @@ captured_told true reached before update e = handed_told (with_reached reached b
 captured_told false reached before update e = absurd cc
 
 module _ {P C : Type 0} where
-  along_told : (world : World P C) (key : SessionKey) (takes : Bool) (reached : Option Event) (o : Option SessionState)
+  along_told : (world : World P C) (key : SessionKey) (takes : Bool) (reached : Option Event) (o : Option SessionHistory)
       → session_at world key ≡ o → (update : SessionUpdate)
-      → update_along (option_map (capture_session takes reached) o) ≡ Some update
+      → captured_update (option_map (capture_session takes reached) o) ≡ Some update
       → IsOfHeld (with_captured_session world (Some key) (option_map (capture_session takes reached) o)) update
   along_told world key takes reached None found update e = absurd cc
   along_told world key takes reached (Some before) found update e =
@@ -277,7 +279,7 @@ module _ {P C : Type 0} where
       )
 
   update_told : (world : World P C) (name : Option SessionKey) (client : Client C) (made : Capture)
-      (update : SessionUpdate) → update_along (capture_named_session world name client made) ≡ Some update
+      (update : SessionUpdate) → captured_update (capture_named_session world name client made) ≡ Some update
       → IsOfHeld (with_captured_session world name (capture_named_session world name client made)) update
   update_told world None client made update e = absurd cc
   update_told world (Some key) client made update e =
@@ -306,24 +308,24 @@ module _ {P C : Type 0} where
 
 module _ {P C : Type 0} (meanings : C → Meanings) (given : Option Envelope) where
   -- a capture on a hub: what reaches the session, and then the envelopes and the entry in the book
-  pub captures_with_session : given ≡ None → (world : World P C) (key : ClientKey) (client : ClientState C)
+  pub captures_with_session : given ≡ None → (world : World P C) (key : ClientKey) (client : ClientHistory C)
       → client_at world key ≡ Some client → (name : Option SessionKey) (attachments : List Attachment) (made : Capture)
       → Fate client.occupied made.event made.entry
       → Changes meanings given world []
-      (captured_envelopes key (update_along (capture_named_session world name (plain_client client) made)) attachments
+      (captured_envelopes key (captured_update (capture_named_session world name (stored_client client) made)) attachments
       (pending_report world client.label) made.event)
       (with_captured_session (with_entry_if_any world client.label made.entry) name
-      (capture_named_session world name (plain_client client) made))
+      (capture_named_session world name (stored_client client) made))
   captures_with_session own world key client found name attachments made fate =
-      let captured = capture_named_session world name (plain_client client) made in
+      let captured = capture_named_session world name (stored_client client) made in
       let middle = with_captured_session world name captured in
-      subst (λ (w : World P C). Changes meanings given world [] (captured_envelopes key (update_along captured)
+      subst (λ (w : World P C). Changes meanings given world [] (captured_envelopes key (captured_update captured)
       attachments (pending_report world client.label) made.event) w)
       (entry_beside world name captured client.label made.entry)
-      (subst (λ report. Changes meanings given world [] (captured_envelopes key (update_along captured) attachments
+      (subst (λ report. Changes meanings given world [] (captured_envelopes key (captured_update captured) attachments
       report made.event) (with_entry_if_any middle client.label made.entry))
       (report_beside world name captured client.label)
-      (both (captures_session meanings given world client.label None name (plain_client client) made)
+      (both (captures_session meanings given world client.label None name (stored_client client) made)
       (captures meanings given own middle key client (client_beside world name captured key ∙ found)
-      (update_along captured) attachments made.event made.entry fate
-      (update_told world name (plain_client client) made))))
+      (captured_update captured) attachments made.event made.entry fate
+      (update_told world name (stored_client client) made))))

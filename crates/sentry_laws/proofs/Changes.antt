@@ -27,12 +27,12 @@ use Rattle.sentry_sessions.specs.SessionQueues.{enqueued, envelopes_on}
 use Rattle.sentry_sessions.specs.Sessions.{SessionEntry, end_of, end_status}
 use Rattle.sentry_sessions.specs.declared.session.record.SessionStart.{SessionStart}
 use Rattle.sentry_hub_table.specs.declared.hub.Hub.{Hub}
-use Rattle.sentry_state.specs.Worlds.{World, ClientState, SessionState, span_table}
+use Rattle.sentry_state.specs.Worlds.{World, ClientHistory, SessionHistory, span_table}
 use Rattle.sentry_base.specs.declared.protocol.keys.SpanKey.{SpanKey}
 use Rattle.sentry_base.specs.declared.protocol.keys.TransactionKey.{TransactionKey}
 use Rattle.sentry_base.specs.declared.protocol.keys.TransactionOrSpanKey.{TransactionOrSpanKey}
 use Rattle.sentry_base.specs.declared.protocol.keys.TransactionOrSpanKey.TheVariants as key_of
-use Rattle.sentry_span_table.specs.SpanLists.{TransactionState, with_finished}
+use Rattle.sentry_span_table.specs.SpanLists.{TransactionHistory, with_span_finished}
 use Rattle.sentry_span_table.specs.SpanTables.{has_span_of, is_held, place_in}
 use Rattle.sentry_span_table.specs.declared.table.records.SpanPlace.{SpanPlace}
 use Rattle.sentry_span_table.specs.declared.table.records.SpanRecord.{SpanRecord}
@@ -40,11 +40,11 @@ use Rattle.sentry_span_edits.specs.Discards.{is_active_on}
 use Rattle.sentry_state.specs.SpanChanges.{with_new_transaction, with_new_span}
 use Rattle.sentry_state.specs.Outcomes.{client_at, is_held_or_none, transaction_at, span_at}
 use Rattle.sentry_state.specs.Clients.{is_client_named, clone_from, queues_from}
-use Rattle.sentry_state.specs.Changes.{with_log_entry, with_metric_entry, with_client_entry, with_client_state, with_new_hub, with_new_session}
+use Rattle.sentry_state.specs.Changes.{with_log_entry, with_metric_entry, with_client_entry, with_client_history, with_new_hub, with_new_session}
 use Rattle.sentry_state.specs.Books.{with_book, with_entry, pending_report, has_book, without_unused_book}
 use Rattle.sentry_sending.specs.Sending.{send}
-use Rattle.sentry_queues.specs.declared.flushes.Flush.{Flush}
-use Rattle.sentry_queues.specs.Flushes.{after_flush, flushed_envelopes, batch_envelopes}
+use Rattle.sentry_telemetry.specs.declared.flushes.Flush.{Flush}
+use Rattle.sentry_telemetry.specs.Flushes.{after_flush, flushed_envelopes, batch_envelopes}
 use Rattle.sentry_laws.proofs.Effects.{Effect, LayerChange, client_added, client_cloned, hub_made, hub_made_from, hub_changed, hub_released, losses_absorbed, report_taken, session_begun, client_dropped, item_came, scope_edited, client_bound, layer_popped, session_named, change_layers}
 
 -- ---- what comes to the queues of a client
@@ -56,13 +56,13 @@ pub data Arrival : Type 0 where
   flush_came : Flush → Arrival
 
 module _ {C : Type 0} where
-  abbrev pub after_arrival : Arrival → ClientState C → ClientState C
+  abbrev pub after_arrival : Arrival → ClientHistory C → ClientHistory C
   after_arrival (log_came log) client = with_log_entry (accept log) client
   after_arrival (metric_came metric) client = with_metric_entry (accept metric) client
   after_arrival (session_ended update) client = with_client_entry (enqueued update) client
   after_arrival (flush_came flush) client = after_flush flush client
 
-  abbrev pub envelopes_on_arrival : Arrival → ClientState C → List Envelope
+  abbrev pub envelopes_on_arrival : Arrival → ClientHistory C → List Envelope
   envelopes_on_arrival (log_came log) client =
       batch_envelopes (batch_on client.options.plain.max_batch_items (accept log) client.queues.logs) None
   envelopes_on_arrival (metric_came metric) client =
@@ -73,14 +73,14 @@ module _ {C : Type 0} where
       flushed_envelopes flush client.options.plain client.queues
 
 -- the status of a session
-abbrev pub status_of : SessionState → SessionStatus
+abbrev pub status_of : SessionHistory → SessionStatus
 status_of session = end_status (end_of session.history)
 
 module _ {P C : Type 0} where
   -- a session that is held has the id and the status of the update
   abbrev pub IsOfHeld : World P C → SessionUpdate → Type 0
   IsOfHeld world update =
-      (number : ℕ) × (session : SessionState) × (value_at world.sessions number ≡ Some session)
+      (number : ℕ) × (session : SessionHistory) × (value_at world.sessions number ≡ Some session)
       × (session.start.session_id ≡ update.session_id) × (status_of session ≡ update.status)
 
   abbrev pub ItemIsOfHeld : World P C → EnvelopeItem → Type 0
@@ -122,7 +122,7 @@ module _ {P C : Type 0} where
 
   -- the options of a client that the world holds
   abbrev pub held_options : World P C → ClientKey → Option (ClientOptions C)
-  held_options world key = option_map (λ (client : ClientState C). client.options) (client_at world key)
+  held_options world key = option_map (λ (client : ClientHistory C). client.options) (client_at world key)
 
   -- the change of these layers names no client and no span that isn't held, no session that wasn't started, and pops
   -- no layer of another depth
@@ -134,20 +134,20 @@ module _ {P C : Type 0} where
   IsAllowed world stack _ = Unit {0}
 
 -- one change of the transactions and spans that are held, which starts none
-pub data SpanChange {P C : Type 0} (world : World P C) : List (ℕ × TransactionState) → List (ℕ × SpanRecord)
+pub data SpanChange {P C : Type 0} (world : World P C) : List (ℕ × TransactionHistory) → List (ℕ × SpanRecord)
     → Type 0 where
-  changes_transaction : (number : ℕ) (old new : TransactionState) → value_at world.transactions number ≡ Some old
+  changes_transaction : (number : ℕ) (old new : TransactionHistory) → value_at world.transactions number ≡ Some old
       → new.context.trace_id ≡ old.context.trace_id → new.finished ≡ old.finished
       → SpanChange world (replace_at world.transactions number new) world.spans
   changes_span : (number : ℕ) (old new : SpanRecord) → value_at world.spans number ≡ Some old
       → new.transaction ≡ old.transaction → new.span.trace_id ≡ old.span.trace_id
       → SpanChange world world.transactions (replace_at world.spans number new)
   -- a span finished in its transaction
-  keeps_span : (number : ℕ) (held : SpanRecord) (state : TransactionState) → value_at world.spans number ≡ Some held
+  keeps_span : (number : ℕ) (held : SpanRecord) (state : TransactionHistory) → value_at world.spans number ≡ Some held
       → transaction_at world held.transaction ≡ Some state
-      → SpanChange world (replace_at world.transactions held.transaction.number (with_finished held.span state))
+      → SpanChange world (replace_at world.transactions held.transaction.number (with_span_finished held.span state))
       world.spans
-  drops_transaction : (key : TransactionKey) (state : TransactionState) → transaction_at world key ≡ Some state
+  drops_transaction : (key : TransactionKey) (state : TransactionHistory) → transaction_at world key ≡ Some state
       → is_active_on (key_of.Transaction key) world.hubs ≡ false → has_span_of (span_table world) key ≡ false
       → SpanChange world (without world.transactions key.number) world.spans
   drops_span : (key : SpanKey) (held : SpanRecord) → span_at world key ≡ Some held
@@ -182,48 +182,48 @@ pub data Change {P C : Type 0} (meanings : C → Meanings) (given : Option Envel
       → depth hub.stack ≡ 0
       → Change meanings given world (hub_released number ∷ []) [] (record world { hubs = without world.hubs number })
   -- a client under the next number
-  adds_client : (world : World P C) (client : ClientState C) (now : ℕ) → client.queues ≡ queues_from now
+  adds_client : (world : World P C) (client : ClientHistory C) (now : ℕ) → client.queues ≡ queues_from now
       → client.closed ≡ false → (client.label.tag == world.tag) ≡ true
       → Change meanings given world (client_added (next_client_key world) client.options ∷ []) [] (record world {
         next = record world.next { client = world.next.client + 1 };
         clients = put world.clients world.next.client client;
         books = with_book world.books client.label.number;
       })
-  clones_client : (world : World P C) (original : ClientKey) (client : ClientState C) (now : ℕ)
+  clones_client : (world : World P C) (original : ClientKey) (client : ClientHistory C) (now : ℕ)
       → client_at world original ≡ Some client
       → Change meanings given world (client_cloned (next_client_key world) original ∷ []) [] (record world {
         next = record world.next { client = world.next.client + 1 };
         clients = put world.clients world.next.client (clone_from now client);
       })
-  drops_client : (world : World P C) (key : ClientKey) (client : ClientState C) (label : Label)
+  drops_client : (world : World P C) (key : ClientKey) (client : ClientHistory C) (label : Label)
       → client_at world key ≡ Some client → label ≡ client.label → is_client_named key world.hubs ≡ false
       → Change meanings given world (client_dropped key.number ∷ []) []
       (without_unused_book label (record world { clients = without world.clients key.number }))
   -- something comes to the queues of a client that isn't closed, which may send what waits
-  arrives : (world : World P C) (key : ClientKey) (client : ClientState C) (arrival : Arrival) → given ≡ None
+  arrives : (world : World P C) (key : ClientKey) (client : ClientHistory C) (arrival : Arrival) → given ≡ None
       → client_at world key ≡ Some client → client.closed ≡ false → IsArrival world arrival
       → Change meanings given world []
       (send key client (envelopes_on_arrival arrival client)
-      (with_client_state world key (after_arrival arrival client))).sent
+      (with_client_history world key (after_arrival arrival client))).sent
       (send key client (envelopes_on_arrival arrival client)
-      (with_client_state world key (after_arrival arrival client))).after
+      (with_client_history world key (after_arrival arrival client))).after
   -- a log or a metric comes to the queues of a client that isn't closed, which may send what waits; or none does
-  accepts : (world : World P C) (key : ClientKey) (client : ClientState C) (arrival : Arrival) (is_log : Bool)
+  accepts : (world : World P C) (key : ClientKey) (client : ClientHistory C) (arrival : Arrival) (is_log : Bool)
       → given ≡ None → client_at world key ≡ Some client → client.closed ≡ false → IsItem is_log arrival
       → Change meanings given world (item_came is_log ∷ [])
       (send key client (envelopes_on_arrival arrival client)
-      (with_client_state world key (after_arrival arrival client))).sent
+      (with_client_history world key (after_arrival arrival client))).sent
       (send key client (envelopes_on_arrival arrival client)
-      (with_client_state world key (after_arrival arrival client))).after
+      (with_client_history world key (after_arrival arrival client))).after
   accepts_none : (world : World P C) (is_log : Bool) → Change meanings given world (item_came is_log ∷ []) [] world
   -- an envelope leaves an occupied slot: the caller's own, or one without a batch
-  mails : (world : World P C) (key : ClientKey) (client : ClientState C) (envelope : Envelope)
+  mails : (world : World P C) (key : ClientKey) (client : ClientHistory C) (envelope : Envelope)
       → client_at world key ≡ Some client → client.occupied ≡ true
       → (given ≡ Some envelope) ⊎ ((given ≡ None) × (list_any is_batch_or_report envelope.items ≡ false))
       → (given ≡ None → AreOfHeld world envelope.items)
       → Change meanings given world [] ((key, with_report (pending_report world client.label) envelope) ∷ [])
       (with_entry world client.label report_point)
-  loses : (world : World P C) (key : ClientKey) (client : ClientState C) (losses : List ℕ)
+  loses : (world : World P C) (key : ClientKey) (client : ClientHistory C) (losses : List ℕ)
       → client_at world key ≡ Some client
       → Change meanings given world [] [] (with_entry world client.label (engine_losses losses))
   takes_report : (world : World P C) (label : Label) → has_book world label ≡ true
@@ -239,20 +239,20 @@ pub data Change {P C : Type 0} (meanings : C → Meanings) (given : Option Envel
   starts_session : (world : World P C) (number : ℕ) (start : SessionStart)
       → Change meanings given world (session_begun number start.session_id ∷ []) []
       (record (with_new_session start world) { next = record world.next { session = world.next.session + 1 } })
-  changes_session : (world : World P C) (number : ℕ) (old new : SessionState) (later : List SessionEntry)
+  changes_session : (world : World P C) (number : ℕ) (old new : SessionHistory) (later : List SessionEntry)
       → value_at world.sessions number ≡ Some old
       → new ≡ record old { history = later ++ old.history }
       → Change meanings given world [] [] (record world { sessions = replace_at world.sessions number new })
   ends_session : (world : World P C) (number : ℕ)
       → Change meanings given world [] [] (record world { sessions = without world.sessions number })
   -- a transaction under the next number, and a span under the next number at a place that is held
-  starts_transaction : (world : World P C) (state : TransactionState) → state.finished ≡ []
+  starts_transaction : (world : World P C) (state : TransactionHistory) → state.finished ≡ []
       → Change meanings given world [] [] (with_new_transaction state world)
   starts_span : (world : World P C) (parent : TransactionOrSpanKey) (place : SpanPlace) (held : SpanRecord)
       → place_in (span_table world) parent ≡ Some place
       → held.transaction ≡ place.transaction → held.span.trace_id ≡ place.trace_id
       → Change meanings given world [] [] (with_new_span held world)
-  changes_spans : (world : World P C) (transactions : List (ℕ × TransactionState)) (spans : List (ℕ × SpanRecord))
+  changes_spans : (world : World P C) (transactions : List (ℕ × TransactionHistory)) (spans : List (ℕ × SpanRecord))
       → SpanChange world transactions spans
       → Change meanings given world [] [] (record world { transactions = transactions; spans = spans })
 

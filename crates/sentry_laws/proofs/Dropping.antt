@@ -7,9 +7,9 @@ use Rattle.sentry_base.specs.declared.protocol.envelope.Envelope.{Envelope}
 use Rattle.sentry_base.specs.declared.protocol.keys.ClientKey.{ClientKey}
 use Rattle.sentry_base.specs.declared.protocol.keys.Label.{Label}
 use Rattle.sentry_options.specs.Meanings.{Meanings}
-use Rattle.sentry_state.specs.Changes.{with_client_state}
+use Rattle.sentry_state.specs.Changes.{with_client_history}
 use Rattle.sentry_state.specs.Clients.{clone_from}
-use Rattle.sentry_state.specs.Worlds.{World, ClientState}
+use Rattle.sentry_state.specs.Worlds.{World, ClientHistory}
 use Rattle.sentry_sending.specs.Sending.{after_sending, send}
 use Rattle.sentry_calls.specs.declared.call.Call.{Call}
 use Rattle.sentry_calls.specs.declared.call.Call.TheVariants as group
@@ -27,12 +27,12 @@ use Rattle.sentry_laws.proofs.Tests.{or_left, any_first, any_second}
 use Rattle.sentry_laws.proofs.Trails.{found_under, own_effects}
 
 module _ {C : Type 0} where
-  held_if : (b : Bool) (client : ClientState C) (o : Option (ClientState C)) → is_some o ≡ true
+  held_if : (b : Bool) (client : ClientHistory C) (o : Option (ClientHistory C)) → is_some o ≡ true
       → is_some (if b then Some client else o) ≡ true
   held_if true client o h = refl
   held_if false client o h = h
 
-  held_unless : (b : Bool) (o : Option (ClientState C)) → b ≡ false → is_some o ≡ true
+  held_unless : (b : Bool) (o : Option (ClientHistory C)) → b ≡ false → is_some o ≡ true
       → is_some (if b then None else o) ≡ true
   held_unless true o e h = absurd cc
   held_unless false o e h = h
@@ -72,15 +72,15 @@ module _ (n : ℕ) {P C : Type 0} where
         ∙ held_unless (n == key.number) (value_at world.clients n) (or_left (n == key.number) _ d) h
     held_change (arrives world key client arrival is_off found open_ came) m d h =
         held_sending client.label (send key client (envelopes_on_arrival arrival client)
-        (with_client_state world key (after_arrival arrival client))).sent
-        (with_client_state world key (after_arrival arrival client))
+        (with_client_history world key (after_arrival arrival client))).sent
+        (with_client_history world key (after_arrival arrival client))
         (ap is_some (found_replaced world.clients key.number n (after_arrival arrival client) client
         (found_under world.tag world.clients key.tag key.number client found))
         ∙ held_if (n == key.number) (after_arrival arrival client) (value_at world.clients n) h)
     held_change (accepts world key client arrival is_log is_off found open_ came) m d h =
         held_sending client.label (send key client (envelopes_on_arrival arrival client)
-        (with_client_state world key (after_arrival arrival client))).sent
-        (with_client_state world key (after_arrival arrival client))
+        (with_client_history world key (after_arrival arrival client))).sent
+        (with_client_history world key (after_arrival arrival client))
         (ap is_some (found_replaced world.clients key.number n (after_arrival arrival client) client
         (found_under world.tag world.clients key.tag key.number client found))
         ∙ held_if (n == key.number) (after_arrival arrival client) (value_at world.clients n) h)

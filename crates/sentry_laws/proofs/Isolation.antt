@@ -19,14 +19,14 @@ use Rattle.sentry_scope.specs.declared.scope.stack.StackLayer.{StackLayer}
 use Rattle.sentry_scope.specs.Stacks.{one_layer, pop, top_alone, stack_of, stack_of_any, is_client, names_client}
 use Rattle.sentry_hub_table.specs.declared.hub.Hub.{Hub}
 use Rattle.sentry_state.specs.declared.state.Out.{Out}
-use Rattle.sentry_state.specs.Worlds.{World, ClientState, starting_world}
+use Rattle.sentry_state.specs.Worlds.{World, ClientHistory, starting_world}
 use Rattle.sentry_state.specs.Outcomes.{client_at, is_held_or_none}
 use Rattle.sentry_state.specs.Clients.{is_client_named, clone_from}
-use Rattle.sentry_state.specs.Changes.{with_client_state, with_new_hub}
+use Rattle.sentry_state.specs.Changes.{with_client_history, with_new_hub}
 use Rattle.sentry_sending.specs.Sending.{after_sending}
 use Rattle.sentry_calls.specs.declared.call.Call.{Call}
 use Rattle.sentry_calls.specs.declared.call.Reply.{Reply}
-use Rattle.sentry_calls.specs.Runs.{May, Run}
+use Rattle.sentry_calls.specs.Runs.{StepsTo, Run}
 use Rattle.sentry_calls.specs.Steps.{step}
 use Rattle.sentry_laws.proofs.Effects.{item_came, Effect, LayerChange, scope_edited, breadcrumbs_came, client_bound, layer_pushed, layer_popped, session_named, hub_changed, hub_made, hub_made_from, hub_released, client_added, client_cloned, effects, onto, all_effects, change_layers, add_under, options_after, layers_after}
 use Rattle.sentry_laws.specs.OwnCalls.{nameless, without_sessions}
@@ -89,51 +89,51 @@ same_tags : (a b c : ℕ) → (b == c) ≡ true → (a == c) ≡ true → (a == 
 same_tags a b c h k = grind (arith, nat_tests)
 
 module _ {C : Type 0} where
-  added_option : (b1 b2 : Bool) (x c : ClientState C) (o : Option (ClientState C)) (t : Option (ClientOptions C))
+  added_option : (b1 b2 : Bool) (x c : ClientHistory C) (o : Option (ClientHistory C)) (t : Option (ClientOptions C))
       → ((if b1 then o else None) ≡ Some c → t ≡ Some c.options)
       → (if b1 then (if b2 then Some x else o) else None) ≡ Some c → (if b1 && b2 then Some x.options else t)
       ≡ Some c.options
-  added_option true true x c o t h e = ap (option_map (λ (client : ClientState C). client.options)) e
+  added_option true true x c o t h e = ap (option_map (λ (client : ClientHistory C). client.options)) e
   added_option true false x c o t h e = h e
   added_option false b2 x c o t h e = absurd cc
 
-  added_held : (b1 b2 : Bool) (x : ClientState C) (o : Option (ClientState C)) → is_some (if b1 then o else None) ≡ true
+  added_held : (b1 b2 : Bool) (x : ClientHistory C) (o : Option (ClientHistory C)) → is_some (if b1 then o else None) ≡ true
       → is_some (if b1 then (if b2 then Some x else o) else None) ≡ true
   added_held true true x o h = refl
   added_held true false x o h = h
   added_held false b2 x o h = h
 
-  changed_option : (b1 b2 : Bool) (new old c : ClientState C) (o : Option (ClientState C))
+  changed_option : (b1 b2 : Bool) (new old c : ClientHistory C) (o : Option (ClientHistory C))
       (t : Option (ClientOptions C)) → (b2 ≡ true → o ≡ Some old) → new.options ≡ old.options
-      → ((x : ClientState C) → (if b1 then o else None) ≡ Some x → t ≡ Some x.options)
+      → ((x : ClientHistory C) → (if b1 then o else None) ≡ Some x → t ≡ Some x.options)
       → (if b1 then (if b2 then Some new else o) else None) ≡ Some c → t ≡ Some c.options
   changed_option true true new old c o t f same h e =
-      h old (f refl) ∙ (ap Some (sym same) ∙ ap (option_map (λ (client : ClientState C). client.options)) e)
+      h old (f refl) ∙ (ap Some (sym same) ∙ ap (option_map (λ (client : ClientHistory C). client.options)) e)
   changed_option true false new old c o t f same h e = h c e
   changed_option false b2 new old c o t f same h e = absurd cc
 
-  dropped_option : (b1 b2 : Bool) (c : ClientState C) (o : Option (ClientState C)) (t : Option (ClientOptions C))
+  dropped_option : (b1 b2 : Bool) (c : ClientHistory C) (o : Option (ClientHistory C)) (t : Option (ClientOptions C))
       → ((if b1 then o else None) ≡ Some c → t ≡ Some c.options)
       → (if b1 then (if b2 then None else o) else None) ≡ Some c → t ≡ Some c.options
   dropped_option true true c o t h e = absurd cc
   dropped_option true false c o t h e = h e
   dropped_option false b2 c o t h e = absurd cc
 
-  dropped_held : (b1 b2 b3 : Bool) (o : Option (ClientState C)) → (b3 && b2) ≡ false → (b1 ≡ true → b3 ≡ true)
+  dropped_held : (b1 b2 b3 : Bool) (o : Option (ClientHistory C)) → (b3 && b2) ≡ false → (b1 ≡ true → b3 ≡ true)
       → is_some (if b1 then o else None) ≡ true → is_some (if b1 then (if b2 then None else o) else None) ≡ true
   dropped_held true true true o apart tags h = absurd cc
   dropped_held true true false o apart tags h = let e : false ≡ true = tags refl in absurd cc
   dropped_held true false b3 o apart tags h = h
   dropped_held false b2 b3 o apart tags h = h
 
-  arrival_options : (arrival : Arrival) (client : ClientState C) → (after_arrival arrival client).options
+  arrival_options : (arrival : Arrival) (client : ClientHistory C) → (after_arrival arrival client).options
       ≡ client.options
   arrival_options (log_came log) client = refl
   arrival_options (metric_came metric) client = refl
   arrival_options (session_ended update) client = refl
   arrival_options (flush_came flush) client = refl
 
-  no_client : (b : Bool) (c : ClientState C) (t : Option (ClientOptions C)) → (if b then None else None) ≡ Some c
+  no_client : (b : Bool) (c : ClientHistory C) (t : Option (ClientOptions C)) → (if b then None else None) ≡ Some c
       → t ≡ Some c.options
   no_client true c t e = absurd cc
   no_client false c t e = absurd cc
@@ -204,7 +204,7 @@ module _ {P C : Type 0} (meanings : C → Meanings) where
 
   pub record Agrees (told : List (Effect P C)) (world : World P C) : Type 0 where
     pub layers : (number : ℕ) → option_map bare (value_at world.hubs number) ≡ layers_after meanings told number
-    pub options : (key : ClientKey) (client : ClientState C) → client_at world key ≡ Some client
+    pub options : (key : ClientKey) (client : ClientHistory C) → client_at world key ≡ Some client
         → options_after told key ≡ Some client.options
     pub held : (number : ℕ) (hub : Hub P) → value_at world.hubs number ≡ Some hub → AreHeld world hub.stack
     pub hubs : AreBelow 0 world.next.hub world.hubs
@@ -219,8 +219,8 @@ module _ {P C : Type 0} (meanings : C → Meanings) where
   same_options told world (Some key) a h = held_option told world key a (client_at world key) refl h
     where
       held_option : (told : List (Effect P C)) (world : World P C) (key : ClientKey) → Agrees told world
-          → (o : Option (ClientState C)) → client_at world key ≡ o → is_some o ≡ true
-          → option_map (λ (client : ClientState C). client.options) o ≡ options_after told key
+          → (o : Option (ClientHistory C)) → client_at world key ≡ o → is_some o ≡ true
+          → option_map (λ (client : ClientHistory C). client.options) o ≡ options_after told key
       held_option told world key a None found h = absurd cc
       held_option told world key a (Some client) found h = sym (a.options key client found)
 
@@ -372,7 +372,7 @@ module _ {P C : Type 0} (meanings : C → Meanings) where
 
   -- ---- clients
 
-  agrees_added : (told : List (Effect P C)) (world : World P C) (client : ClientState C) (effect : Effect P C)
+  agrees_added : (told : List (Effect P C)) (world : World P C) (client : ClientHistory C) (effect : Effect P C)
       (books : List (ℕ × List LossEntry))
       → ((key : ClientKey) → options_after (effect ∷ told) key ≡
       (if is_client (record { tag = world.tag; number = world.next.client }) (Some key)
@@ -395,7 +395,7 @@ module _ {P C : Type 0} (meanings : C → Meanings) where
       → client_at after key ≡
       (if key.tag == world.tag then
       (if key.number == world.next.client then Some client else value_at world.clients key.number) else None) =
-      (λ key. ap (λ (o : Option (ClientState C)). if key.tag == world.tag then o else None)
+      (λ key. ap (λ (o : Option (ClientHistory C)). if key.tag == world.tag then o else None)
       (found_put world.clients world.next.client key.number client)) in
       record {
         layers = λ k. a.layers k ∙ layers_ k;
@@ -409,18 +409,18 @@ module _ {P C : Type 0} (meanings : C → Meanings) where
         clients = below_put world.next.client client world.clients a.clients;
       }
 
-  agrees_client : (told : List (Effect P C)) (world : World P C) (key : ClientKey) (old new : ClientState C)
+  agrees_client : (told : List (Effect P C)) (world : World P C) (key : ClientKey) (old new : ClientHistory C)
       → client_at world key ≡ Some old → new.options ≡ old.options
-      → Agrees told world → Agrees told (with_client_state world key new)
+      → Agrees told world → Agrees told (with_client_history world key new)
   agrees_client told world key old new found same a =
-      let after : World P C = with_client_state world key new in
+      let after : World P C = with_client_history world key new in
       let here : value_at world.clients key.number ≡ Some old =
       found_under world.tag world.clients key.tag key.number old found in
       let at_ : (k : ClientKey)
       → client_at after k ≡
       (if k.tag == world.tag then (if k.number == key.number then Some new else value_at world.clients k.number)
       else None) =
-      (λ k. ap (λ (o : Option (ClientState C)). if k.tag == world.tag then o else None)
+      (λ k. ap (λ (o : Option (ClientHistory C)). if k.tag == world.tag then o else None)
       (found_replaced world.clients key.number k.number new old here)) in
       record {
         layers = a.layers;
@@ -449,7 +449,7 @@ module _ {P C : Type 0} (meanings : C → Meanings) where
       unnamed-at (is_at (nat_cmp n) entry.0) key entry.1 hub (value_at rest n) (or_left _ _ h)
       (λ found. unnamed key rest n hub (or_right _ _ h) found) e
 
-  dropped_name : (world : World P C) (key : ClientKey) (clients : List (ℕ × ClientState C)) → (key.tag == world.tag)
+  dropped_name : (world : World P C) (key : ClientKey) (clients : List (ℕ × ClientHistory C)) → (key.tag == world.tag)
       ≡ true
       → ((k : ClientKey) → client_at (record world { clients = clients }) k ≡
       (if k.tag == world.tag then (if k.number == key.number then None else value_at world.clients k.number) else None))
@@ -460,7 +460,7 @@ module _ {P C : Type 0} (meanings : C → Meanings) where
       ap is_some (at_ k) ∙ dropped_held (k.tag == world.tag) (k.number == key.number) (k.tag == key.tag)
       (value_at world.clients k.number) apart (λ e. same_tags k.tag key.tag world.tag own e) h
 
-  dropped_all : (world : World P C) (key : ClientKey) (clients : List (ℕ × ClientState C)) → (key.tag == world.tag)
+  dropped_all : (world : World P C) (key : ClientKey) (clients : List (ℕ × ClientHistory C)) → (key.tag == world.tag)
       ≡ true
       → ((k : ClientKey) → client_at (record world { clients = clients }) k ≡
       (if k.tag == world.tag then (if k.number == key.number then None else value_at world.clients k.number) else None))
@@ -481,7 +481,7 @@ module _ {P C : Type 0} (meanings : C → Meanings) where
       → client_at after k ≡
       (if k.tag == world.tag then (if k.number == key.number then None else value_at world.clients k.number)
       else None) =
-      (λ k. ap (λ (o : Option (ClientState C)). if k.tag == world.tag then o else None)
+      (λ k. ap (λ (o : Option (ClientHistory C)). if k.tag == world.tag then o else None)
       (found_without 0 world.next.client world.clients key.number k.number a.clients)) in
       record {
         layers = a.layers;
@@ -548,7 +548,7 @@ module _ {P C : Type 0} (meanings : C → Meanings) where
       agrees_left told world number hub (layer_popped given) found fits refl a
   left_case told world number hub (session_named session) found fits a = a
 
-  cloned_option : (told : List (Effect P C)) (world : World P C) (original : ClientKey) (client : ClientState C)
+  cloned_option : (told : List (Effect P C)) (world : World P C) (original : ClientKey) (client : ClientHistory C)
       (now : ℕ) → client_at world original ≡ Some client → Agrees told world → (key : ClientKey)
       → (if is_client (record { tag = world.tag; number = world.next.client }) (Some key)
       then options_after told original else options_after told key)
@@ -694,7 +694,7 @@ module _ {P C : Type 0} (meanings : C → Meanings) where
 
 module _ {P C : Type 0} (gives : P → Partial) (meanings : C → Meanings) where
   agrees_next : (call : Call P C) (out : Out (Reply P C)) (world next : World P C) (told : List (Effect P C))
-      → May gives meanings world call (Ok out) next → Agrees meanings told world
+      → StepsTo gives meanings world call (Ok out) next → Agrees meanings told world
       → Agrees meanings (onto (effects meanings call out.reply) told) next
   agrees_next call out world next told may a =
       let after = (step gives meanings call world).after in
@@ -738,7 +738,7 @@ module _ {P C : Type 0} (gives : P → Partial) (meanings : C → Meanings) wher
 
   pub options_by_effects : (tag start : ℕ) (calls : List (Call P C))
       (answers : List (Result (Out (Reply P C)) Refusal)) (last : World P C)
-      → Run gives meanings (starting_world tag start) calls answers last → (key : ClientKey) (client : ClientState C)
+      → Run gives meanings (starting_world tag start) calls answers last → (key : ClientKey) (client : ClientHistory C)
       → client_at last key ≡ Some client
       → options_after (all_effects meanings calls answers []) key ≡ Some client.options
   options_by_effects tag start calls answers last run =

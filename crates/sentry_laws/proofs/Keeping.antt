@@ -10,7 +10,7 @@ use Rattle.sentry_state.specs.declared.state.Out.{Out}
 use Rattle.sentry_state.specs.Worlds.{World}
 use Rattle.sentry_calls.specs.declared.call.Call.{Call}
 use Rattle.sentry_calls.specs.declared.call.Reply.{Reply}
-use Rattle.sentry_calls.specs.Runs.{May, Run}
+use Rattle.sentry_calls.specs.Runs.{StepsTo, Run}
 use Rattle.sentry_calls.specs.Steps.{step}
 use Rattle.sentry_laws.proofs.Changes.{Change, Changes, nothing, one, both}
 use Rattle.sentry_laws.proofs.Effects.{Effect, effects}
@@ -20,7 +20,7 @@ use Rattle.sentry_laws.proofs.Calls.{told_step}
 
 module _ {P C : Type 0} (gives : P → Partial) (meanings : C → Meanings) where
   -- what a call that was accepted changed
-  pub trail_of : (call : Call P C) (out : Out (Reply P C)) (world next : World P C) → May gives meanings world call
+  pub trail_of : (call : Call P C) (out : Out (Reply P C)) (world next : World P C) → StepsTo gives meanings world call
       (Ok out) next
       → Trail meanings (handed_in call) world (effects meanings call out.reply) out.sent next
   trail_of call out world next may =
@@ -31,10 +31,10 @@ module _ {P C : Type 0} (gives : P → Partial) (meanings : C → Meanings) wher
 
   -- what each call that is accepted keeps
   module _ (Holds : World P C → Type 0)
-      (kept : (call : Call P C) (out : Out (Reply P C)) (world next : World P C) → May gives meanings world call (Ok out)
+      (kept : (call : Call P C) (out : Out (Reply P C)) (world next : World P C) → StepsTo gives meanings world call (Ok out)
       next → Holds world → Holds next) where
     answered : (call : Call P C) (answer : Result (Out (Reply P C)) Refusal) (world next : World P C)
-        → May gives meanings world call answer next → Holds world → Holds next
+        → StepsTo gives meanings world call answer next → Holds world → Holds next
     answered call (Ok out) world next may h = kept call out world next may h
     answered call (Err refusal) world next may h = subst Holds (sym may.1) h
 
@@ -57,7 +57,7 @@ module _ {P C : Type 0} (gives : P → Partial) (meanings : C → Meanings) wher
     kept_by_changes (both t u) h = kept_by_changes u (kept_by_changes t h)
 
     pub kept_by_call : (call : Call P C) (answer : Result (Out (Reply P C)) Refusal) (world next : World P C)
-        → May gives meanings world call answer next → Holds world → Holds next
+        → StepsTo gives meanings world call answer next → Holds world → Holds next
     kept_by_call call (Ok out) world next may h = kept_by_changes (trail_of call out world next may).changes h
     kept_by_call call (Err refusal) world next may h = subst Holds (sym may.1) h
 

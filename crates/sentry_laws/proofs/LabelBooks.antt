@@ -14,9 +14,9 @@ use Rattle.sentry_options.specs.Meanings.{Meanings}
 use Rattle.sentry_sending.specs.Sending.{send, after_sending}
 use Rattle.sentry_state.specs.declared.state.Out.{Out}
 use Rattle.sentry_state.specs.Books.{with_book, with_entry, is_label, has_client_of, has_book}
-use Rattle.sentry_state.specs.Changes.{with_client_state}
+use Rattle.sentry_state.specs.Changes.{with_client_history}
 use Rattle.sentry_state.specs.Clients.{clone_from}
-use Rattle.sentry_state.specs.Worlds.{World, ClientState, starting_world}
+use Rattle.sentry_state.specs.Worlds.{World, ClientHistory, starting_world}
 use Rattle.sentry_calls.specs.declared.call.Call.{Call}
 use Rattle.sentry_calls.specs.declared.call.Reply.{Reply}
 use Rattle.sentry_calls.specs.Runs.{Run}
@@ -99,7 +99,7 @@ module _ (books : List (ℕ × List LossEntry)) where
   some_replaced n k history = some_replaced-by n k history (value_at books n) refl
 
 module _ {C : Type 0} where
-  pub arrival_label : (arrival : Arrival) (client : ClientState C) → (after_arrival arrival client).label ≡ client.label
+  pub arrival_label : (arrival : Arrival) (client : ClientHistory C) → (after_arrival arrival client).label ≡ client.label
   arrival_label (log_came log) client = refl
   arrival_label (metric_came metric) client = refl
   arrival_label (session_ended update) client = refl
@@ -131,10 +131,10 @@ module _ {P C : Type 0} where
     pub same : (label : Label) → has_book world label ≡ has_client_of label world.clients
 
   -- the label of a client has a book, and the tag of the engine
-  pub label_known : (world : World P C) (n : ℕ) (client : ClientState C) → HasBooks world
+  pub label_known : (world : World P C) (n : ℕ) (client : ClientHistory C) → HasBooks world
       → value_at world.clients n ≡ Some client → has_book world client.label ≡ true
   label_known world n client h found =
-      h.same client.label ∙ passes_found (λ (c : ClientState C). is_label client.label c.label)
+      h.same client.label ∙ passes_found (λ (c : ClientHistory C). is_label client.label c.label)
       world.clients n client found (is_own_label client.label)
 
   pub entered_books : (world : World P C) (label : Label) (entry : LossEntry) → HasBooks world
@@ -162,7 +162,7 @@ module _ {P C : Type 0} where
         ∙ (h.same label ∙ ap (has_client_of label) (sym c)));
   }
 
-  added_books : (world : World P C) (client : ClientState C) → (client.label.tag == world.tag) ≡ true → HasBooks world
+  added_books : (world : World P C) (client : ClientHistory C) → (client.label.tag == world.tag) ≡ true → HasBooks world
       → HasBooks (record world {
         next = record world.next { client = world.next.client + 1 };
         clients = put world.clients world.next.client client;
@@ -180,11 +180,11 @@ module _ {P C : Type 0} where
         ∙ (ap (λ b. b && (client.label.number == label.number)) (other_way world.tag label.tag)
         ∙ ap (λ b. (label.tag == world.tag) && b) (other_way client.label.number label.number)))
         (h.same label)
-        ∙ sym (passes_put (λ (c : ClientState C). is_label label c.label)
+        ∙ sym (passes_put (λ (c : ClientHistory C). is_label label c.label)
         world.next.client client world.clients h.clients));
   }
 
-  cloned_books : (world : World P C) (n : ℕ) (client clone : ClientState C) → value_at world.clients n ≡ Some client
+  cloned_books : (world : World P C) (n : ℕ) (client clone : ClientHistory C) → value_at world.clients n ≡ Some client
       → clone.label ≡ client.label → HasBooks world → HasBooks (record world {
         next = record world.next { client = world.next.client + 1 };
         clients = put world.clients world.next.client clone;
@@ -192,24 +192,24 @@ module _ {P C : Type 0} where
   cloned_books world n client clone found like h = record {
     clients = below_put world.next.client clone world.clients h.clients;
     books = h.books;
-    same = λ label. let has = λ (c : ClientState C). is_label label c.label in
+    same = λ label. let has = λ (c : ClientHistory C). is_label label c.label in
         h.same label
         ∙ (sym (or_known (has_client_of label world.clients) (is_label label clone.label)
         (λ is. passes_found has world.clients n client found (ap (is_label label) (sym like) ∙ is)))
         ∙ sym (passes_put has world.next.client clone world.clients h.clients));
   }
 
-  pub changed_books : (world : World P C) (n : ℕ) (old new : ClientState C) → value_at world.clients n ≡ Some old
+  pub changed_books : (world : World P C) (n : ℕ) (old new : ClientHistory C) → value_at world.clients n ≡ Some old
       → new.label ≡ old.label → HasBooks world → HasBooks (record world { clients = replace_at world.clients n new })
   changed_books world n old new found like h = record {
     clients = below_replaced 0 world.next.client n new world.clients h.clients;
     books = h.books;
-    same = λ label. h.same label ∙ sym (passes_replaced (λ (c : ClientState C). is_label label c.label)
+    same = λ label. h.same label ∙ sym (passes_replaced (λ (c : ClientHistory C). is_label label c.label)
         world.clients n new old found (ap (is_label label) like));
   }
 
   -- the label of the client that is dropped
-  dropped_own : (world : World P C) (n : ℕ) (client : ClientState C) → value_at world.clients n ≡ Some client
+  dropped_own : (world : World P C) (n : ℕ) (client : ClientHistory C) → value_at world.clients n ≡ Some client
       → HasBooks world
       → (left : Bool) → has_client_of client.label (without world.clients n) ≡ left
       → ((client.label.tag == world.tag) && is_some
@@ -250,7 +250,7 @@ module _ {P C : Type 0} where
           ∙ (other_way other.number label.number ∙ e)) in
           absurd cc
 
-  dropped-by : (world : World P C) (n : ℕ) (client : ClientState C) (label : Label)
+  dropped-by : (world : World P C) (n : ℕ) (client : ClientHistory C) (label : Label)
       → value_at world.clients n ≡ Some client → HasBooks world
       → (left : Bool) → has_client_of client.label (without world.clients n) ≡ left → (b : Bool)
       → is_label label client.label ≡ b
@@ -269,10 +269,10 @@ module _ {P C : Type 0} where
   dropped-by world n client label found h left is false e =
       other_book world label client.label left h
       (and_left (client.label.tag == world.tag) _ (label_known world n client h found)) e
-      ∙ (h.same label ∙ sym (passes_without (λ (c : ClientState C). is_label label c.label)
+      ∙ (h.same label ∙ sym (passes_without (λ (c : ClientHistory C). is_label label c.label)
       world.clients n client found e))
 
-  dropped_books : (world : World P C) (n : ℕ) (client : ClientState C) → value_at world.clients n ≡ Some client
+  dropped_books : (world : World P C) (n : ℕ) (client : ClientHistory C) → value_at world.clients n ≡ Some client
       → HasBooks world → HasBooks (record world {
         clients = without world.clients n;
         books = if has_client_of client.label (without world.clients n)
@@ -309,14 +309,14 @@ module _ {P C : Type 0} (meanings : C → Meanings) where
       (dropped_books world key.number client (found_under world.tag world.clients key.tag key.number client found) h)
   books_change (arrives world key client arrival is_off found open_ came) h =
       sending_books client.label (send key client (envelopes_on_arrival arrival client)
-      (with_client_state world key (after_arrival arrival client))).sent
-      (with_client_state world key (after_arrival arrival client))
+      (with_client_history world key (after_arrival arrival client))).sent
+      (with_client_history world key (after_arrival arrival client))
       (changed_books world key.number client (after_arrival arrival client)
       (found_under world.tag world.clients key.tag key.number client found) (arrival_label arrival client) h)
   books_change (accepts world key client arrival is_log is_off found open_ came) h =
       sending_books client.label (send key client (envelopes_on_arrival arrival client)
-      (with_client_state world key (after_arrival arrival client))).sent
-      (with_client_state world key (after_arrival arrival client))
+      (with_client_history world key (after_arrival arrival client))).sent
+      (with_client_history world key (after_arrival arrival client))
       (changed_books world key.number client (after_arrival arrival client)
       (found_under world.tag world.clients key.tag key.number client found) (arrival_label arrival client) h)
   books_change (mails world key client envelope found occupied none told_) h = entered_books world client.label report_point h

@@ -32,6 +32,9 @@ pub mod OwnAlone
 pub mod Absorbed
 pub mod LabelBooks
 pub mod Reports
+pub mod LossEntries
+pub mod LossesByCalls
+pub mod CallsAddUp
 pub mod Numbers
 pub mod Traces
 pub mod Layers

@@ -5,15 +5,15 @@ use Rattle.sentry_base.specs.Callbacks.{Partial}
 use Rattle.sentry_base.specs.declared.protocol.refusal.Refusal.{Refusal}
 use Rattle.sentry_options.specs.Meanings.{Meanings}
 use Rattle.sentry_state.specs.declared.state.Out.{Out}
-use Rattle.sentry_state.specs.Worlds.{World, SessionState, starting_world}
-use Rattle.sentry_calls.specs.Runs.{May, Run}
+use Rattle.sentry_state.specs.Worlds.{World, SessionHistory, starting_world}
+use Rattle.sentry_calls.specs.Runs.{StepsTo, Run}
 use Rattle.sentry_calls.specs.declared.call.Call.{Call}
 use Rattle.sentry_calls.specs.declared.call.Reply.{Reply}
 use Rattle.sentry_laws.specs.Reachable.{SessionsAreNamed}
 use Rattle.sentry_laws.proofs.Keeping.{trail_of, kept_by_calls}
 use Rattle.sentry_laws.proofs.Numbered.{IsNumbered, numbered_changes, none_numbered}
 
-none_held : (own : Bool) (session : SessionState) → (if own then None else None) ≡ Some session → ⊥
+none_held : (own : Bool) (session : SessionHistory) → (if own then None else None) ≡ Some session → ⊥
 none_held true session h = absurd cc
 none_held false session h = absurd cc
 
@@ -30,7 +30,7 @@ module _ {P C : Type 0} where
 
 module _ {P C : Type 0} (gives : P → Partial) (meanings : C → Meanings) where
   named_next : (call : Call P C) (out : Out (Reply P C)) (world next : World P C)
-      → May gives meanings world call (Ok out) next → NamesSessions world → NamesSessions next
+      → StepsTo gives meanings world call (Ok out) next → NamesSessions world → NamesSessions next
   named_next call out world next may h =
       let trail = trail_of gives meanings call out world next may in
       record {

@@ -17,9 +17,9 @@ use Rattle.sentry_scope.specs.Stacks.{one_layer, push, top_alone, is_session, na
 use Rattle.sentry_hub_table.specs.Hubs.{is_session_named}
 use Rattle.sentry_hub_table.specs.declared.hub.Hub.{Hub}
 use Rattle.sentry_sending.specs.Sending.{send, after_sending}
-use Rattle.sentry_state.specs.Changes.{with_client_state}
+use Rattle.sentry_state.specs.Changes.{with_client_history}
 use Rattle.sentry_state.specs.Outcomes.{session_at}
-use Rattle.sentry_state.specs.Worlds.{World, SessionState}
+use Rattle.sentry_state.specs.Worlds.{World, SessionHistory}
 use Rattle.sentry_laws.proofs.Effects.{Effect, LayerChange, scope_edited, breadcrumbs_came, client_bound, layer_pushed, layer_popped, session_named, hub_changed, hub_released, session_begun, change_layers, add_under}
 use Rattle.sentry_laws.proofs.Changes.{Change, Changes, nothing, one, both, held_options, after_arrival, envelopes_on_arrival, makes_hub, makes_hub_from, changes_hub, leaves_hub, notes_event_id, releases_hub, adds_client, clones_client, drops_client, arrives, accepts, accepts_none, mails, loses, takes_report, absorbs, starts_none, starts_session, changes_session, ends_session, starts_transaction, starts_span, changes_spans}
 use Rattle.sentry_laws.specs.Reachable.{SessionsAreNamed}
@@ -65,20 +65,20 @@ module _ {P C : Type 0} where
 -- ---- sessions that are found
 
 -- what is found after one of the sessions changed was found before
-replaced_before : (sessions : List (ℕ × SessionState)) (number k : ℕ) (old new session : SessionState) (own : Bool)
+replaced_before : (sessions : List (ℕ × SessionHistory)) (number k : ℕ) (old new session : SessionHistory) (own : Bool)
     → value_at sessions number ≡ Some old → (if own then value_at (replace_at sessions number new) k else None)
-    ≡ Some session → (before : SessionState) × ((if own then value_at sessions k else None) ≡ Some before)
+    ≡ Some session → (before : SessionHistory) × ((if own then value_at sessions k else None) ≡ Some before)
 replaced_before sessions number k old new session true found at =
     by_number (k == number) refl (sym (found_replaced sessions number k new old found) ∙ at)
   where
     by_number : (b : Bool) → (k == number) ≡ b → (if b then Some new else value_at sessions k) ≡ Some session
-        → (before : SessionState) × (value_at sessions k ≡ Some before)
+        → (before : SessionHistory) × (value_at sessions k ≡ Some before)
     by_number true e h = (old, ap (value_at sessions) (same_number k number e) ∙ found)
     by_number false e h = (session, h)
 replaced_before sessions number k old new session false found at = absurd cc
 
 -- what is found after one of the sessions went is another one, and was found before
-pub without_before : (next : ℕ) (sessions : List (ℕ × SessionState)) (number k : ℕ) (session : SessionState)
+pub without_before : (next : ℕ) (sessions : List (ℕ × SessionHistory)) (number k : ℕ) (session : SessionHistory)
     (own : Bool) → AreBelow 0 next sessions → (if own then value_at (without sessions number) k else None)
     ≡ Some session → ((k == number) ≡ false) × ((if own then value_at sessions k else None) ≡ Some session)
 without_before next sessions number k session true below at =
@@ -137,7 +137,7 @@ module _ {P C : Type 0} where
   -- the session of the key is named, if it is held
   abbrev pub IsNamed : World P C → SessionKey → Type 0
   IsNamed world key =
-      (session : SessionState) → session_at world key ≡ Some session → is_session_named key world.hubs ≡ true
+      (session : SessionHistory) → session_at world key ≡ Some session → is_session_named key world.hubs ≡ true
 
   hub_more : (world : World P C) (stack : Stack P) (key : SessionKey) → IsNumbered world
       → is_session_named key world.hubs ≡ true
@@ -179,12 +179,12 @@ module _ {P C : Type 0} (meanings : C → Meanings) where
   named_change (drops_client world key client label found same none) calm n h = h
   named_change (arrives world key client arrival is_off found open_ came) calm n h =
       named_sending client.label (send key client (envelopes_on_arrival arrival client)
-      (with_client_state world key (after_arrival arrival client))).sent
-      (with_client_state world key (after_arrival arrival client)) h
+      (with_client_history world key (after_arrival arrival client))).sent
+      (with_client_history world key (after_arrival arrival client)) h
   named_change (accepts world key client arrival is_log is_off found open_ came) calm n h =
       named_sending client.label (send key client (envelopes_on_arrival arrival client)
-      (with_client_state world key (after_arrival arrival client))).sent
-      (with_client_state world key (after_arrival arrival client)) h
+      (with_client_history world key (after_arrival arrival client))).sent
+      (with_client_history world key (after_arrival arrival client)) h
   named_change (mails world key client envelope found occupied plain told_) calm n h = h
   named_change (loses world key client losses found) calm n h = h
   named_change (takes_report world label has) calm n h = h

@@ -6,11 +6,11 @@ use Rattle.sentry_base.specs.declared.protocol.keys.ClientKey.{ClientKey}
 use Rattle.sentry_base.specs.declared.protocol.keys.Label.{Label}
 use Rattle.sentry_options.specs.Meanings.{Meanings}
 use Rattle.sentry_sending.specs.Sending.{send, after_sending}
-use Rattle.sentry_span_table.specs.SpanLists.{TransactionState, with_finished}
+use Rattle.sentry_span_table.specs.SpanLists.{TransactionHistory, with_span_finished}
 use Rattle.sentry_span_table.specs.declared.table.records.SpanRecord.{SpanRecord}
-use Rattle.sentry_state.specs.Changes.{with_client_state}
+use Rattle.sentry_state.specs.Changes.{with_client_history}
 use Rattle.sentry_state.specs.Clients.{clone_from}
-use Rattle.sentry_state.specs.Worlds.{World, ClientState, starting_world}
+use Rattle.sentry_state.specs.Worlds.{World, ClientHistory, starting_world}
 use Rattle.sentry_laws.proofs.Effects.{Effect}
 use Rattle.sentry_laws.proofs.Changes.{Change, Changes, nothing, one, both, SpanChange, changes_transaction, changes_span, keeps_span, drops_transaction, drops_span, after_arrival, envelopes_on_arrival, makes_hub, makes_hub_from, changes_hub, leaves_hub, notes_event_id, releases_hub, adds_client, clones_client, drops_client, arrives, accepts, accepts_none, mails, loses, takes_report, absorbs, starts_none, starts_session, changes_session, ends_session, starts_transaction, starts_span, changes_spans}
 use Rattle.sentry_laws.proofs.Tables.{AreBelow, below_put, below_replaced, below_without}
@@ -36,8 +36,8 @@ module _ {P C : Type 0} where
     spans = h.spans;
   }
 
-  pub client_numbered : (world : World P C) (key : ClientKey) (new : ClientState C) → IsNumbered world
-      → IsNumbered (with_client_state world key new)
+  pub client_numbered : (world : World P C) (key : ClientKey) (new : ClientHistory C) → IsNumbered world
+      → IsNumbered (with_client_history world key new)
   client_numbered world key new h =
       record {
         clients = below_replaced 0 world.next.client key.number new world.clients h.clients;
@@ -48,7 +48,7 @@ module _ {P C : Type 0} where
         spans = h.spans;
       }
 
-  numbered_spans : (world : World P C) (transactions : List (ℕ × TransactionState)) (spans : List (ℕ × SpanRecord))
+  numbered_spans : (world : World P C) (transactions : List (ℕ × TransactionHistory)) (spans : List (ℕ × SpanRecord))
       → SpanChange world transactions spans → IsNumbered world
       → IsNumbered (record world { transactions = transactions; spans = spans })
   numbered_spans world transactions spans (changes_transaction number old new found traced finished) h = record {
@@ -70,7 +70,7 @@ module _ {P C : Type 0} where
     hubs = h.hubs;
     sessions = h.sessions;
     spans = h.spans;
-    transactions = below_replaced 0 world.next.transaction held.transaction.number (with_finished held.span state)
+    transactions = below_replaced 0 world.next.transaction held.transaction.number (with_span_finished held.span state)
         world.transactions h.transactions;
   }
   numbered_spans world transactions spans (drops_transaction key state at unnamed spanless) h = record {
@@ -169,8 +169,8 @@ module _ {P C : Type 0} (meanings : C → Meanings) where
       }
   numbered_change (arrives world key client arrival is_off found open_ came) h =
       numbered_sending client.label (send key client (envelopes_on_arrival arrival client)
-      (with_client_state world key (after_arrival arrival client))).sent
-      (with_client_state world key (after_arrival arrival client))
+      (with_client_history world key (after_arrival arrival client))).sent
+      (with_client_history world key (after_arrival arrival client))
       (record {
         clients = below_replaced 0 world.next.client key.number (after_arrival arrival client)
             world.clients h.clients;
@@ -181,8 +181,8 @@ module _ {P C : Type 0} (meanings : C → Meanings) where
       })
   numbered_change (accepts world key client arrival is_log is_off found open_ came) h =
       numbered_sending client.label (send key client (envelopes_on_arrival arrival client)
-      (with_client_state world key (after_arrival arrival client))).sent
-      (with_client_state world key (after_arrival arrival client))
+      (with_client_history world key (after_arrival arrival client))).sent
+      (with_client_history world key (after_arrival arrival client))
       (record {
         clients = below_replaced 0 world.next.client key.number (after_arrival arrival client)
             world.clients h.clients;

@@ -8,7 +8,7 @@ use Rattle.sentry_state.specs.declared.state.Out.{Out}
 use Rattle.sentry_state.specs.Worlds.{World}
 use Rattle.sentry_calls.specs.declared.call.Call.{Call}
 use Rattle.sentry_calls.specs.declared.call.Reply.{Reply}
-use Rattle.sentry_calls.specs.Runs.{May, Run}
+use Rattle.sentry_calls.specs.Runs.{StepsTo, Run}
 use Rattle.sentry_laws.specs.PartsOfRuns.{OfRun, FromEachCall, RunsSplit}
 
 module _ {P C : Type 0} (gives : P → Partial) (meanings : C → Meanings) where
@@ -23,7 +23,7 @@ module _ {P C : Type 0} (gives : P → Partial) (meanings : C → Meanings) wher
   -- what holds of each run from a world of some kind holds from each call on, where calls lead to such worlds
   module _ (IsSo : OfRun gives meanings) (Holds : World P C → Type 0)
       (kept : (call : Call P C) (answer : Result (Out (Reply P C)) Refusal) (world next : World P C)
-      → May gives meanings world call answer next → Holds world → Holds next)
+      → StepsTo gives meanings world call answer next → Holds world → Holds next)
       (so : (world : World P C) (calls : List (Call P C)) (answers : List (Result (Out (Reply P C)) Refusal))
       (last : World P C) (run : Run gives meanings world calls answers last) → Holds world
       → IsSo world calls answers last run) where

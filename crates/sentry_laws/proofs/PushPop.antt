@@ -23,7 +23,7 @@ use Rattle.sentry_hub_table.specs.declared.hub.Hub.{Hub}
 use Rattle.sentry_state.specs.declared.state.Out.{Out}
 use Rattle.sentry_state.specs.Worlds.{World, starting_world}
 use Rattle.sentry_state.specs.Outcomes.{hub_at, with_stack, with_hub, require_some, require, reply_with}
-use Rattle.sentry_state.specs.Changes.{with_session, with_client_state}
+use Rattle.sentry_state.specs.Changes.{with_session, with_client_history}
 use Rattle.sentry_sending.specs.Sending.{after_sending, send}
 use Rattle.sentry_sending.specs.SessionEnds.{release_session}
 use Rattle.sentry_calls.specs.declared.call.Call.{Call}
@@ -35,9 +35,9 @@ use Rattle.sentry_calls.specs.declared.call.hubs.HubCall.TheVariants.{NewHub, Ne
 use Rattle.sentry_calls.specs.declared.call.Reply.{Reply}
 use Rattle.sentry_calls.specs.declared.call.Reply.TheVariants as reply
 use Rattle.sentry_calls.specs.Layers as layer_calls
-use Rattle.sentry_calls.specs.Runs.{May, Run}
+use Rattle.sentry_calls.specs.Runs.{StepsTo, Run}
 use Rattle.sentry_calls.specs.Steps.{step, hub_step}
-use Rattle.sentry_span_calls.specs.Replies.{map_answer}
+use Rattle.sentry_calls.specs.Replies.{map_answer}
 use Rattle.sentry_laws.proofs.Effects.{Effect, LayerChange, scope_edited, breadcrumbs_came, client_bound, layer_pushed, layer_popped, session_named, hub_changed, hub_made, hub_made_from, hub_released, losses_absorbed, report_taken, session_begun, client_dropped, item_came, client_added, client_cloned, effects, client_effects, hub_effects, on_client, on_hub, on_report, change_layers, add_under}
 use Rattle.sentry_laws.proofs.Changes.{Change, Changes, nothing, one, both, held_options, IsAllowed, after_arrival, envelopes_on_arrival, makes_hub, makes_hub_from, changes_hub, leaves_hub, notes_event_id, releases_hub, adds_client, clones_client, drops_client, arrives, accepts, accepts_none, mails, loses, takes_report, absorbs, starts_none, starts_session, changes_session, ends_session, starts_transaction, starts_span, changes_spans}
 use Rattle.sentry_laws.specs.SentItems.{handed_in}
@@ -252,13 +252,13 @@ module _ {P C : Type 0} (meanings : C → Meanings) (n : ℕ) (base : List (Stac
       record { hub = o.hub; found = o.found; on = o.on; hubs = o.hubs }
   on_change (arrives world key client arrival is_off found open_ came) long h o =
       sending_on client.label (send key client (envelopes_on_arrival arrival client)
-      (with_client_state world key (after_arrival arrival client))).sent
-      (with_client_state world key (after_arrival arrival client))
+      (with_client_history world key (after_arrival arrival client))).sent
+      (with_client_history world key (after_arrival arrival client))
       (record { hub = o.hub; found = o.found; on = o.on; hubs = o.hubs })
   on_change (accepts world key client arrival is_log is_off found open_ came) long h o =
       sending_on client.label (send key client (envelopes_on_arrival arrival client)
-      (with_client_state world key (after_arrival arrival client))).sent
-      (with_client_state world key (after_arrival arrival client))
+      (with_client_history world key (after_arrival arrival client))).sent
+      (with_client_history world key (after_arrival arrival client))
       (record { hub = o.hub; found = o.found; on = o.on; hubs = o.hubs })
   on_change (mails world key client envelope found occupied none told_) long h o =
       record { hub = o.hub; found = o.found; on = o.on; hubs = o.hubs }
@@ -375,7 +375,7 @@ module _ {P C : Type 0} (meanings : C → Meanings) (n : ℕ) (base : List (Stac
 
 module _ {P C : Type 0} (gives : P → Partial) (meanings : C → Meanings) (n : ℕ) (base : List (StackLayer P)) where
   on_next : (call : Call P C) (out : Out (Reply P C)) (world next : World P C) → 0 < length base
-      → pops n (length base) call ≡ false → May gives meanings world call (Ok out) next
+      → pops n (length base) call ≡ false → StepsTo gives meanings world call (Ok out) next
       → OnBase {C = C} meanings n base world → OnBase {C = C} meanings n base next
   on_next call out world next long keeps may o =
       let after = (step gives meanings call world).after in
@@ -427,7 +427,7 @@ module _ {P C : Type 0} (gives : P → Partial) (meanings : C → Meanings) wher
         });
       }
 
-  opened_by : (first open_ : World P C) (key : HubKey) (deep : ℕ) (opened : Out (Reply P C)) → May gives meanings first
+  opened_by : (first open_ : World P C) (key : HubKey) (deep : ℕ) (opened : Out (Reply P C)) → StepsTo gives meanings first
       (group.Hub (PushScope key)) (Ok opened) open_
       → opened.reply ≡ reply.Depth deep → AreBelow 0 first.next.hub first.hubs → Opened first open_ key.number deep
   unfolding hub_step layer_calls.push_scope
@@ -482,7 +482,7 @@ module _ {P C : Type 0} (gives : P → Partial) (meanings : C → Meanings) wher
       refl answer after
 
   closed_by : (middle last : World P C) (key : HubKey) (given now : ℕ) (closed : Out (Reply P C))
-      → May gives meanings middle (group.Hub (PopScope key given now)) (Ok closed) last
+      → StepsTo gives meanings middle (group.Hub (PopScope key given now)) (Ok closed) last
       → Closed middle last key.number given
   unfolding hub_step layer_calls.pop_scope
   closed_by middle last key given now closed may = closed_from middle last key given now closed (hub_at middle key)
@@ -503,7 +503,7 @@ module _ {P C : Type 0} (gives : P → Partial) (meanings : C → Meanings) wher
 
   popped_hub : (n : ℕ) (stack : Stack P) (call : HubCall P) (out : Out (Reply P C)) (world next : World P C)
       → pops {P = P} {C = C} n (length (layers stack)) (group.Hub call) ≡ true
-      → May gives meanings world (group.Hub call) (Ok out) next → OnBase {C = C} meanings n (layers stack) world
+      → StepsTo gives meanings world (group.Hub call) (Ok out) next → OnBase {C = C} meanings n (layers stack) world
       → stack_at next n ≡ Some stack
   popped_hub n stack (PopScope hub given now) out world next is may m =
       let number : hub.number ≡ n = same_number hub.number n (and_left (hub.number == n) _ is) in
@@ -514,7 +514,7 @@ module _ {P C : Type 0} (gives : P → Partial) (meanings : C → Meanings) wher
   popped_hub n stack call out world next is may m = absurd cc
 
   popped_by : (n : ℕ) (stack : Stack P) (call : Call P C) (out : Out (Reply P C)) (world next : World P C)
-      → pops n (length (layers stack)) call ≡ true → May gives meanings world call (Ok out) next
+      → pops n (length (layers stack)) call ≡ true → StepsTo gives meanings world call (Ok out) next
       → OnBase {C = C} meanings n (layers stack) world → stack_at next n ≡ Some stack
   popped_by n stack (group.Hub call) out world next is may m = popped_hub n stack call out world next is may m
   popped_by n stack (group.Client call) out world next is may m = absurd cc
@@ -551,7 +551,7 @@ module _ {P C : Type 0} (gives : P → Partial) (meanings : C → Meanings) wher
   undone world (call ∷ calls) [] last run n = tt
   undone world (call ∷ calls) (Err refusal ∷ answers) last run n = tt
   undone world (call ∷ calls) (Ok out ∷ answers) last run n = λ hub depth is replied.
-      let pushed_ = subst (λ c. May gives meanings world c (Ok out) run.0) is run.1 in
+      let pushed_ = subst (λ c. StepsTo gives meanings world c (Ok out) run.0) is run.1 in
       let o : Opened world run.0 hub.number depth = opened_by world run.0 hub depth out pushed_ replied n.hubs in
       subst (λ (s : Option (Stack P)). PopLeaves gives meanings hub.number depth s run.0 calls answers last run.2)
       (sym (ap (option_map (λ (h : Hub P). h.stack)) o.found))

@@ -13,7 +13,7 @@ use Rattle.sentry_scope.specs.Stacks.{depth, pop, stack_of, stack_of_any, is_ses
 use Rattle.sentry_sessions.specs.Sessions.{closed, session_of, pending_update}
 use Rattle.sentry_sessions.specs.declared.session.record.SessionStart.{SessionStart}
 use Rattle.sentry_hub_table.specs.declared.hub.Hub.{Hub}
-use Rattle.sentry_state.specs.Worlds.{World, SessionState}
+use Rattle.sentry_state.specs.Worlds.{World, SessionHistory}
 use Rattle.sentry_state.specs.Outcomes.{session_at, transaction_at, value_under, with_stack}
 use Rattle.sentry_state.specs.Changes.{with_session, with_new_session}
 use Rattle.sentry_sending.specs.Sending.{Sending, send_nothing, send_some}
@@ -22,7 +22,7 @@ use Rattle.sentry_sending.specs.Sessions.{replace_session}
 use Rattle.sentry_span_edits.specs.Setters.{with_edited, with_found_edited}
 use Rattle.sentry_span_edits.specs.declared.edit.SpanEdit.{SpanEdit}
 use Rattle.sentry_span_edits.specs.declared.edit.SpanEdit.TheVariants.{Name}
-use Rattle.sentry_span_table.specs.SpanLists.{TransactionState}
+use Rattle.sentry_span_table.specs.SpanLists.{TransactionHistory}
 use Rattle.sentry_calls.specs.Hubs.{with_names}
 use Rattle.sentry_laws.specs.Reachable.{SessionsAreNamed}
 use Rattle.sentry_laws.proofs.Tables.{AreBelow, below_put, own_replaced}
@@ -80,13 +80,13 @@ module _ {P C : Type 0} where
   -- ---- a session that ends
 
   -- these sessions are left where the session of a key ended, if it was held
-  abbrev AreLeft : World P C → SessionKey → List (ℕ × SessionState) → Type 0
+  abbrev AreLeft : World P C → SessionKey → List (ℕ × SessionHistory) → Type 0
   AreLeft world key sessions =
       ((session_at world key ≡ None) × (sessions ≡ world.sessions)) ⊎ (sessions ≡ without world.sessions key.number)
 
-  left_by : (world : World P C) (key : SessionKey) (o : Option SessionState) (go : SessionState → Sending P C)
+  left_by : (world : World P C) (key : SessionKey) (o : Option SessionHistory) (go : SessionHistory → Sending P C)
       → session_at world key ≡ o
-      → ((session : SessionState) → (go session).after.sessions ≡ without world.sessions key.number)
+      → ((session : SessionHistory) → (go session).after.sessions ≡ without world.sessions key.number)
       → AreLeft world key (send_some world o go).after.sessions
   left_by world key None go found same = inl (found, refl)
   left_by world key (Some session) go found same = inr (same session)
@@ -104,14 +104,14 @@ module _ {P C : Type 0} where
       world
 
   -- a session that is held is no other that isn't
-  not_held : (world : World P C) (key k : SessionKey) (session : SessionState) (b : Bool) → is_session k (Some key) ≡ b
+  not_held : (world : World P C) (key k : SessionKey) (session : SessionHistory) (b : Bool) → is_session k (Some key) ≡ b
       → session_at world key ≡ None → session_at world k ≡ Some session → b ≡ false
   not_held world key k session true e none found =
       let none_here : None ≡ Some session = sym none ∙ (ap (session_at world) (same_key key k e) ∙ found) in absurd cc
   not_held world key k session false e none found = refl
 
-  others_left : (world : World P C) (key k : SessionKey) (next : ℕ) (sessions : List (ℕ × SessionState))
-      (session : SessionState) → AreBelow 0 next world.sessions → AreLeft world key sessions
+  others_left : (world : World P C) (key k : SessionKey) (next : ℕ) (sessions : List (ℕ × SessionHistory))
+      (session : SessionHistory) → AreBelow 0 next world.sessions → AreLeft world key sessions
       → value_under world.tag sessions k.tag k.number ≡ Some session
       → (session_at world k ≡ Some session) × (is_session k (Some key) ≡ false)
   others_left world key k next sessions session below (inl e) at =
@@ -124,7 +124,7 @@ module _ {P C : Type 0} where
       (before.1, and_false (key.tag == k.tag) (key.number == k.number) (other_way k.number key.number false before.0))
 
   -- a session that is still held after another one ended, was held, and is another one
-  held_still : (key k : SessionKey) (now : ℕ) (world : World P C) (next : ℕ) (session : SessionState)
+  held_still : (key k : SessionKey) (now : ℕ) (world : World P C) (next : ℕ) (session : SessionHistory)
       → AreBelow 0 next world.sessions → session_at (end_session key None now world).after k ≡ Some session
       → (session_at world k ≡ Some session) × (is_session k (Some key) ≡ false)
   held_still key k now world next session below at =
@@ -137,7 +137,7 @@ module _ {P C : Type 0} where
 
   -- a session that is still held where a layer gave up one of this name, was held, and is another one or still named
   given_up : (name : Option SessionKey) (k : SessionKey) (now : ℕ) (world : World P C) (next : ℕ)
-      (session : SessionState) → AreBelow 0 next world.sessions
+      (session : SessionHistory) → AreBelow 0 next world.sessions
       → session_at (end_unnamed_session name now world).after k ≡ Some session
       → (session_at world k ≡ Some session) × ((is_session k name ≡ false) ⊎ (is_session_named k world.hubs ≡ true))
   unfolding end_unnamed_session
@@ -228,7 +228,7 @@ module _ {P C : Type 0} where
       (found_released number hub now world found) (none_on key hub.stack.below alone)
       ∙ all_released_named number hub now world found n h key session at
 
-  edited_named : (by : SpanEdit) (number : ℕ) (o : Option TransactionState) (world : World P C)
+  edited_named : (by : SpanEdit) (number : ℕ) (o : Option TransactionHistory) (world : World P C)
       → SessionsAreNamed world → SessionsAreNamed (with_found_edited by number o world)
   edited_named by number None world h = h
   edited_named by number (Some state) world h = h
@@ -244,7 +244,7 @@ module _ {P C : Type 0} where
   -- ---- a session that starts in place of another
 
   -- another session than the next one was held before it
-  started_before : (world : World P C) (start : SessionStart) (key : SessionKey) (session : SessionState) (own : Bool)
+  started_before : (world : World P C) (start : SessionStart) (key : SessionKey) (session : SessionHistory) (own : Bool)
       → (key.tag == world.tag) ≡ own
       → is_session key (Some (record { tag = world.tag; number = world.next.session })) ≡ false
       → (if own then value_at (with_new_session start world).sessions key.number else None) ≡ Some session

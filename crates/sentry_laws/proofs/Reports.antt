@@ -22,18 +22,18 @@ use Rattle.sentry_base.specs.declared.protocol.refusal.Refusal.TheVariants.{Stal
 use Rattle.sentry_client_reports.specs.LossBooks.{LossEntry, engine_losses, drained_losses, report_point, pending_losses, report_items, report_of}
 use Rattle.sentry_options.specs.Meanings.{Meanings}
 use Rattle.sentry_options.specs.declared.clientoptions.ClientOptions.{ClientOptions}
-use Rattle.sentry_queues.specs.declared.flushes.TheConstants.{SESSION_INTERVAL}
-use Rattle.sentry_queues.specs.Flushes.{batch_envelopes, flushed_logs, flushed_metrics, is_flushed}
+use Rattle.sentry_telemetry.specs.declared.flushes.TheConstants.{SESSION_INTERVAL}
+use Rattle.sentry_telemetry.specs.Flushes.{batch_envelopes, flushed_logs, flushed_metrics, is_flushed}
 use Rattle.sentry_sending.specs.Sending.{send, after_sending, for_client, envelopes_from}
 use Rattle.sentry_state.specs.declared.state.Out.{Out}
 use Rattle.sentry_state.specs.Books.{with_book, with_entry, is_label, has_client_of, has_book, pending_report}
-use Rattle.sentry_state.specs.Changes.{with_client_state}
+use Rattle.sentry_state.specs.Changes.{with_client_history}
 use Rattle.sentry_state.specs.Outcomes.{client_at, require, require_some, reply_with}
-use Rattle.sentry_state.specs.Worlds.{World, ClientState, starting_world}
-use Rattle.sentry_span_calls.specs.Replies.{map_answer}
+use Rattle.sentry_state.specs.Worlds.{World, ClientHistory, starting_world}
+use Rattle.sentry_calls.specs.Replies.{map_answer}
 use Rattle.sentry_batches.specs.Batches.{accept, batch_on}
 use Rattle.sentry_calls.specs.Clients as clients
-use Rattle.sentry_calls.specs.Runs.{May, Run}
+use Rattle.sentry_calls.specs.Runs.{StepsTo, Run}
 use Rattle.sentry_calls.specs.Steps.{client_step}
 use Rattle.sentry_calls.specs.declared.call.Call.{Call}
 use Rattle.sentry_calls.specs.declared.call.Call.TheVariants as group
@@ -158,7 +158,7 @@ reports_of (Some logs) None = refl
 reports_of (Some logs) (Some metrics) = refl
 
 module _ {C : Type 0} where
-  no_reports : (arrival : Arrival) (client : ClientState C) → all_batches report_batch
+  no_reports : (arrival : Arrival) (client : ClientHistory C) → all_batches report_batch
       (envelopes_on_arrival arrival client) ≡ []
   no_reports (log_came log) client =
       reports_of (batch_on client.options.plain.max_batch_items (accept log) client.queues.logs) None
@@ -350,7 +350,7 @@ module _ (label : Label) (i : ℕ) where
     -- what was told is what the book of the label says, and these are the clients that have the label
     record Adds (told : ℕ) (world : World P C) : Type 0 where
       books : HasBooks world
-      labels : (key : ClientKey) (client : ClientState C) → client_at world key ≡ Some client
+      labels : (key : ClientKey) (client : ClientHistory C) → client_at world key ≡ Some client
           → of_label key ≡ is_label label client.label
       adds : (label.tag == world.tag) ≡ true → (history : List LossEntry)
           → value_at world.books label.number ≡ Some history → told ≡ reported history i
@@ -456,7 +456,7 @@ module _ (label : Label) (i : ℕ) where
         (entered told 0 world other entry books has (λ held at is. tells held ∙ sym (no_more (reported held i)))
         (λ is. refl) a)
 
-    found_known : (world : World P C) (key : ClientKey) (client : ClientState C) → HasBooks world
+    found_known : (world : World P C) (key : ClientKey) (client : ClientHistory C) → HasBooks world
         → client_at world key ≡ Some client → has_book world client.label ≡ true
     found_known world key client books found =
         label_known world key.number client books (found_under world.tag world.clients key.tag key.number client found)
@@ -502,12 +502,12 @@ module _ (label : Label) (i : ℕ) where
     left-book false n world history books at = left_over (label.number == n) (value_at world.books label.number) history
         (sym (without_if 0 n label.number world.books books.books) ∙ at)
 
-    client_left : (world : World P C) (number : ℕ) (key : ClientKey) (client : ClientState C) → HasBooks world
+    client_left : (world : World P C) (number : ℕ) (key : ClientKey) (client : ClientHistory C) → HasBooks world
         → (if key.tag == world.tag then value_at (without world.clients number) key.number else None) ≡ Some client
         → client_at world key ≡ Some client
     client_left world number key client books at = by_tag (key.tag == world.tag) refl at
       where
-        by_number : (b : Bool) (o : Option (ClientState C)) → (if b then None else o) ≡ Some client → o ≡ Some client
+        by_number : (b : Bool) (o : Option (ClientHistory C)) → (if b then None else o) ≡ Some client → o ≡ Some client
         by_number true o h = absurd cc
         by_number false o h = h
 
@@ -520,9 +520,9 @@ module _ (label : Label) (i : ℕ) where
             (sym (found_without 0 world.next.client world.clients number key.number books.clients) ∙ at)
         by_tag false e at = absurd cc
 
-    client_changed : (world : World P C) (number : ℕ) (old new : ClientState C) (key : ClientKey)
-        (client : ClientState C) → value_at world.clients number ≡ Some old → new.label ≡ old.label
-        → ((other : ClientState C) → client_at world key ≡ Some other → of_label key ≡ is_label label other.label)
+    client_changed : (world : World P C) (number : ℕ) (old new : ClientHistory C) (key : ClientKey)
+        (client : ClientHistory C) → value_at world.clients number ≡ Some old → new.label ≡ old.label
+        → ((other : ClientHistory C) → client_at world key ≡ Some other → of_label key ≡ is_label label other.label)
         → (if key.tag == world.tag then value_at (replace_at world.clients number new) key.number else None)
         ≡ Some client → of_label key ≡ is_label label client.label
     client_changed world number old new key client found like labels at = by_tag (key.tag == world.tag) refl at
@@ -534,7 +534,7 @@ module _ (label : Label) (i : ℕ) where
             let same : new ≡ client = cc in
             labels old (ap (λ b. if b then value_at world.clients key.number else None) t
             ∙ (ap (value_at world.clients) (same_number key.number number e) ∙ found))
-            ∙ (ap (is_label label) (sym like) ∙ ap (λ (c : ClientState C). is_label label c.label) same)
+            ∙ (ap (is_label label) (sym like) ∙ ap (λ (c : ClientHistory C). is_label label c.label) same)
         by_number false t e h = labels client (ap (λ b. if b then value_at world.clients key.number else None) t ∙ h)
 
         by_tag : (b : Bool) → (key.tag == world.tag) ≡ b
@@ -578,7 +578,7 @@ module _ (label : Label) (i : ℕ) where
                 other.number world history a.books at);
           })
       adds_change (arrives world key client arrival is_off found open_ came) none books told a =
-          let arrived = with_client_state world key (after_arrival arrival client) in
+          let arrived = with_client_history world key (after_arrival arrival client) in
           let middle : HasBooks arrived = changed_books world key.number client (after_arrival arrival client)
           (found_under world.tag world.clients key.tag key.number client found) (arrival_label arrival client)
           a.books in
@@ -598,7 +598,7 @@ module _ (label : Label) (i : ℕ) where
             adds = a.adds;
           }))
       adds_change (accepts world key client arrival is_log is_off found open_ came) none books told a =
-          let arrived = with_client_state world key (after_arrival arrival client) in
+          let arrived = with_client_history world key (after_arrival arrival client) in
           let middle : HasBooks arrived = changed_books world key.number client (after_arrival arrival client)
           (found_under world.tag world.clients key.tag key.number client found) (arrival_label arrival client)
           a.books in
@@ -696,11 +696,11 @@ module _ {P C : Type 0} where
 
   -- the same after one, with a client that is found
   accepted_found : {T : Type 0} (f : T → Reply P C) (world next : World P C) (first second : Refusal)
-      (o : Option (ClientState C)) (c : Bool) (made : T) (after : ClientState C → World P C) (out : Out (Reply P C))
+      (o : Option (ClientHistory C)) (c : Bool) (made : T) (after : ClientHistory C → World P C) (out : Out (Reply P C))
       → map_answer f (require_some first world o
       (λ client. require second world c (reply_with made [] (after client)))).answer ≡ Ok out
       → next ≡ (require_some first world o (λ client. require second world c (reply_with made [] (after client)))).after
-      → (client : ClientState C)
+      → (client : ClientHistory C)
       × (◌≡◌ {A = Result (Out (Reply P C)) Refusal} (Ok out) (Ok (record { reply = f made; sent = [] })))
       × (next ≡ after client)
   accepted_found f world next first second (Some client) true made after out answer is = (client, sym answer, is)
@@ -711,7 +711,7 @@ module _ {P C : Type 0} (gives : P → Partial) (meanings : C → Meanings) wher
   -- a client is added under the next number, and nothing is handed out
   client_added_by : (options : ClientOptions C) (transport : Bool) (label : Label) (now : ℕ) (out : Out (Reply P C))
       (world next : World P C)
-      → May gives meanings world (group.Client (AddClient options transport label now)) (Ok out) next
+      → StepsTo gives meanings world (group.Client (AddClient options transport label now)) (Ok out) next
       → (◌≡◌ {A = Result (Out (Reply P C)) Refusal} (Ok out)
       (Ok (record { reply = reply.Client (record { tag = world.tag; number = world.next.client }); sent = [] })))
       × (next.books ≡ with_book world.books label.number) × (next.tag ≡ world.tag)
@@ -722,7 +722,7 @@ module _ {P C : Type 0} (gives : P → Partial) (meanings : C → Meanings) wher
       (a.0, ap (λ (w : World P C). w.books) a.1, ap (λ (w : World P C). w.tag) a.1)
 
   client_cloned_by : (key : ClientKey) (now : ℕ) (out : Out (Reply P C)) (world next : World P C)
-      → May gives meanings world (group.Client (CloneClient key now)) (Ok out) next
+      → StepsTo gives meanings world (group.Client (CloneClient key now)) (Ok out) next
       → (◌≡◌ {A = Result (Out (Reply P C)) Refusal} (Ok out)
       (Ok (record { reply = reply.Client (record { tag = world.tag; number = world.next.client }); sent = [] })))
       × (next.books ≡ world.books) × (next.tag ≡ world.tag)
@@ -765,7 +765,7 @@ module _ {P C : Type 0} (gives : P → Partial) (meanings : C → Meanings) wher
     -- a call that adds no client
     sums_by_changes : (call : Call P C) (out : Out (Reply P C)) (world next : World P C) (told : ℕ)
         → list_any (is_added label i) (effects meanings call out.reply) ≡ false
-        → May gives meanings world call (Ok out) next → Sums told world → Told told world call (Ok out) next
+        → StepsTo gives meanings world call (Ok out) next → Sums told world → Told told world call (Ok out) next
     sums_by_changes call out world next told quiet may s =
         let trail = trail_of gives meanings call out world next may in
         let of_label = λ (key : ClientKey). has_label label (client_at world key) in
@@ -787,7 +787,7 @@ module _ {P C : Type 0} (gives : P → Partial) (meanings : C → Meanings) wher
         ∙ last.adds (and_left (label.tag == next.tag) _ (has_by next true last.books has)) history at)
 
     kept_books : (call : Call P C) (answer : Result (Out (Reply P C)) Refusal) (world next : World P C)
-        → May gives meanings world call answer next → HasBooks world → HasBooks next
+        → StepsTo gives meanings world call answer next → HasBooks world → HasBooks next
     kept_books call answer world next may books =
         kept_by_call gives meanings HasBooks (λ given old new some sent c. books_change meanings c)
         call answer world next may books
@@ -839,7 +839,7 @@ module _ {P C : Type 0} (gives : P → Partial) (meanings : C → Meanings) wher
 
     sums_added : (options : ClientOptions C) (transport : Bool) (other : Label) (now : ℕ) (out : Out (Reply P C))
         (world next : World P C) (told : ℕ)
-        → May gives meanings world (group.Client (AddClient options transport other now)) (Ok out) next
+        → StepsTo gives meanings world (group.Client (AddClient options transport other now)) (Ok out) next
         → Sums told world → Told told world (group.Client (AddClient options transport other now)) (Ok out) next
     sums_added options transport other now out world next told may s =
         let call : Call P C = group.Client (AddClient options transport other now) in
@@ -853,7 +853,7 @@ module _ {P C : Type 0} (gives : P → Partial) (meanings : C → Meanings) wher
         (sym (ap (λ m. value_at m label.number) a.1) ∙ at))
 
     sums_cloned : (key : ClientKey) (now : ℕ) (out : Out (Reply P C)) (world next : World P C) (told : ℕ)
-        → May gives meanings world (group.Client (CloneClient key now)) (Ok out) next → Sums told world
+        → StepsTo gives meanings world (group.Client (CloneClient key now)) (Ok out) next → Sums told world
         → Told told world (group.Client (CloneClient key now)) (Ok out) next
     sums_cloned key now out world next told may s =
         let call : Call P C = group.Client (CloneClient key now) in
@@ -866,7 +866,7 @@ module _ {P C : Type 0} (gives : P → Partial) (meanings : C → Meanings) wher
         (sym (ap (λ m. value_at m label.number) a.1) ∙ at))
 
     sums_client_call : (call : ClientCall P C) (out : Out (Reply P C)) (world next : World P C) (told : ℕ)
-        → May gives meanings world (group.Client call) (Ok out) next → Sums told world
+        → StepsTo gives meanings world (group.Client call) (Ok out) next → Sums told world
         → Told told world (group.Client call) (Ok out) next
     sums_client_call (AddClient options transport other now) out world next told may s =
         sums_added options transport other now out world next told may s
@@ -875,7 +875,7 @@ module _ {P C : Type 0} (gives : P → Partial) (meanings : C → Meanings) wher
         (client_unadded label i meanings call out.reply refl) may s
 
     sums_call : (call : Call P C) (out : Out (Reply P C)) (world next : World P C) (told : ℕ)
-        → May gives meanings world call (Ok out) next → Sums told world → Told told world call (Ok out) next
+        → StepsTo gives meanings world call (Ok out) next → Sums told world → Told told world call (Ok out) next
     sums_call (group.Client call) out world next told may s = sums_client_call call out world next told may s
     sums_call (group.Hub call) out world next told may s = sums_by_changes (group.Hub call) out world next told
         (hub_unadded label i meanings call out.reply) may s

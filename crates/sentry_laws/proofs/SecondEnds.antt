@@ -21,9 +21,9 @@ use Rattle.sentry_scope.specs.declared.scope.stack.StackLayer.{StackLayer}
 use Rattle.sentry_scope.specs.Stacks.{push, pop, stack_of_any}
 use Rattle.sentry_hub_table.specs.declared.hub.Hub.{Hub}
 use Rattle.sentry_state.specs.declared.state.Out.{Out}
-use Rattle.sentry_state.specs.Worlds.{World, SessionState, starting_world}
+use Rattle.sentry_state.specs.Worlds.{World, SessionHistory, starting_world}
 use Rattle.sentry_state.specs.Outcomes.{Outcome, hub_at, session_at, refuse, reply_with}
-use Rattle.sentry_state.specs.Changes.{with_client_state}
+use Rattle.sentry_state.specs.Changes.{with_client_history}
 use Rattle.sentry_sending.specs.Sending.{Sending, after_sending, send, reply_sending}
 use Rattle.sentry_sending.specs.SessionEnds.{end_session}
 use Rattle.sentry_calls.specs.declared.call.Call.{Call}
@@ -35,8 +35,8 @@ use Rattle.sentry_calls.specs.declared.call.hubs.HubCall.TheVariants.{NewHub, Ne
 use Rattle.sentry_calls.specs.declared.call.Reply.{Reply}
 use Rattle.sentry_calls.specs.declared.call.Reply.TheVariants as reply
 use Rattle.sentry_calls.specs.Sessions as session_calls
-use Rattle.sentry_calls.specs.Runs.{May, Run}
-use Rattle.sentry_span_calls.specs.Replies.{map_answer}
+use Rattle.sentry_calls.specs.Runs.{StepsTo, Run}
+use Rattle.sentry_calls.specs.Replies.{map_answer}
 use Rattle.sentry_laws.specs.Sessions.{TopChange, covered, popped, started, ended, untouched, top_change, UntilStarted, EndsAreSilent, SecondEndIsSilent, SecondEndsAreSilent, EndsOnce}
 use Rattle.sentry_laws.proofs.Effects.{Effect, LayerChange, scope_edited, breadcrumbs_came, client_bound, layer_pushed, layer_popped, session_named, hub_changed, hub_made, hub_made_from, hub_released, losses_absorbed, report_taken, session_begun, client_dropped, item_came, client_added, client_cloned, effects, client_effects, hub_effects, change_layers, add_under}
 use Rattle.sentry_laws.proofs.Changes.{IsGiven, Change, Changes, nothing, one, both, held_options, after_arrival, envelopes_on_arrival, makes_hub, makes_hub_from, changes_hub, leaves_hub, notes_event_id, releases_hub, adds_client, clones_client, drops_client, arrives, accepts, accepts_none, mails, loses, takes_report, absorbs, starts_none, starts_session, changes_session, ends_session, starts_transaction, starts_span, changes_spans}
@@ -337,13 +337,13 @@ module _ (Q : Option SessionKey → Type 0) (none : Q None) where
         record { hubs = o.hubs; given = o.given; at = o.at }
     layer_change (arrives world key client arrival is_off found open_ came) place calm o =
         sending_layer place client.label (send key client (envelopes_on_arrival arrival client)
-        (with_client_state world key (after_arrival arrival client))).sent
-        (with_client_state world key (after_arrival arrival client))
+        (with_client_history world key (after_arrival arrival client))).sent
+        (with_client_history world key (after_arrival arrival client))
         (record { hubs = o.hubs; given = o.given; at = o.at })
     layer_change (accepts world key client arrival is_log is_off found open_ came) place calm o =
         sending_layer place client.label (send key client (envelopes_on_arrival arrival client)
-        (with_client_state world key (after_arrival arrival client))).sent
-        (with_client_state world key (after_arrival arrival client))
+        (with_client_history world key (after_arrival arrival client))).sent
+        (with_client_history world key (after_arrival arrival client))
         (record { hubs = o.hubs; given = o.given; at = o.at })
     layer_change (mails world key client envelope found occupied plain told_) place calm o =
         record { hubs = o.hubs; given = o.given; at = o.at }
@@ -556,7 +556,7 @@ module _ (Q : Option SessionKey → Type 0) (none : Q None) where
 module _ {P C : Type 0} (gives : P → Partial) (meanings : C → Meanings) (Q : Option SessionKey → Type 0) (none : Q None)
     (n : ℕ) where
   after_call : (call : Call P C) (out : Out (Reply P C)) (world next : World P C) (above : ℕ)
-      → May gives meanings world call (Ok out) next
+      → StepsTo gives meanings world call (Ok out) next
       → (is_start (top_change n call) ≡ true → IsCovered (Some above))
       → OnLayer Q none meanings n (Some above) world
       → OnLayer Q none meanings n (place_after (top_change n call) above) next
@@ -609,7 +609,7 @@ module _ {P C : Type 0} (gives : P → Partial) (meanings : C → Meanings) wher
   sent_in (Err refusal) = []
 
   silent_as : (key : HubKey) (status : SessionStatus) (now : ℕ) (out : Out (Reply P C)) (world next : World P C)
-      → May gives meanings world (group.Hub (EndSessionWithStatus key status now)) (Ok out) next
+      → StepsTo gives meanings world (group.Hub (EndSessionWithStatus key status now)) (Ok out) next
       → session_calls.end_session_with_status key status now world ≡ reply_with tt [] world
       → (out.sent ≡ []) × (next ≡ world)
   silent_as key status now out world next may outcome = (
@@ -624,7 +624,7 @@ module _ {P C : Type 0} (gives : P → Partial) (meanings : C → Meanings) wher
 
   -- an end that is accepted has a hub
   not_stale : {A : Type 0} (key : HubKey) (status : SessionStatus) (now : ℕ) (out : Out (Reply P C))
-      (world next : World P C) → May gives meanings world (group.Hub (EndSessionWithStatus key status now)) (Ok out) next
+      (world next : World P C) → StepsTo gives meanings world (group.Hub (EndSessionWithStatus key status now)) (Ok out) next
       → hub_at world key ≡ None → A
   not_stale key status now out world next may found =
       absurd (subst IsRefused (sym (end_answer gives meanings key status now world
@@ -633,10 +633,10 @@ module _ {P C : Type 0} (gives : P → Partial) (meanings : C → Meanings) wher
 
   module _ (Q : Option SessionKey → Type 0) (none : Q None) (n : ℕ) (Dead : World P C → Type 0)
       (kept : (call : Call P C) (out : Out (Reply P C)) (world next : World P C)
-      → May gives meanings world call (Ok out) next → Dead world → Dead next)
+      → StepsTo gives meanings world call (Ok out) next → Dead world → Dead next)
       (gone : (world : World P C) → Dead world → (key : SessionKey) → Q (Some key) → session_at world key ≡ None) where
     silent_at : (key : HubKey) (status : SessionStatus) (now : ℕ) (out : Out (Reply P C)) (world next : World P C)
-        → (n == key.number) ≡ true → May gives meanings world (group.Hub (EndSessionWithStatus key status now)) (Ok out)
+        → (n == key.number) ≡ true → StepsTo gives meanings world (group.Hub (EndSessionWithStatus key status now)) (Ok out)
         next → OnLayer Q none {C = C} meanings n (Some zero) world → Dead world → (o : Option (Hub P))
         → hub_at world key ≡ o → (out.sent ≡ []) × (next ≡ world)
     silent_at key status now out world next own may o dead None found =
@@ -658,7 +658,7 @@ module _ {P C : Type 0} (gives : P → Partial) (meanings : C → Meanings) wher
 
     silent_hub : (call : HubCall P) (out : Out (Reply P C)) (world next : World P C)
         → is_end (top_change {P = P} {C = C} n (group.Hub call)) ≡ true
-        → May gives meanings world (group.Hub call) (Ok out) next → OnLayer Q none {C = C} meanings n (Some zero) world
+        → StepsTo gives meanings world (group.Hub call) (Ok out) next → OnLayer Q none {C = C} meanings n (Some zero) world
         → Dead world → (out.sent ≡ []) × (next ≡ world)
     silent_hub (EndSessionWithStatus hub status now) out world next is may o dead =
         by_hub (n == hub.number) refl is
@@ -675,14 +675,14 @@ module _ {P C : Type 0} (gives : P → Partial) (meanings : C → Meanings) wher
 
     silent_call : (call : Call P C) (out : Out (Reply P C)) (world next : World P C)
         → is_end (top_change n call) ≡ true
-        → May gives meanings world call (Ok out) next → OnLayer Q none {C = C} meanings n (Some zero) world
+        → StepsTo gives meanings world call (Ok out) next → OnLayer Q none {C = C} meanings n (Some zero) world
         → Dead world → (out.sent ≡ []) × (next ≡ world)
     silent_call (group.Hub call) out world next is may o dead = silent_hub call out world next is may o dead
     silent_call (group.Client call) out world next is may o dead = absurd cc
     silent_call (group.Span call) out world next is may o dead = absurd cc
 
     by_change : (call : Call P C) (out : Out (Reply P C)) (world next : World P C) (above : ℕ) (change : TopChange)
-        → top_change n call ≡ change → May gives meanings world call (Ok out) next
+        → top_change n call ≡ change → StepsTo gives meanings world call (Ok out) next
         → OnLayer Q none {C = C} meanings n (Some above) world → Dead world → (Rest : ℕ → Type 0)
         → ((more : ℕ) → OnLayer Q none {C = C} meanings n (Some more) next → Rest more)
         → UntilStarted change above ((out.sent ≡ []) × (next ≡ world)) Rest
@@ -731,7 +731,7 @@ module _ {P C : Type 0} (gives : P → Partial) (meanings : C → Meanings) wher
 
 module _ {P C : Type 0} (gives : P → Partial) (meanings : C → Meanings) where
   counts_next : (call : Call P C) (answer : Result (Out (Reply P C)) Refusal) (world next : World P C)
-      → May gives meanings world call answer next → Counts world → Counts next
+      → StepsTo gives meanings world call answer next → Counts world → Counts next
   counts_next call (Ok out) world next may c =
       (watched_next 0 0 (λ o. Unit {0}) (inr (λ o. tt)) tt (λ old new later same h. tt) gives meanings call out world
       next may (record { counts = c; given = omega arith; holds = tt })).counts
@@ -743,7 +743,7 @@ module _ {P C : Type 0} (gives : P → Partial) (meanings : C → Meanings) wher
   -- the first end leaves the layer with a name of these, if it had one
   first_end : (Q : Option SessionKey → Type 0) (none : Q None) (hub : HubKey) (status : SessionStatus) (now : ℕ)
       (out : Out (Reply P C)) (world next : World P C) (held : Hub P)
-      → May gives meanings world (group.Hub (EndSessionWithStatus hub status now)) (Ok out) next → Counts world
+      → StepsTo gives meanings world (group.Hub (EndSessionWithStatus hub status now)) (Ok out) next → Counts world
       → hub_at world hub ≡ Some held → Q held.stack.top.session
       → OnLayer Q none {C = C} meanings hub.number (Some zero) next
   first_end Q none hub status now out world next held may c found q =
@@ -763,7 +763,7 @@ module _ {P C : Type 0} (gives : P → Partial) (meanings : C → Meanings) wher
   -- the first end, where the layer names no session
   end_none : (hub : HubKey) (status : SessionStatus) (now : ℕ) (out : Out (Reply P C)) (calls : List (Call P C))
       (answers : List (Result (Out (Reply P C)) Refusal)) (world next last : World P C) (held : Hub P)
-      → May gives meanings world (group.Hub (EndSessionWithStatus hub status now)) (Ok out) next
+      → StepsTo gives meanings world (group.Hub (EndSessionWithStatus hub status now)) (Ok out) next
       → (run : Run gives meanings next calls answers last) → Counts world → hub_at world hub ≡ Some held
       → held.stack.top.session ≡ None → EndsAreSilent gives meanings hub.number zero next calls answers last run
   end_none hub status now out calls answers world next last held may run c found is =
@@ -779,7 +779,7 @@ module _ {P C : Type 0} (gives : P → Partial) (meanings : C → Meanings) wher
   end_some : (hub : HubKey) (status : SessionStatus) (now : ℕ) (out : Out (Reply P C)) (calls : List (Call P C))
       (answers : List (Result (Out (Reply P C)) Refusal)) (world next last : World P C) (held : Hub P)
       (session : SessionKey)
-      → May gives meanings world (group.Hub (EndSessionWithStatus hub status now)) (Ok out) next
+      → StepsTo gives meanings world (group.Hub (EndSessionWithStatus hub status now)) (Ok out) next
       → (run : Run gives meanings next calls answers last) → Counts world → hub_at world hub ≡ Some held
       → held.stack.top.session ≡ Some session → EndsAreSilent gives meanings hub.number zero next calls answers last run
   end_some hub status now out calls answers world next last held session may run c found is =
@@ -800,9 +800,9 @@ module _ {P C : Type 0} (gives : P → Partial) (meanings : C → Meanings) wher
       (group.Hub (EndSessionWithStatus hub status now)) out world next may
       (record { counts = c; given = omega (arith, g.1); holds = tt }) in
       ends_silent gives meanings Q (inl refl) hub.number
-      (Watched n (n + 1) (λ (o : Option SessionState). o ≡ None) (inl (omega arith)) refl
+      (Watched n (n + 1) (λ (o : Option SessionHistory). o ≡ None) (inl (omega arith)) refl
       (λ old new later same h. absurd cc))
-      (watched_next n (n + 1) (λ (o : Option SessionState). o ≡ None) (inl (omega arith)) refl
+      (watched_next n (n + 1) (λ (o : Option SessionHistory). o ≡ None) (inl (omega arith)) refl
       (λ old new later same h. absurd cc) gives meanings)
       (λ world dead key q. none_named world key q dead.holds) calls answers next last run zero
       (first_end Q (inl refl) hub status now out world next held may c found (inr is))
@@ -823,11 +823,11 @@ module _ {P C : Type 0} (gives : P → Partial) (meanings : C → Meanings) wher
   second_end world (call ∷ calls) [] last run c = tt
   second_end world (call ∷ calls) (Err refusal ∷ answers) last run c = tt
   second_end world (call ∷ calls) (Ok out ∷ answers) last run c = λ hub status now is.
-      by_hub hub status now (subst (λ call. May gives meanings world call (Ok out) run.0) is run.1) (hub_at world hub)
+      by_hub hub status now (subst (λ call. StepsTo gives meanings world call (Ok out) run.0) is run.1) (hub_at world hub)
       refl
     where
       by_hub : (hub : HubKey) (status : SessionStatus) (now : ℕ)
-          → May gives meanings world (group.Hub (EndSessionWithStatus hub status now)) (Ok out) run.0
+          → StepsTo gives meanings world (group.Hub (EndSessionWithStatus hub status now)) (Ok out) run.0
           → (o : Option (Hub P)) → hub_at world hub ≡ o
           → EndsAreSilent gives meanings hub.number zero run.0 calls answers last run.2
       by_hub hub status now may None found = not_stale gives meanings hub status now out world run.0 may found

@@ -20,15 +20,15 @@ use Rattle.std.specs.Option.{option_or}
 use Rattle.sentry_sessions.specs.declared.session.record.SessionStart.{SessionStart}
 use Rattle.sentry_hub_table.specs.declared.hub.Hub.{Hub}
 use Rattle.sentry_state.specs.declared.state.NextNumbers.{NextNumbers}
-use Rattle.sentry_state.specs.Worlds.{World, ClientState, SessionState, span_table}
+use Rattle.sentry_state.specs.Worlds.{World, ClientHistory, SessionHistory, span_table}
 use Rattle.sentry_state.specs.Outcomes.{client_at, session_at}
-use Rattle.sentry_state.specs.Changes.{with_session, with_new_session, with_client_state, with_client_entry}
+use Rattle.sentry_state.specs.Changes.{with_session, with_new_session, with_client_history, with_client_entry}
 use Rattle.sentry_sending.specs.Sending.{Sending, send, send_nothing, send_some, after_sending}
 use Rattle.sentry_sending.specs.SessionEnds.{is_session_named, queue_update, end_session, end_unnamed_session, release_session}
 use Rattle.sentry_sending.specs.Sessions.{replace_session}
-use Rattle.sentry_queues.specs.declared.flushes.Flush.{Flush}
-use Rattle.sentry_queues.specs.Flushes.{flush_queues, flushed_envelopes, after_flush}
-use Rattle.sentry_queues.specs.Telemetry.{accept_log, accept_metric, keep_log, keep_metric}
+use Rattle.sentry_telemetry.specs.declared.flushes.Flush.{Flush}
+use Rattle.sentry_telemetry.specs.Flushes.{flush_queues, flushed_envelopes, after_flush}
+use Rattle.sentry_telemetry.specs.Telemetry.{accept_log, accept_metric, keep_log, keep_metric}
 use Rattle.sentry_laws.proofs.Effects.{hub_changed, session_named, session_begun, item_came}
 use Rattle.sentry_laws.proofs.Changes.{Changes, IsArrival, nothing, one, both, log_came, metric_came, session_ended, flush_came, changes_hub, arrives, accepts, accepts_none, loses, starts_session, changes_session, ends_session}
 use Rattle.sentry_laws.proofs.Tables.{own_replaced}
@@ -74,9 +74,9 @@ module _ {P C : Type 0} where
   queue_update_sessions key update world = queue_update_part (λ (w : World P C). w.sessions) (λ w b. refl) (λ w c. refl)
       key update world
 
-  ended-by : (key : SessionKey) (status : Option SessionStatus) (now : ℕ) (world : World P C) (o : Option SessionState)
-      (go : SessionState → Sending P C)
-      → ((session : SessionState) → (go session).after.sessions ≡ without world.sessions key.number)
+  ended-by : (key : SessionKey) (status : Option SessionStatus) (now : ℕ) (world : World P C) (o : Option SessionHistory)
+      (go : SessionHistory → Sending P C)
+      → ((session : SessionHistory) → (go session).after.sessions ≡ without world.sessions key.number)
       → value_at (without world.sessions key.number) key.number ≡ None
       → (o ≡ None → value_at world.sessions key.number ≡ None)
       → value_at (send_some world o go).after.sessions key.number ≡ None
@@ -106,7 +106,7 @@ module _ {P C : Type 0} where
       ≡ world.hubs
   flush_hubs flush key world = flush_part (λ (w : World P C). w.hubs) (λ w b. refl) (λ w c. refl) flush key world
 
-  pub own_tag : (key : ClientKey) (world : World P C) (client : ClientState C) → client_at world key ≡ Some client
+  pub own_tag : (key : ClientKey) (world : World P C) (client : ClientHistory C) → client_at world key ≡ Some client
       → (key.tag == world.tag) ≡ true
   own_tag key world client found = tag-by (key.tag == world.tag) (value_at world.clients key.number) client found
 
@@ -115,45 +115,45 @@ module _ {P C : Type 0} where
   after_client label [] world key = refl
   after_client label (first ∷ rest) world key = refl
 
-  replaced_client : (world : World P C) (key : ClientKey) (old new : ClientState C) → client_at world key ≡ Some old
-      → client_at (with_client_state world key new) key ≡ Some new
+  replaced_client : (world : World P C) (key : ClientKey) (old new : ClientHistory C) → client_at world key ≡ Some old
+      → client_at (with_client_history world key new) key ≡ Some new
   replaced_client world key old new found =
       ap (λ b. if b then value_at (replace_at world.clients key.number new) key.number else None)
       (own_tag key world old found)
       ∙ own_replaced world.clients key.number new old (found_under world.tag world.clients key.tag key.number old found)
 
-  left-unless : (flush : Flush) (key : ClientKey) (world : World P C) (client : ClientState C)
+  left-unless : (flush : Flush) (key : ClientKey) (world : World P C) (client : ClientHistory C)
       → client_at world key ≡ Some client → (b : Bool)
-      → (left : ClientState C)
+      → (left : ClientHistory C)
       × (client_at (if b then send_nothing world else send key client
       (flushed_envelopes flush client.options.plain client.queues)
-      (with_client_state world key (after_flush flush client))).after key ≡ Some left) × (client.label ≡ left.label)
+      (with_client_history world key (after_flush flush client))).after key ≡ Some left) × (client.label ≡ left.label)
   left-unless flush key world client found true = (client, found, refl)
   left-unless flush key world client found false =
       let sent = (send key client (flushed_envelopes flush client.options.plain client.queues)
-      (with_client_state world key (after_flush flush client))).sent in (
+      (with_client_history world key (after_flush flush client))).sent in (
         after_flush flush client,
-        after_client client.label sent (with_client_state world key (after_flush flush client))
+        after_client client.label sent (with_client_history world key (after_flush flush client))
             key ∙ replaced_client world key client (after_flush flush client) found,
         refl,
       )
 
-  left-some : (flush : Flush) (key : ClientKey) (world : World P C) (client : ClientState C)
-      (o : Option (ClientState C)) → client_at world key ≡ o → o ≡ Some client
-      → (left : ClientState C)
+  left-some : (flush : Flush) (key : ClientKey) (world : World P C) (client : ClientHistory C)
+      (o : Option (ClientHistory C)) → client_at world key ≡ o → o ≡ Some client
+      → (left : ClientHistory C)
       × (client_at (send_some world o (λ c. if c.closed then send_nothing world else send key c
-      (flushed_envelopes flush c.options.plain c.queues) (with_client_state world key (after_flush flush c)))).after key
+      (flushed_envelopes flush c.options.plain c.queues) (with_client_history world key (after_flush flush c)))).after key
       ≡ Some left) × (client.label ≡ left.label)
   left-some flush key world client None at e = absurd cc
   left-some flush key world client (Some held) at e =
       let same : held ≡ client = cc in
       let l = left-unless flush key world held at held.closed in
-      (l.0, l.1, ap (λ (c : ClientState C). c.label) (sym same) ∙ l.2)
+      (l.0, l.1, ap (λ (c : ClientHistory C). c.label) (sym same) ∙ l.2)
 
   -- a client after a flush of its queues has the label that it had
-  pub flushed_client : (flush : Flush) (key : ClientKey) (world : World P C) (client : ClientState C)
+  pub flushed_client : (flush : Flush) (key : ClientKey) (world : World P C) (client : ClientHistory C)
       → client_at world key ≡ Some client
-      → (left : ClientState C) × (client_at (flush_queues flush key world).after key ≡ Some left)
+      → (left : ClientHistory C) × (client_at (flush_queues flush key world).after key ≡ Some left)
       × (client.label ≡ left.label)
   unfolding flush_queues
   flushed_client flush key world client found = left-some flush key world client (client_at world key) refl found
@@ -187,7 +187,7 @@ module _ {P C : Type 0} (next : NextNumbers) where
       → SameBut (queue_update key update world) (queue_update key update (record world { next = next }))
   unfolding queue_update
   queue_update_but key update world = some_but world (client_at world key) _ _ (λ client.
-      let queued = with_client_state world key (with_client_entry (enqueued update) client) in
+      let queued = with_client_history world key (with_client_entry (enqueued update) client) in
       let sending = send key client (envelopes_on client.options.plain.session_mode update client.queues.sessions)
       queued in
       unless_but world client.closed _ _ (record { sent = refl; after = after_but client.label sending.sent queued }))
@@ -219,7 +219,7 @@ module _ {P C : Type 0} (next : NextNumbers) where
 
 -- ---- the sessions are not read where an update is queued
 
-module _ {P C : Type 0} (sessions : List (ℕ × SessionState)) where
+module _ {P C : Type 0} (sessions : List (ℕ × SessionHistory)) where
   -- the same is sent, and the same is left but for the sessions
   record SameButSessions (one_ other : Sending P C) : Type 0 where
     sent : other.sent ≡ one_.sent
@@ -246,7 +246,7 @@ module _ {P C : Type 0} (sessions : List (ℕ × SessionState)) where
       → SameButSessions (queue_update key update world) (queue_update key update (record world { sessions = sessions }))
   unfolding queue_update
   update_but_sessions key update world = some_but_sessions world (client_at world key) _ _ (λ client.
-      let queued = with_client_state world key (with_client_entry (enqueued update) client) in
+      let queued = with_client_history world key (with_client_entry (enqueued update) client) in
       let sending = send key client (envelopes_on client.options.plain.session_mode update client.queues.sessions)
       queued in
       unless_but_sessions world client.closed _ _
@@ -280,7 +280,7 @@ pending_told start history update e =
     let same = pending-by (session_of start history).dirty (update_of (session_of start history)) update e in
     (ap (λ (u : SessionUpdate). u.session_id) same, ap (λ (u : SessionUpdate). u.status) same)
 
-without-at : (b : Bool) (n : ℕ) (x : SessionState) (e : ℕ × SessionState) (es : List (ℕ × SessionState))
+without-at : (b : Bool) (n : ℕ) (x : SessionHistory) (e : ℕ × SessionHistory) (es : List (ℕ × SessionHistory))
     → is_at (nat_cmp n) e.0 ≡ b → without (replace_at es n x) n ≡ without es n
     → without (cond b ((e.0, x) ∷ es) (e ∷ replace_at es n x)) n ≡ cond b es (e ∷ without es n)
 without-at true n x e es q h = ap (λ t. cond t es ((e.0, x) ∷ without es n)) q
@@ -288,7 +288,7 @@ without-at false n x e es q h =
     ap (λ t. cond t (replace_at es n x) (e ∷ without (replace_at es n x) n)) q ∙ ap (λ l. e ∷ l) h
 
 -- what was replaced is removed
-without_replaced : (m : List (ℕ × SessionState)) (n : ℕ) (x : SessionState)
+without_replaced : (m : List (ℕ × SessionHistory)) (n : ℕ) (x : SessionHistory)
     → without (replace_at m n x) n ≡ without m n
 without_replaced [] n x = refl
 without_replaced (e ∷ es) n x = without-at (is_at (nat_cmp n) e.0) n x e es refl (without_replaced es n x)
@@ -304,7 +304,7 @@ module _ {P C : Type 0} (meanings : C → Meanings) where
       (λ open_. record { changes = one (arrives world key client (session_ended update) refl found open_ told_) }))
 
   -- the same where other sessions are held
-  queued_beside : (client : ClientKey) (world : World P C) (sessions : List (ℕ × SessionState))
+  queued_beside : (client : ClientKey) (world : World P C) (sessions : List (ℕ × SessionHistory))
       (o : Option SessionUpdate)
       → ((update : SessionUpdate) → o ≡ Some update
       → IsArrival (record world { sessions = sessions }) (session_ended update))
@@ -354,7 +354,7 @@ module _ {P C : Type 0} (meanings : C → Meanings) where
       comes_some false (client_at world key) (λ client found. comes_unless false client.closed
       (λ open_. record { changes = one (accepts world key client (metric_came metric) false refl found open_ tt) }))
 
-  pub keeps_log : (key : ClientKey) (client : ClientState C) (log : Option Log) (world : World P C)
+  pub keeps_log : (key : ClientKey) (client : ClientHistory C) (log : Option Log) (world : World P C)
       → client_at world key ≡ Some client
       → Sends meanings None world (item_came true ∷ []) (keep_log key client.label log world)
   unfolding keep_log
@@ -362,7 +362,7 @@ module _ {P C : Type 0} (meanings : C → Meanings) where
       record { changes = both (one (accepts_none world true)) (one (loses world key client _ found)) }
   keeps_log key client (Some log) world found = accepts_log key log world
 
-  pub keeps_metric : (key : ClientKey) (client : ClientState C) (metric : Option Metric) (world : World P C)
+  pub keeps_metric : (key : ClientKey) (client : ClientHistory C) (metric : Option Metric) (world : World P C)
       → client_at world key ≡ Some client
       → Sends meanings None world (item_came false ∷ []) (keep_metric key client.label metric world)
   unfolding keep_metric
@@ -378,7 +378,7 @@ module _ {P C : Type 0} (meanings : C → Meanings) where
   ends key status now world =
       sends_some meanings None (session_at world key) (λ session found.
       let here = found_under world.tag world.sessions key.tag key.number session found in
-      let closed_ : SessionState = record session { history = closed status now ∷ session.history } in
+      let closed_ : SessionHistory = record session { history = closed status now ∷ session.history } in
       let sessions = replace_at world.sessions key.number closed_ in
       let pending = pending_update (session_of session.start (closed status now ∷ session.history)) in
       let sending = send_some world pending (λ update. queue_update session.start.client update world) in
@@ -396,14 +396,14 @@ module _ {P C : Type 0} (meanings : C → Meanings) where
       })
     where
       closed_told : (world : World P C) (key : SessionKey) (status : Option SessionStatus) (now : ℕ)
-          (session : SessionState) → value_at world.sessions key.number ≡ Some session → (update : SessionUpdate)
+          (session : SessionHistory) → value_at world.sessions key.number ≡ Some session → (update : SessionUpdate)
           → pending_update (session_of session.start (closed status now ∷ session.history)) ≡ Some update
           → IsArrival (record world {
             sessions = replace_at world.sessions key.number
                 (record session { history = closed status now ∷ session.history });
           }) (session_ended update)
       closed_told world key status now session here update is =
-          let closed_ : SessionState = record session { history = closed status now ∷ session.history } in
+          let closed_ : SessionHistory = record session { history = closed status now ∷ session.history } in
           let told_ = pending_told session.start (closed status now ∷ session.history) update is in (
             (key.number, closed_, own_replaced world.sessions key.number closed_ session here, told_.0, told_.1),
             subst (λ s. s ≢ session_status.Ok) told_.1 (closed_ended (end_of session.history) status now),

@@ -23,16 +23,16 @@ use Rattle.sentry_batches.proofs.BatchLemmas.{batches_sized, batches_joined}
 use Rattle.sentry_client_reports.specs.LossBooks.{LossEntry, report_point}
 use Rattle.sentry_state.specs.declared.state.Out.{Out}
 use Rattle.sentry_state.specs.declared.state.Client.{Client}
-use Rattle.sentry_state.specs.Worlds.{World, ClientState, QueueHistories, plain_client, span_table, starting_world}
-use Rattle.sentry_state.specs.Outcomes.{Outcome, IsAnswer, require, require_some, client_at, plain_client_at}
+use Rattle.sentry_state.specs.Worlds.{World, ClientHistory, QueueHistories, stored_client, span_table, starting_world}
+use Rattle.sentry_state.specs.Outcomes.{Outcome, IsAnswer, require, require_some, client_at, stored_client_at}
 use Rattle.sentry_state.specs.Clients.{queues_from, clone_from, is_client_named, has_session_of}
 use Rattle.sentry_span_table.specs.SpanTables.{has_transaction_of}
-use Rattle.sentry_span_calls.specs.Replies.{map_answer}
-use Rattle.sentry_queues.specs.declared.flushes.Flush.TheVariants.{All}
-use Rattle.sentry_queues.specs.Flushes.{flush_queues, is_closing}
+use Rattle.sentry_calls.specs.Replies.{map_answer}
+use Rattle.sentry_telemetry.specs.declared.flushes.Flush.TheVariants.{All}
+use Rattle.sentry_telemetry.specs.Flushes.{flush_queues, is_closing}
 use Rattle.sentry_base.specs.Envelopes.{with_report}
 use Rattle.sentry_state.specs.Books.{pending_report, with_entry}
-use Rattle.sentry_state.specs.Changes.{with_client_state}
+use Rattle.sentry_state.specs.Changes.{with_client_history}
 use Rattle.sentry_sending.specs.Sending.{for_client, envelopes_from, after_sending, send}
 use Rattle.sentry_calls.specs.Clients.{drop_client}
 use Rattle.sentry_calls.specs.declared.call.Call.{Call}
@@ -40,7 +40,7 @@ use Rattle.sentry_calls.specs.declared.call.Call.TheVariants as group
 use Rattle.sentry_calls.specs.declared.call.clients.ClientCall.TheVariants.{DropClient}
 use Rattle.sentry_calls.specs.declared.call.Reply.TheVariants as reply
 use Rattle.sentry_calls.specs.declared.call.Reply.{Reply}
-use Rattle.sentry_calls.specs.Runs.{May, Run}
+use Rattle.sentry_calls.specs.Runs.{StepsTo, Run}
 use Rattle.sentry_calls.specs.Steps.{step, client_step, takes_no_memory}
 use Rattle.sentry_laws.proofs.Effects.{Effect, effects}
 use Rattle.sentry_laws.proofs.Changes.{Change, Changes, nothing, one, both, is_batch_or_report, after_arrival, envelopes_on_arrival, Arrival, log_came, metric_came, session_ended, flush_came, makes_hub, makes_hub_from, changes_hub, leaves_hub, notes_event_id, releases_hub, adds_client, clones_client, drops_client, arrives, accepts, accepts_none, mails, loses, takes_report, absorbs, starts_none, starts_session, changes_session, ends_session, starts_transaction, starts_span, changes_spans}
@@ -85,7 +85,7 @@ itself n = grind (arith, nat_tests)
 
 module _ {C : Type 0} where
   -- only a flush empties a slot, and nothing fills it again
-  was_occupied : (arrival : Arrival) (client : ClientState C) → (after_arrival arrival client).occupied ≡ true
+  was_occupied : (arrival : Arrival) (client : ClientHistory C) → (after_arrival arrival client).occupied ≡ true
       → client.occupied ≡ true
   was_occupied (log_came log) client h = h
   was_occupied (metric_came metric) client h = h
@@ -108,7 +108,7 @@ slot_by false true closed h = inl refl
 slot_by false false closed h = absurd cc
 
 module _ {C : Type 0} where
-  open_after : (arrival : Arrival) (client : ClientState C) → client.closed ≡ false
+  open_after : (arrival : Arrival) (client : ClientHistory C) → client.closed ≡ false
       → (after_arrival arrival client).occupied ≡ true → (after_arrival arrival client).closed ≡ false
   open_after (log_came log) client h e = h
   open_after (metric_came metric) client h e = h
@@ -116,7 +116,7 @@ module _ {C : Type 0} where
   open_after (flush_came flush) client h e = open_by (is_closing flush) client.occupied client.closed h e
 
   -- a slot that was occupied stays so, or its client is closed
-  slot_after : (arrival : Arrival) (client : ClientState C) → client.occupied ≡ true
+  slot_after : (arrival : Arrival) (client : ClientHistory C) → client.occupied ≡ true
       → ((after_arrival arrival client).occupied ≡ true) ⊎ ((after_arrival arrival client).closed ≡ true)
   slot_after (log_came log) client h = inl h
   slot_after (metric_came metric) client h = inl h
@@ -124,7 +124,7 @@ module _ {C : Type 0} where
   slot_after (flush_came flush) client h = slot_by (is_closing flush) client.occupied client.closed h
 
 -- how many items a client has in a batch
-abbrev pub limit_of : {C : Type 0} → ClientState C → ℕ
+abbrev pub limit_of : {C : Type 0} → ClientHistory C → ℕ
 limit_of client = client.options.plain.max_batch_items
 
 module _ {T : Type 0} (batch_in : EnvelopeItem → Option (List T)) where
@@ -215,42 +215,42 @@ module _ {T : Type 0} (batch_in : EnvelopeItem → Option (List T)) where
 
     module _ {C : Type 0} (history : QueueHistories → List (BatchEntry T)) (new_history : (now : ℕ)
         → history (queues_from now) ≡ [])
-        (arrival_is : (arrival : Arrival) (client : ClientState C)
+        (arrival_is : (arrival : Arrival) (client : ClientHistory C)
         → batches (limit_of (after_arrival arrival client)) (history (after_arrival arrival client).queues) ≡ batches
         (limit_of client) (history client.queues) ++ all_batches (envelopes_on_arrival arrival client)) where
-      added-at : (b : Bool) (total : ℕ → List (List T)) (n next : ℕ) (x client : ClientState C)
-          (o : Option (ClientState C)) → (n == next) ≡ b → history x.queues ≡ [] → (n ≡ next → total n ≡ [])
+      added-at : (b : Bool) (total : ℕ → List (List T)) (n next : ℕ) (x client : ClientHistory C)
+          (o : Option (ClientHistory C)) → (n == next) ≡ b → history x.queues ≡ [] → (n ≡ next → total n ≡ [])
           → (o ≡ Some client → total n ≡ batches (limit_of client) (history client.queues)) → (if b then Some x else o)
           ≡ Some client → total n ≡ batches (limit_of client) (history client.queues)
       added-at true total n next x client o e new_ none_ rest found =
           let same : x ≡ client = cc in none_ (same_number n next e)
           ∙ (sym (ap (batches (limit_of x)) new_)
-          ∙ ap (λ (c : ClientState C). batches (limit_of c) (history c.queues)) same)
+          ∙ ap (λ (c : ClientHistory C). batches (limit_of c) (history c.queues)) same)
       added-at false total n next x client o e new_ none_ rest found = rest found
 
-      opened-at : (b : Bool) (x c : ClientState C) (o : Option (ClientState C)) → x.closed ≡ false
+      opened-at : (b : Bool) (x c : ClientHistory C) (o : Option (ClientHistory C)) → x.closed ≡ false
           → (o ≡ Some c → c.closed ≡ false) → (if b then Some x else o) ≡ Some c → c.closed ≡ false
       opened-at true x c o opened rest found =
-          let same : x ≡ c = cc in subst (λ (y : ClientState C). y.closed ≡ false) same opened
+          let same : x ≡ c = cc in subst (λ (y : ClientHistory C). y.closed ≡ false) same opened
       opened-at false x c o opened rest found = rest found
 
-      stays-open : (b : Bool) (old c : ClientState C) (arrival : Arrival) (o : Option (ClientState C))
+      stays-open : (b : Bool) (old c : ClientHistory C) (arrival : Arrival) (o : Option (ClientHistory C))
           → old.closed ≡ false → (o ≡ Some c → c.closed ≡ false)
           → (if b then Some (after_arrival arrival old) else o) ≡ Some c → c.occupied ≡ true → c.closed ≡ false
       stays-open true old c arrival o opened rest found occupied =
           let same : after_arrival arrival old ≡ c = cc in
-          subst (λ (y : ClientState C). y.closed ≡ false) same
-          (open_after arrival old opened (subst (λ (y : ClientState C). y.occupied ≡ true) (sym same) occupied))
+          subst (λ (y : ClientHistory C). y.closed ≡ false) same
+          (open_after arrival old opened (subst (λ (y : ClientHistory C). y.occupied ≡ true) (sym same) occupied))
       stays-open false old c arrival o opened rest found occupied = rest found
 
-      dropped-at : (b : Bool) (c : ClientState C) (o : Option (ClientState C)) (A : Type 0) → (o ≡ Some c → A)
+      dropped-at : (b : Bool) (c : ClientHistory C) (o : Option (ClientHistory C)) (A : Type 0) → (o ≡ Some c → A)
           → (if b then None else o) ≡ Some c → A
       dropped-at true c o A rest found = absurd cc
       dropped-at false c o A rest found = rest found
 
       -- something comes to the queues of a client
       arrived-at : (b : Bool) (total more : ℕ → List (List T)) (n number : ℕ) (arrival : Arrival)
-          (old c : ClientState C) (o : Option (ClientState C)) → (n == number) ≡ b
+          (old c : ClientHistory C) (o : Option (ClientHistory C)) → (n == number) ≡ b
           → more n ≡ (if b && old.occupied then all_batches (envelopes_on_arrival arrival old) else [])
           → (old.occupied ≡ true → total number ≡ batches (limit_of old) (history old.queues))
           → (o ≡ Some c → total n ≡ batches (limit_of c) (history c.queues))
@@ -259,20 +259,20 @@ module _ {T : Type 0} (batch_in : EnvelopeItem → Option (List T)) where
       arrived-at true total more n number arrival old c o e m here rest found occupied =
           let same : after_arrival arrival old ≡ c = cc in
           let was : old.occupied ≡ true =
-          was_occupied arrival old (subst (λ (x : ClientState C). x.occupied ≡ true) (sym same) occupied) in
+          was_occupied arrival old (subst (λ (x : ClientHistory C). x.occupied ≡ true) (sym same) occupied) in
           ap (λ l. total n ++ l)
           (m ∙ ap (λ (b : Bool). if b then all_batches (envelopes_on_arrival arrival old) else []) was)
           ∙ (ap (λ l. l ++ all_batches (envelopes_on_arrival arrival old)) (ap total (same_number n number e)
           ∙ here was)
-          ∙ (sym (arrival_is arrival old) ∙ ap (λ (x : ClientState C). batches (limit_of x) (history x.queues)) same))
+          ∙ (sym (arrival_is arrival old) ∙ ap (λ (x : ClientHistory C). batches (limit_of x) (history x.queues)) same))
       arrived-at false total more n number arrival old c o e m here rest found occupied =
           ap (λ l. total n ++ l) m ∙ (append-nil (total n) ∙ rest found)
 
       -- these batches are what the clients handed out so far
       record Holds {P : Type 0} (total : ℕ → List (List T)) (world : World P C) : Type 0 where
-        sent : (n : ℕ) (client : ClientState C) → value_at world.clients n ≡ Some client → client.occupied ≡ true
+        sent : (n : ℕ) (client : ClientHistory C) → value_at world.clients n ≡ Some client → client.occupied ≡ true
             → total n ≡ batches (limit_of client) (history client.queues)
-        open_slot : (n : ℕ) (client : ClientState C) → value_at world.clients n ≡ Some client → client.occupied ≡ true
+        open_slot : (n : ℕ) (client : ClientHistory C) → value_at world.clients n ≡ Some client → client.occupied ≡ true
             → client.closed ≡ false
         fresh : (n : ℕ) → world.next.client ≤ n → total n ≡ []
         clients : AreBelow 0 world.next.client world.clients
@@ -292,7 +292,7 @@ module _ {T : Type 0} (batch_in : EnvelopeItem → Option (List T)) where
         none_holds f total world h = same_total total (λ n. total n ++ batches_by batch_in f n []) world
             (none_by f total) h
 
-        added_holds : (total : ℕ → List (List T)) (world : World P C) (client : ClientState C)
+        added_holds : (total : ℕ → List (List T)) (world : World P C) (client : ClientHistory C)
             (books : List (ℕ × List LossEntry)) → history client.queues ≡ [] → client.closed ≡ false → Holds total world
             → Holds total (record world {
               next = record world.next { client = world.next.client + 1 };
@@ -324,12 +324,12 @@ module _ {T : Type 0} (batch_in : EnvelopeItem → Option (List T)) where
           clients = below_without 0 world.next.client number world.clients h.clients;
         }
 
-        arrived_holds : (total more : ℕ → List (List T)) (world : World P C) (key : ClientKey) (old : ClientState C)
+        arrived_holds : (total more : ℕ → List (List T)) (world : World P C) (key : ClientKey) (old : ClientHistory C)
             (arrival : Arrival) → client_at world key ≡ Some old → old.closed ≡ false
             → ((n : ℕ) → more n ≡ (if (n == key.number) && old.occupied then all_batches
             (envelopes_on_arrival arrival old) else []))
             → Holds total world → Holds (λ n. total n ++ more n)
-            (with_client_state world key (after_arrival arrival old))
+            (with_client_history world key (after_arrival arrival old))
         arrived_holds total more world key old arrival found opened m h =
             let here : value_at world.clients key.number ≡ Some old =
             found_under world.tag world.clients key.tag key.number old found in
@@ -385,14 +385,14 @@ module _ {T : Type 0} (batch_in : EnvelopeItem → Option (List T)) where
             sending_holds _ client.label _ _ (arrived_holds total _ world key client arrival found open_
             (λ n. ap (λ (b : Option Envelope). batches_by batch_in b n
             (send key client (envelopes_on_arrival arrival client)
-            (with_client_state world key (after_arrival arrival client))).sent) is_off
+            (with_client_history world key (after_arrival arrival client))).sent) is_off
             ∙ from_slot n key client.occupied (n == key.number) refl (pending_report world client.label)
             (envelopes_on_arrival arrival client)) h)
         holds_change f (accepts world key client arrival is_log is_off found open_ came) total h =
             sending_holds _ client.label _ _ (arrived_holds total _ world key client arrival found open_
             (λ n. ap (λ (b : Option Envelope). batches_by batch_in b n
             (send key client (envelopes_on_arrival arrival client)
-            (with_client_state world key (after_arrival arrival client))).sent) is_off
+            (with_client_history world key (after_arrival arrival client))).sent) is_off
             ∙ from_slot n key client.occupied (n == key.number) refl (pending_report world client.label)
             (envelopes_on_arrival arrival client)) h)
         holds_change f (mails world key client envelope found occupied none told_) total h =
@@ -435,7 +435,7 @@ module _ {T : Type 0} (batch_in : EnvelopeItem → Option (List T)) where
 
       module _ {P : Type 0} (gives : P → Partial) (meanings : C → Meanings) where
         holds_next : (call : Call P C) (out : Out (Reply P C)) (world next : World P C) (total : ℕ → List (List T))
-            → May gives meanings world call (Ok out) next → Holds total world
+            → StepsTo gives meanings world call (Ok out) next → Holds total world
             → Holds (λ n. total n ++ batches_by batch_in (handed_in call) n out.sent) next
         holds_next call out world next total may h =
             let after = (step gives meanings call world).after in
@@ -490,7 +490,7 @@ module _ {T : Type 0} (batch_in : EnvelopeItem → Option (List T)) where
 
         -- a client whose slot was occupied before the call, and what it sent by now
         record InCall (n : ℕ) (total : List (List T)) (world : World P C) : Type 0 where
-          so_far : (c : ClientState C) → value_at world.clients n ≡ Some c
+          so_far : (c : ClientHistory C) → value_at world.clients n ≡ Some c
               → (total ≡ batches (limit_of c) (history c.queues)) × ((c.occupied ≡ true) ⊎ (c.closed ≡ true))
           given : n < world.next.client
           clients : AreBelow 0 world.next.client world.clients
@@ -499,7 +499,7 @@ module _ {T : Type 0} (batch_in : EnvelopeItem → Option (List T)) where
             → InCall n (total ++ batches_by batch_in f n []) world
         padded f n total world i = subst (λ l. InCall n l world) (sym (none_by f (λ k. total) n)) i
 
-        in_call_added : (n : ℕ) (total : List (List T)) (world : World P C) (client : ClientState C)
+        in_call_added : (n : ℕ) (total : List (List T)) (world : World P C) (client : ClientHistory C)
             (books : List (ℕ × List LossEntry)) → InCall n total world → InCall n total (record world {
               next = record world.next { client = world.next.client + 1 };
               clients = put world.clients world.next.client client;
@@ -518,15 +518,15 @@ module _ {T : Type 0} (batch_in : EnvelopeItem → Option (List T)) where
         in_call_sending n total label (first ∷ rest) world i =
             record { so_far = i.so_far; given = i.given; clients = i.clients }
 
-        still_occupied : (c : ClientState C) → (c.occupied ≡ true) ⊎ (c.closed ≡ true) → c.closed ≡ false
+        still_occupied : (c : ClientHistory C) → (c.occupied ≡ true) ⊎ (c.closed ≡ true) → c.closed ≡ false
             → c.occupied ≡ true
         still_occupied c (inl h) e = h
         still_occupied c (inr h) e = absurd cc
 
         in_call_arrived : (n : ℕ) (total more : List (List T)) (world : World P C) (key : ClientKey)
-            (old : ClientState C) (arrival : Arrival) → client_at world key ≡ Some old → old.closed ≡ false
+            (old : ClientHistory C) (arrival : Arrival) → client_at world key ≡ Some old → old.closed ≡ false
             → more ≡ (if (n == key.number) && old.occupied then all_batches (envelopes_on_arrival arrival old) else [])
-            → InCall n total world → InCall n (total ++ more) (with_client_state world key (after_arrival arrival old))
+            → InCall n total world → InCall n (total ++ more) (with_client_history world key (after_arrival arrival old))
         in_call_arrived n total more world key old arrival found opened m i = record {
           so_far = λ c at. by_number (n == key.number) refl c m
               (sym (found_replaced world.clients key.number n (after_arrival arrival old) old here) ∙ at);
@@ -537,7 +537,7 @@ module _ {T : Type 0} (batch_in : EnvelopeItem → Option (List T)) where
             here : value_at world.clients key.number ≡ Some old
             here = found_under world.tag world.clients key.tag key.number old found
 
-            by_number : (b : Bool) → (n == key.number) ≡ b → (c : ClientState C)
+            by_number : (b : Bool) → (n == key.number) ≡ b → (c : ClientHistory C)
                 → more ≡ (if b && old.occupied then all_batches (envelopes_on_arrival arrival old) else [])
                 → (if b then Some (after_arrival arrival old) else value_at world.clients n) ≡ Some c
                 → (total ++ more ≡ batches (limit_of c) (history c.queues))
@@ -550,8 +550,8 @@ module _ {T : Type 0} (batch_in : EnvelopeItem → Option (List T)) where
                       (m ∙ ap (λ (b : Bool). if b then all_batches (envelopes_on_arrival arrival old) else []) occupied)
                       ∙ (ap (λ l. l ++ all_batches (envelopes_on_arrival arrival old)) was.0
                       ∙ (sym (arrival_is arrival old)
-                      ∙ ap (λ (x : ClientState C). batches (limit_of x) (history x.queues)) same)),
-                  subst (λ (x : ClientState C). (x.occupied ≡ true) ⊎ (x.closed ≡ true)) same
+                      ∙ ap (λ (x : ClientHistory C). batches (limit_of x) (history x.queues)) same)),
+                  subst (λ (x : ClientHistory C). (x.occupied ≡ true) ⊎ (x.closed ≡ true)) same
                       (slot_after arrival old occupied),
                 )
             by_number false e c m at =
@@ -588,14 +588,14 @@ module _ {T : Type 0} (batch_in : EnvelopeItem → Option (List T)) where
             in_call_sending n _ client.label _ _ (in_call_arrived n total _ world key client arrival found open_
             (ap (λ (b : Option Envelope). batches_by batch_in b n
             (send key client (envelopes_on_arrival arrival client)
-            (with_client_state world key (after_arrival arrival client))).sent) is_off
+            (with_client_history world key (after_arrival arrival client))).sent) is_off
             ∙ from_slot n key client.occupied (n == key.number) refl (pending_report world client.label)
             (envelopes_on_arrival arrival client)) i)
         in_call_change f (accepts world key client arrival is_log is_off found open_ came) n total i =
             in_call_sending n _ client.label _ _ (in_call_arrived n total _ world key client arrival found open_
             (ap (λ (b : Option Envelope). batches_by batch_in b n
             (send key client (envelopes_on_arrival arrival client)
-            (with_client_state world key (after_arrival arrival client))).sent) is_off
+            (with_client_history world key (after_arrival arrival client))).sent) is_off
             ∙ from_slot n key client.occupied (n == key.number) refl (pending_report world client.label)
             (envelopes_on_arrival arrival client)) i)
         in_call_change f (mails world key client envelope found occupied none told_) n total i =
@@ -634,15 +634,15 @@ module _ {T : Type 0} (batch_in : EnvelopeItem → Option (List T)) where
             ∙ ap (λ l. total ++ l) (sym (by-append f n sent more)))
             (in_call_changes f u n (total ++ batches_by batch_in f n sent) (in_call_changes f t n total i))
 
-        same_client : (o : Option (ClientState C)) (x y : ClientState C) → o ≡ Some x → o ≡ Some y → x ≡ y
+        same_client : (o : Option (ClientHistory C)) (x y : ClientHistory C) → o ≡ Some x → o ≡ Some y → x ≡ y
         same_client o x y p q = cc
 
-        in_call_first : (total : ℕ → List (List T)) (world : World P C) (n : ℕ) (client : ClientState C)
+        in_call_first : (total : ℕ → List (List T)) (world : World P C) (n : ℕ) (client : ClientHistory C)
             → value_at world.clients n ≡ Some client → client.occupied ≡ true → Holds total world
             → InCall n (total n) world
         in_call_first total world n client found occupied h = record {
           so_far = λ c at.
-              let mine : c.occupied ≡ true = subst (λ (x : ClientState C). x.occupied ≡ true)
+              let mine : c.occupied ≡ true = subst (λ (x : ClientHistory C). x.occupied ≡ true)
               (same_client (value_at world.clients n) client c found at) occupied in
               (h.sent n c at mine, inl mine);
           given = found_below 0 world.next.client n world.clients client h.clients found;
@@ -651,7 +651,7 @@ module _ {T : Type 0} (batch_in : EnvelopeItem → Option (List T)) where
 
         -- ---- the drop of a client
 
-        module _ (flushed_is : (client : ClientState C) → history (after_arrival (flush_came All) client).queues
+        module _ (flushed_is : (client : ClientHistory C) → history (after_arrival (flush_came All) client).queues
             ≡ cut ∷ history client.queues) where
           required : {X Y : Type 0} (refusal : Refusal) (world : World P C) (o : Option X) (go : X → Outcome P C Y)
               (make : Y → Reply P C) (out : Out (Reply P C)) (Q : Type 0)
@@ -671,26 +671,26 @@ module _ {T : Type 0} (batch_in : EnvelopeItem → Option (List T)) where
           sent_of (Ok out) = out.sent
           sent_of (Err refusal) = []
 
-          held_key : (key : ClientKey) (world : World P C) (o : Option (ClientState C)) (x : Client C)
-              → client_at world key ≡ o → option_map plain_client o ≡ Some x
-              → (client : ClientState C) × (client_at world key ≡ Some client)
+          held_key : (key : ClientKey) (world : World P C) (o : Option (ClientHistory C)) (x : Client C)
+              → client_at world key ≡ o → option_map stored_client o ≡ Some x
+              → (client : ClientHistory C) × (client_at world key ≡ Some client)
           held_key key world None x e f = absurd cc
           held_key key world (Some client) x e f = (client, e)
 
           -- what a drop hands out, of a client that is held
           dropped_sends : (key : ClientKey) (out : Out (Reply P C)) (world : World P C)
               → (client_step gives meanings (DropClient key) world).answer ≡ Ok out
-              → ((client : ClientState C) × (client_at world key ≡ Some client))
+              → ((client : ClientHistory C) × (client_at world key ≡ Some client))
               × (out.sent ≡ (flush_queues All key world).sent)
           unfolding client_step drop_client
           dropped_sends key out world e =
-              required Stale world (plain_client_at world key) _ (λ _. reply.Done) out _ e (λ client found e.
+              required Stale world (stored_client_at world key) _ (λ _. reply.Done) out _ e (λ client found e.
               allowed StillNamed world (not (is_client_named key world.hubs)) _ (λ _. reply.Done) out _ e (λ e.
               allowed StillNamed world (not (has_session_of key world.sessions)) _ (λ _. reply.Done) out _ e (λ e.
               allowed StillNamed world (not (has_transaction_of (span_table world) key)) _ (λ _. reply.Done) out _ e
               (λ e. (held_key key world (client_at world key) client refl found, ap sent_of (sym e))))))
 
-          flushed_sent : (key : ClientKey) (world : World P C) (client : ClientState C)
+          flushed_sent : (key : ClientKey) (world : World P C) (client : ClientHistory C)
               → client_at world key ≡ Some client → client.closed ≡ false
               → (flush_queues All key world).sent
               ≡ envelopes_from client.occupied key (pending_report world client.label)
@@ -699,7 +699,7 @@ module _ {T : Type 0} (batch_in : EnvelopeItem → Option (List T)) where
           flushed_sent key world client found opened = rw found (rw opened refl)
 
           dropped_is_sent : (total : ℕ → List (List T)) (n : ℕ) (key : ClientKey) (out : Out (Reply P C))
-              (world : World P C) (client : ClientState C) → (n == key.number) ≡ true
+              (world : World P C) (client : ClientHistory C) → (n == key.number) ≡ true
               → value_at world.clients n ≡ Some client → client.occupied ≡ true → Holds total world
               → (client_step gives meanings (DropClient key) world).answer ≡ Ok out
               → AreSent (total n ++ batches_by batch_in None n out.sent) (limit_of client) []
@@ -730,8 +730,8 @@ module _ {T : Type 0} (batch_in : EnvelopeItem → Option (List T)) where
           -- ---- each call
 
           sent_by_call : (call : Call P C) (out : Out (Reply P C)) (world next : World P C) (total : ℕ → List (List T))
-              → May gives meanings world call (Ok out) next → IsNumbered world → Holds total world → (n : ℕ)
-              (client : ClientState C) → value_at world.clients n ≡ Some client → client.occupied ≡ true
+              → StepsTo gives meanings world call (Ok out) next → IsNumbered world → Holds total world → (n : ℕ)
+              (client : ClientHistory C) → value_at world.clients n ≡ Some client → client.occupied ≡ true
               → IsSentBy history (total n ++ batches_by batch_in (handed_in call) n out.sent) client
               (value_at next.clients n)
           sent_by_call call out world next total may numbered h n client found occupied =
@@ -758,7 +758,7 @@ module _ {T : Type 0} (batch_in : EnvelopeItem → Option (List T)) where
                       dropped_is_sent total n key out world client own found occupied h answered
                   by_call call own answered = absurd own
 
-              by_held : (o : Option (ClientState C)) → value_at next.clients n ≡ o
+              by_held : (o : Option (ClientHistory C)) → value_at next.clients n ≡ o
                   → IsSentBy history (total n ++ batches_by batch_in (handed_in call) n out.sent) client o
               by_held (Some c) at =
                   let same = (after_.so_far c at).0 in (

@@ -15,11 +15,11 @@ use Rattle.sentry_base.specs.declared.protocol.session.SessionAggregates.{Sessio
 use Rattle.sentry_options.specs.Meanings.{Meanings}
 use Rattle.sentry_options.specs.declared.clientoptions.choices.SessionMode.{SessionMode}
 use Rattle.sentry_batches.specs.Batches.{BatchEntry, accept, batch_on, batch_on_tick, tick_history, batches}
-use Rattle.sentry_sessions.specs.SessionQueues.{QueueEntry, since_flush, is_full, what_waits, queue_of, individual, aggregates_of, aggregates_items, envelope_if_any, envelopes_of, envelopes_on}
+use Rattle.sentry_sessions.specs.SessionQueues.{QueueEntry, since_flush, is_full, waiting_of, queue_of, individual, aggregates_of, aggregates_items, envelope_if_any, envelopes_of, envelopes_on}
 use Rattle.sentry_state.specs.declared.state.Out.{Out}
-use Rattle.sentry_state.specs.Worlds.{World, ClientState, starting_world}
-use Rattle.sentry_queues.specs.Flushes.{batch_envelopes, session_envelopes, is_flushed, flushed_logs, flushed_metrics}
-use Rattle.sentry_queues.specs.declared.flushes.TheConstants.{SESSION_INTERVAL}
+use Rattle.sentry_state.specs.Worlds.{World, ClientHistory, starting_world}
+use Rattle.sentry_telemetry.specs.Flushes.{batch_envelopes, session_envelopes, is_flushed, flushed_logs, flushed_metrics}
+use Rattle.sentry_telemetry.specs.declared.flushes.TheConstants.{SESSION_INTERVAL}
 use Rattle.sentry_batches.specs.declared.batcher.TheConstants.{BATCH_INTERVAL}
 use Rattle.sentry_calls.specs.declared.call.Call.{Call}
 use Rattle.sentry_calls.specs.declared.call.Reply.{Reply}
@@ -79,10 +79,10 @@ module _ {T : Type 0} (batch_in : EnvelopeItem → Option (List T)) (update_is :
   envelope_none (first ∷ rest) h = ap (λ l. l ++ []) h
 
   waiting_none : (mode : SessionMode) (updates : List SessionUpdate)
-      → all_batches batch_in (envelopes_of (what_waits mode updates)) ≡ []
-  unfolding what_waits
+      → all_batches batch_in (envelopes_of (waiting_of mode updates)) ≡ []
+  unfolding waiting_of
   waiting_none mode updates =
-      let waiting = what_waits mode updates in
+      let waiting = waiting_of mode updates in
       all_batches-append batch_in (envelope_if_any (aggregates_items (aggregates_of waiting)))
       (envelope_if_any waiting.individual)
       ∙ (ap (λ l. l ++ all_batches batch_in (envelope_if_any waiting.individual))
@@ -98,7 +98,7 @@ module _ {T : Type 0} (batch_in : EnvelopeItem → Option (List T)) (update_is :
       → all_batches batch_in (envelopes_on mode update history) ≡ []
   session_none mode update history =
       if_none (is_full mode (update ∷ since_flush mode history))
-      (envelopes_of (what_waits mode (update ∷ since_flush mode history)))
+      (envelopes_of (waiting_of mode (update ∷ since_flush mode history)))
       (waiting_none mode (update ∷ since_flush mode history))
 
   pub flushed_none : (b : Bool) (mode : SessionMode) (history : List QueueEntry) (others : List Envelope)
@@ -112,7 +112,7 @@ none_more : {T : Type 0} (xs ys : List (List T)) → ys ≡ [] → xs ≡ xs ++ 
 none_more xs ys h = sym (ap (λ l. xs ++ l) h ∙ append-nil xs)
 
 module _ {C : Type 0} where
-  logs_on : (arrival : Arrival) (client : ClientState C) → batches (limit_of (after_arrival arrival client))
+  logs_on : (arrival : Arrival) (client : ClientHistory C) → batches (limit_of (after_arrival arrival client))
       (after_arrival arrival client).queues.logs ≡ batches (limit_of client) client.queues.logs ++ all_batches log_batch
       (envelopes_on_arrival arrival client)
   logs_on (log_came log) client = ap (λ l. batches (limit_of client) client.queues.logs ++ l)
@@ -132,7 +132,7 @@ module _ {C : Type 0} where
       ∙ log_batches_of (flushed_logs (limit_of client) flush client.queues)
       (flushed_metrics (limit_of client) flush client.queues)))
 
-  metrics_on : (arrival : Arrival) (client : ClientState C) → batches (limit_of (after_arrival arrival client))
+  metrics_on : (arrival : Arrival) (client : ClientHistory C) → batches (limit_of (after_arrival arrival client))
       (after_arrival arrival client).queues.metrics ≡ batches (limit_of client) client.queues.metrics
       ++ all_batches metric_batch (envelopes_on_arrival arrival client)
   metrics_on (log_came log) client = none_more (batches (limit_of client) client.queues.metrics) _

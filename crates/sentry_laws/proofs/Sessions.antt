@@ -21,9 +21,9 @@ use Rattle.sentry_scope.specs.Stacks.{pop, stack_of, stack_of_any}
 use Rattle.sentry_sessions.specs.Sessions.{SessionEntry}
 use Rattle.sentry_hub_table.specs.declared.hub.Hub.{Hub}
 use Rattle.sentry_state.specs.declared.state.Out.{Out}
-use Rattle.sentry_state.specs.Worlds.{World, SessionState, starting_world}
+use Rattle.sentry_state.specs.Worlds.{World, SessionHistory, starting_world}
 use Rattle.sentry_state.specs.Outcomes.{hub_at, session_at}
-use Rattle.sentry_state.specs.Changes.{with_client_state}
+use Rattle.sentry_state.specs.Changes.{with_client_history}
 use Rattle.sentry_sending.specs.Sending.{after_sending, send, send_nothing, reply_sending}
 use Rattle.sentry_calls.specs.declared.call.Call.{Call}
 use Rattle.sentry_calls.specs.declared.call.Call.TheVariants as group
@@ -32,9 +32,9 @@ use Rattle.sentry_calls.specs.declared.call.Reply.{Reply}
 use Rattle.sentry_calls.specs.declared.call.Reply.TheVariants as reply
 use Rattle.sentry_calls.specs.Sessions as session_calls
 use Rattle.sentry_sending.specs.SessionEnds.{end_session}
-use Rattle.sentry_calls.specs.Runs.{May, Run}
+use Rattle.sentry_calls.specs.Runs.{StepsTo, Run}
 use Rattle.sentry_calls.specs.Steps.{step, hub_step}
-use Rattle.sentry_span_calls.specs.Replies.{map_answer}
+use Rattle.sentry_calls.specs.Replies.{map_answer}
 use Rattle.sentry_laws.proofs.Effects.{Effect, LayerChange, scope_edited, breadcrumbs_came, client_bound, layer_pushed, layer_popped, session_named, change_layers, add_under, effects}
 use Rattle.sentry_laws.proofs.Changes.{Change, Changes, nothing, one, both, held_options, IsAllowed, IsGiven, after_arrival, envelopes_on_arrival, makes_hub, makes_hub_from, changes_hub, leaves_hub, notes_event_id, releases_hub, adds_client, clones_client, drops_client, arrives, accepts, accepts_none, mails, loses, takes_report, absorbs, starts_none, starts_session, changes_session, ends_session, starts_transaction, starts_span, changes_spans}
 use Rattle.sentry_laws.specs.SentItems.{handed_in}
@@ -145,28 +145,28 @@ module _ {P C : Type 0} where
 -- ---- one session
 
 -- what stands under a number that was given out, where nothing may stand, and more entries may come
-module _ (number low : ℕ) (Holds : Option SessionState → Type 0)
-    (below : (number < low) ⊎ ((o : Option SessionState) → Holds o)) (none : Holds None)
-    (more : (old new : SessionState) (later : List SessionEntry) → new ≡ record old { history = later ++ old.history }
+module _ (number low : ℕ) (Holds : Option SessionHistory → Type 0)
+    (below : (number < low) ⊎ ((o : Option SessionHistory) → Holds o)) (none : Holds None)
+    (more : (old new : SessionHistory) (later : List SessionEntry) → new ≡ record old { history = later ++ old.history }
     → Holds (Some old) → Holds (Some new)) where
   pub record Watched {P C : Type 0} (world : World P C) : Type 0 where
     pub counts : Counts world
     pub given : low ≤ world.next.session
     pub holds : Holds (value_at world.sessions number)
 
-  changed_holds : (b : Bool) (n : ℕ) (sessions : List (ℕ × SessionState)) (old new : SessionState)
+  changed_holds : (b : Bool) (n : ℕ) (sessions : List (ℕ × SessionHistory)) (old new : SessionHistory)
       (later : List SessionEntry) → value_at sessions n ≡ Some old → new ≡ record old { history = later ++ old.history }
       → (number == n) ≡ b → Holds (value_at sessions number) → Holds (if b then Some new else value_at sessions number)
   changed_holds true n sessions old new later found same e h =
       more old new later same (subst Holds (ap (value_at sessions) (same_number number n e) ∙ found) h)
   changed_holds false n sessions old new later found same e h = h
 
-  ended_holds : (b : Bool) (o : Option SessionState) → Holds o → Holds (if b then None else o)
+  ended_holds : (b : Bool) (o : Option SessionHistory) → Holds o → Holds (if b then None else o)
   ended_holds true o h = none
   ended_holds false o h = h
 
-  started-by : (next : ℕ) (sessions : List (ℕ × SessionState)) (new : SessionState) → (number < low)
-      ⊎ ((o : Option SessionState) → Holds o) → low ≤ next → Holds (value_at sessions number)
+  started-by : (next : ℕ) (sessions : List (ℕ × SessionHistory)) (new : SessionHistory) → (number < low)
+      ⊎ ((o : Option SessionHistory) → Holds o) → low ≤ next → Holds (value_at sessions number)
       → Holds (value_at (put sessions next new) number)
   started-by next sessions new (inl under) given h =
       subst Holds (sym (others_put sessions next number new (λ e. absurd (omega (arith, e, under, given))))) h
@@ -243,8 +243,8 @@ module _ (number low : ℕ) (Holds : Option SessionState → Type 0)
         }
     watched_change (arrives world key client arrival is_off found open_ came) w =
         watched_sending client.label (send key client (envelopes_on_arrival arrival client)
-        (with_client_state world key (after_arrival arrival client))).sent
-        (with_client_state world key (after_arrival arrival client))
+        (with_client_history world key (after_arrival arrival client))).sent
+        (with_client_history world key (after_arrival arrival client))
         (record {
           counts = record { sessions = w.counts.sessions; hubs = w.counts.hubs; given = w.counts.given };
           given = w.given;
@@ -252,8 +252,8 @@ module _ (number low : ℕ) (Holds : Option SessionState → Type 0)
         })
     watched_change (accepts world key client arrival is_log is_off found open_ came) w =
         watched_sending client.label (send key client (envelopes_on_arrival arrival client)
-        (with_client_state world key (after_arrival arrival client))).sent
-        (with_client_state world key (after_arrival arrival client))
+        (with_client_history world key (after_arrival arrival client))).sent
+        (with_client_history world key (after_arrival arrival client))
         (record {
           counts = record { sessions = w.counts.sessions; hubs = w.counts.hubs; given = w.counts.given };
           given = w.given;
@@ -353,7 +353,7 @@ module _ (number low : ℕ) (Holds : Option SessionState → Type 0)
 
   module _ {P C : Type 0} (gives : P → Partial) (meanings : C → Meanings) where
     pub watched_next : (call : Call P C) (out : Out (Reply P C)) (world next : World P C)
-        → May gives meanings world call (Ok out) next → Watched world → Watched next
+        → StepsTo gives meanings world call (Ok out) next → Watched world → Watched next
     watched_next call out world next may w =
         let after = (step gives meanings call world).after in
         let trail : Trail meanings (handed_in call) world (effects meanings call out.reply) out.sent after =
@@ -388,11 +388,11 @@ module _ {P C : Type 0} (gives : P → Partial) (meanings : C → Meanings) wher
         holds = tt;
       })).counts
 
-pub under_by : (b : Bool) (o : Option SessionState) → b ≡ true → (if b then o else None) ≡ None → o ≡ None
+pub under_by : (b : Bool) (o : Option SessionHistory) → b ≡ true → (if b then o else None) ≡ None → o ≡ None
 under_by true o e h = h
 under_by false o e h = absurd cc
 
-pub none_under : (b : Bool) (o : Option SessionState) → o ≡ None → (if b then o else None) ≡ None
+pub none_under : (b : Bool) (o : Option SessionHistory) → o ≡ None → (if b then o else None) ≡ None
 none_under true o h = h
 none_under false o h = refl
 

@@ -23,7 +23,7 @@ use Rattle.sentry_base.specs.declared.protocol.span.Span.{Span}
 use Rattle.sentry_client_reports.specs.LossBooks.{LossEntry, engine_losses, report_point, report_items, report_of, pending_losses}
 use Rattle.sentry_options.specs.Meanings.{Meanings}
 use Rattle.sentry_sending.specs.Sending.{envelopes_from, after_sending}
-use Rattle.sentry_span_table.specs.SpanLists.{TransactionState, plain_transaction, fate_of, with_finished}
+use Rattle.sentry_span_table.specs.SpanLists.{TransactionHistory, stored_transaction, fate_of, with_span_finished}
 use Rattle.sentry_span_table.specs.SpanTables.{has_span_of, place_in}
 use Rattle.sentry_span_table.specs.declared.table.records.SpanFate.{SpanFate}
 use Rattle.sentry_span_table.specs.declared.table.records.SpanFate.TheVariants.{Kept, Lost, Gone}
@@ -31,10 +31,10 @@ use Rattle.sentry_span_table.specs.declared.table.records.SpanRecord.{SpanRecord
 use Rattle.sentry_span_table.specs.declared.table.records.TracingState.{TracingState}
 use Rattle.sentry_span_table.specs.declared.table.records.TracingState.TheVariants.{Enabled, Disabled}
 use Rattle.sentry_span_table.specs.declared.table.records.TransactionRecord.{TransactionRecord}
-use Rattle.sentry_span_calls.specs.Calls.{span_step}
-use Rattle.sentry_span_calls.specs.declared.call.records.SpanCall.{SpanCall}
-use Rattle.sentry_span_calls.specs.declared.call.records.SpanCall.TheVariants as on_span
-use Rattle.sentry_span_calls.specs.declared.call.records.SpanReply.TheVariants as reply
+use Rattle.sentry_calls.specs.SpanCalls.{span_step}
+use Rattle.sentry_calls.specs.declared.call.spans.records.SpanCall.{SpanCall}
+use Rattle.sentry_calls.specs.declared.call.spans.records.SpanCall.TheVariants as on_span
+use Rattle.sentry_calls.specs.declared.call.spans.records.SpanReply.TheVariants as reply
 use Rattle.sentry_span_edits.specs.Discards.{discard, is_active_on}
 use Rattle.sentry_span_edits.specs.Edits.{edit_context, edit_span, edit_span_record, edit_transaction}
 use Rattle.sentry_span_edits.specs.Reads.{read, get_status, read_data, is_sampled, get_span_id, get_trace_context, iter_headers}
@@ -44,9 +44,9 @@ use Rattle.sentry_span_edits.specs.declared.edit.SpanEdit.TheVariants as edit_by
 use Rattle.sentry_spans.specs.Spans.{started_transaction, start_transaction_with_timestamp, start_child_with_details, continue_from_span, child_of, finish_span, finish_transaction, is_transaction_number_left, is_span_number_left, by_tracing, with_client_loss, with_loss_of, with_fate, with_span_in}
 use Rattle.sentry_state.specs.declared.state.Client.{Client}
 use Rattle.sentry_state.specs.Books.{with_entry}
-use Rattle.sentry_state.specs.Outcomes.{Outcome, client_at, hub_at, plain_client_at, plain_transaction_at, span_at, transaction_at}
-use Rattle.sentry_state.specs.SpanChanges.{closed_transaction, finished_span, next_span_key, next_transaction_key, with_closed, with_closed_state, with_span, with_transaction}
-use Rattle.sentry_state.specs.Worlds.{World, ClientState, plain_client, span_table}
+use Rattle.sentry_state.specs.Outcomes.{Outcome, client_at, hub_at, stored_client_at, stored_transaction_at, span_at, transaction_at}
+use Rattle.sentry_state.specs.SpanChanges.{finished_transaction, finished_span, next_span_key, next_transaction_key, with_transaction_finished, with_found_finished, with_span, with_transaction}
+use Rattle.sentry_state.specs.Worlds.{World, ClientHistory, stored_client, span_table}
 use Rattle.sentry_trace.specs.declared.performance.context.TransactionContext.{TransactionContext}
 use Rattle.sentry_calls.specs.Hubs.{with_names}
 use Rattle.sentry_laws.proofs.Effects.{Effect}
@@ -79,10 +79,10 @@ not_true true e = absurd cc
 not_true false e = refl
 
 -- a transaction that an engine has is one of the world
-from_plain : (o : Option TransactionState) (held : TransactionRecord) → option_map plain_transaction o ≡ Some held
-    → (state : TransactionState) × (o ≡ Some state)
-from_plain None held e = absurd cc
-from_plain (Some state) held e = (state, refl)
+from_stored : (o : Option TransactionHistory) (held : TransactionRecord) → option_map stored_transaction o ≡ Some held
+    → (state : TransactionHistory) × (o ≡ Some state)
+from_stored None held e = absurd cc
+from_stored (Some state) held e = (state, refl)
 
 started_new : {C : Type 0} (meanings : C → Meanings) (name : Option ClientKey) (client : Option (Client C))
     (context : TransactionContext) (start : ℕ) (fresh : Fresh)
@@ -91,13 +91,13 @@ started_new meanings (Some key) (Some client) context start fresh = refl
 started_new meanings name client context start fresh = refl
 
 module _ {P C : Type 0} where
-  closed_client : (number : ℕ) (o : Option TransactionState) (world : World P C) (key : ClientKey)
-      → client_at (with_closed_state number o world) key ≡ client_at world key
+  pub closed_client : (number : ℕ) (o : Option TransactionHistory) (world : World P C) (key : ClientKey)
+      → client_at (with_found_finished number o world) key ≡ client_at world key
   closed_client number None world key = refl
   closed_client number (Some state) world key = refl
 
-  closed_books : (number : ℕ) (o : Option TransactionState) (world : World P C)
-      → (with_closed_state number o world).books ≡ world.books
+  pub closed_books : (number : ℕ) (o : Option TransactionHistory) (world : World P C)
+      → (with_found_finished number o world).books ≡ world.books
   closed_books number None world = refl
   closed_books number (Some state) world = refl
 
@@ -110,7 +110,7 @@ module _ {P C : Type 0} (meanings : C → Meanings) where
   abbrev Quietly : World P C → World P C → Type 0
   Quietly old new = Changes meanings None old [] [] new
 
-  edits-found : (by : SpanEdit) (key : TransactionKey) (world : World P C) (o : Option TransactionState)
+  edits-found : (by : SpanEdit) (key : TransactionKey) (world : World P C) (o : Option TransactionHistory)
       → transaction_at world key ≡ o → Quietly world (with_found_edited by key.number o world)
   edits-found by key world None at = nothing world
   edits-found by key world (Some state) at =
@@ -137,18 +137,18 @@ module _ {P C : Type 0} (meanings : C → Meanings) where
       (subst (λ s. Changes meanings None old (some ++ []) s (with_names renames middle)) (append-nil sent)
       (both changes (names_by renames middle)))
 
-  closes-found : (key : TransactionKey) (world : World P C) (o : Option TransactionState) → transaction_at world key ≡ o
-      → Quietly world (with_closed_state key.number o world)
+  closes-found : (key : TransactionKey) (world : World P C) (o : Option TransactionHistory) → transaction_at world key ≡ o
+      → Quietly world (with_found_finished key.number o world)
   closes-found key world None at = nothing world
   closes-found key world (Some state) at =
-      one (changes_spans world _ _ (changes_transaction key.number state (closed_transaction state)
+      one (changes_spans world _ _ (changes_transaction key.number state (finished_transaction state)
       (found_under world.tag world.transactions key.tag key.number state at) refl refl))
 
-  closes : (key : TransactionKey) (world : World P C) → Quietly world (with_closed key world)
+  closes : (key : TransactionKey) (world : World P C) → Quietly world (with_transaction_finished key world)
   closes key world = closes-found key world (transaction_at world key) refl
 
-  loses-found : (key : ClientKey) (losses : List ℕ) (world : World P C) (o : Option (ClientState C))
-      → client_at world key ≡ o → Quietly world (with_loss_of (option_map plain_client o) (engine_losses losses) world)
+  loses-found : (key : ClientKey) (losses : List ℕ) (world : World P C) (o : Option (ClientHistory C))
+      → client_at world key ≡ o → Quietly world (with_loss_of (option_map stored_client o) (engine_losses losses) world)
   loses-found key losses world None found = nothing world
   loses-found key losses world (Some client) found = one (loses world key client losses found)
 
@@ -162,16 +162,16 @@ module _ {P C : Type 0} (meanings : C → Meanings) where
   meets Gone world = nothing world
 
   -- a span that is held finished in its transaction
-  finishes-in : (world : World P C) (number : ℕ) (held : SpanRecord) (o : Option TransactionState)
+  finishes-in : (world : World P C) (number : ℕ) (held : SpanRecord) (o : Option TransactionHistory)
       → value_at world.spans number ≡ Some held → transaction_at world held.transaction ≡ o
       → Quietly world (with_span_in held.transaction held.span o world)
   finishes-in world number held None here at = nothing world
   finishes-in world number held (Some state) here at =
       both (one (changes_spans world _ _ (keeps_span number held state here at)))
-      (meets (fate_of state) (with_transaction held.transaction.number (with_finished held.span state) world))
+      (meets (fate_of state) (with_transaction held.transaction.number (with_span_finished held.span state) world))
 
   -- an envelope of a client leaves its slot, if that is occupied
-  mails_from : (b : Bool) (world middle : World P C) (key : ClientKey) (client : ClientState C) (envelope : Envelope)
+  mails_from : (b : Bool) (world middle : World P C) (key : ClientKey) (client : ClientHistory C) (envelope : Envelope)
       → middle.books ≡ world.books → client_at middle key ≡ Some client
       → client.occupied ≡ b → list_any is_batch_or_report envelope.items ≡ false → AreOfHeld middle envelope.items
       → Changes meanings None middle [] (envelopes_from b key (report_in world.books client.label) (envelope ∷ []))
@@ -190,7 +190,7 @@ module _ {P C : Type 0} (meanings : C → Meanings) where
   told_change : (by : SpanEdit) (name : TransactionOrSpanKey) (world : World P C) → Silent world (change by name world)
   unfolding change
   told_change by (key_of.Transaction key) world =
-      told_some meanings None Stale (plain_transaction_at world key)
+      told_some meanings None Stale (stored_transaction_at world key)
       (λ held found. told_trail meanings None tt (edits_held by key world) refl refl)
   told_change by (key_of.Span key) world =
       told_some meanings None Stale (span_at world key) (λ held found.
@@ -206,7 +206,7 @@ module _ {P C : Type 0} (meanings : C → Meanings) where
       told_require meanings None Full (is_transaction_number_left world) (λ left.
       told_trail meanings None (next_transaction_key world)
       (one (starts_transaction world _
-      (started_new meanings hub.stack.top.client (option_and_then (plain_client_at world) hub.stack.top.client)
+      (started_new meanings hub.stack.top.client (option_and_then (stored_client_at world) hub.stack.top.client)
       context start fresh))) refl refl))
 
   told_continue : (name op : Bytes) (span : Option TransactionOrSpanKey) (fresh : Fresh) (world : World P C)
@@ -246,20 +246,20 @@ module _ {P C : Type 0} (meanings : C → Meanings) where
   told_by_tracing (Enabled true rate) world untraced unsampled sampled h k l = l rate
 
   told_finish_transaction : (key : TransactionKey) (hub_key : HubKey) (moment : ℕ) (world : World P C)
-      → Silent world (finish_transaction meanings key hub_key moment world)
+      → Silent world (finish_transaction key hub_key moment world)
   unfolding finish_transaction
   told_finish_transaction key hub_key moment world =
-      told_some meanings None Stale (plain_transaction_at world key) (λ held found.
+      told_some meanings None Stale (stored_transaction_at world key) (λ held found.
       told_some meanings None Stale (hub_at world hub_key) (λ hub hub_found.
       told_let meanings None held.unfinished (λ none. told_nothing meanings None tt refl) (λ unfinished is.
       told_by_tracing held.tracing world _ _ _
       (told_trail meanings None tt (closes key world) refl refl)
-      (told_trail meanings None tt (both (closes key world) (client_loses unfinished.client _ (with_closed key world)))
+      (told_trail meanings None tt (both (closes key world) (client_loses unfinished.client _ (with_transaction_finished key world)))
       refl refl)
       (λ rate. told_let_client meanings None (client_at world unfinished.client) _ _
       (λ none. told_trail meanings None tt (closes key world) refl refl) (λ client client_found.
       told_trail meanings None tt (both (closes key world)
-      (mails_from client.occupied world (with_closed key world) unfinished.client client _
+      (mails_from client.occupied world (with_transaction_finished key world) unfinished.client client _
       (closed_books key.number (transaction_at world key) world)
       (closed_client key.number (transaction_at world key) world unfinished.client ∙ client_found) refl refl (tt, tt)))
       refl refl)))))
@@ -267,8 +267,8 @@ module _ {P C : Type 0} (meanings : C → Meanings) where
   told_discard : (name : TransactionOrSpanKey) (world : World P C) → Silent world (discard name world)
   unfolding discard
   told_discard (key_of.Transaction key) world =
-      told_some meanings None Stale (plain_transaction_at world key) (λ held found.
-      let state = from_plain (transaction_at world key) held found in
+      told_some meanings None Stale (stored_transaction_at world key) (λ held found.
+      let state = from_stored (transaction_at world key) held found in
       told_require meanings None StillNamed (not (is_active_on (key_of.Transaction key) world.hubs)) (λ unnamed.
       told_require meanings None StillNamed (not (has_span_of (span_table world) key)) (λ spanless.
       told_trail meanings None tt
@@ -283,17 +283,17 @@ module _ {P C : Type 0} (meanings : C → Meanings) where
   told_read : {T : Type 0} (of_transaction : TransactionRecord → T) (of_span : SpanRecord → T)
       (name : TransactionOrSpanKey) (world : World P C) → Silent world (read of_transaction of_span name world)
   told_read of_transaction of_span (key_of.Transaction key) world =
-      told_some meanings None Stale (plain_transaction_at world key) (λ held found. told_nothing meanings None _ refl)
+      told_some meanings None Stale (stored_transaction_at world key) (λ held found. told_nothing meanings None _ refl)
   told_read of_transaction of_span (key_of.Span key) world = told_some meanings None Stale (span_at world key)
       (λ held found. told_nothing meanings None _ refl)
 
   told_context : (name : TransactionOrSpanKey) (world : World P C) → Silent world (get_trace_context name world)
   unfolding get_trace_context
-  told_context (key_of.Transaction key) world = told_some meanings None Stale (plain_transaction_at world key)
+  told_context (key_of.Transaction key) world = told_some meanings None Stale (stored_transaction_at world key)
       (λ held found. told_nothing meanings None _ refl)
   told_context (key_of.Span key) world =
       told_some meanings None Stale (span_at world key) (λ held found.
-      told_some meanings None Stale (plain_transaction_at world held.transaction)
+      told_some meanings None Stale (stored_transaction_at world held.transaction)
       (λ kept there. told_nothing meanings None _ refl))
 
   pub told_span_step : (call : SpanCall) (world : World P C) → Silent world (span_step meanings call world)

@@ -15,11 +15,11 @@ use Rattle.sentry_base.specs.declared.protocol.session.SessionAggregates.{Sessio
 use Rattle.sentry_base.specs.declared.protocol.session.SessionUpdate.{SessionUpdate}
 use Rattle.sentry_options.specs.declared.clientoptions.choices.SessionMode.{SessionMode}
 use Rattle.sentry_batches.specs.Batches.{accept, batch_on}
-use Rattle.sentry_sessions.specs.SessionQueues.{QueueEntry, enqueued, flushed, since_flush, is_full, is_aggregated, what_waits, queue_of, individual, aggregates_of, aggregates_items, envelope_if_any, envelopes_of}
+use Rattle.sentry_sessions.specs.SessionQueues.{QueueEntry, enqueued, flushed, since_flush, is_full, is_aggregated, waiting_of, queue_of, individual, aggregates_of, aggregates_items, envelope_if_any, envelopes_of}
 use Rattle.sentry_sending.specs.Sending.{for_client, envelopes_from}
-use Rattle.sentry_queues.specs.Flushes.{batch_envelopes, session_envelopes, is_flushed, flushed_logs, flushed_metrics}
-use Rattle.sentry_queues.specs.declared.flushes.TheConstants.{SESSION_INTERVAL}
-use Rattle.sentry_state.specs.Worlds.{ClientState}
+use Rattle.sentry_telemetry.specs.Flushes.{batch_envelopes, session_envelopes, is_flushed, flushed_logs, flushed_metrics}
+use Rattle.sentry_telemetry.specs.declared.flushes.TheConstants.{SESSION_INTERVAL}
+use Rattle.sentry_state.specs.Worlds.{ClientHistory}
 use Rattle.sentry_laws.specs.Updates.{update_in, updates_among, updates_in, all_queued}
 use Rattle.sentry_laws.proofs.Changes.{Arrival, log_came, metric_came, session_ended, flush_came, envelopes_on_arrival}
 
@@ -156,18 +156,18 @@ in_aggregates None u h = h
 in_aggregates (Some aggregates) u h = h
 
 in_waiting : (mode : SessionMode) (updates : List SessionUpdate) (u : SessionUpdate)
-    → Among u (updates_of_all (envelopes_of (what_waits mode updates))) → Among u updates
-unfolding what_waits
+    → Among u (updates_of_all (envelopes_of (waiting_of mode updates))) → Among u updates
+unfolding waiting_of
 in_waiting mode updates u h =
-    by_part (all-append (envelope_if_any (aggregates_items (aggregates_of (what_waits mode updates))))
+    by_part (all-append (envelope_if_any (aggregates_items (aggregates_of (waiting_of mode updates))))
     (envelope_if_any (map item.SessionUpdate (reverse (individual mode updates)))) u h)
   where
-    by_part : Among u (updates_of_all (envelope_if_any (aggregates_items (aggregates_of (what_waits mode updates)))))
+    by_part : Among u (updates_of_all (envelope_if_any (aggregates_items (aggregates_of (waiting_of mode updates)))))
         ⊎ Among u (updates_of_all (envelope_if_any (map item.SessionUpdate (reverse (individual mode updates)))))
         → Among u updates
     by_part (inl h) =
-        absurd (in_aggregates (aggregates_of (what_waits mode updates)) u
-        (in_envelope (aggregates_items (aggregates_of (what_waits mode updates))) u h))
+        absurd (in_aggregates (aggregates_of (waiting_of mode updates)) u
+        (in_envelope (aggregates_items (aggregates_of (waiting_of mode updates))) u h))
     by_part (inr h) =
         among_filtered (λ update. not (is_aggregated mode update)) u updates
         (among_reversed u (individual mode updates)
@@ -207,7 +207,7 @@ ComesBy u _ = ⊥
 
 module _ {C : Type 0} where
   -- an update that is sent where something comes was queued before, or comes
-  pub sent_on_arrival : (arrival : Arrival) (client : ClientState C) (u : SessionUpdate)
+  pub sent_on_arrival : (arrival : Arrival) (client : ClientHistory C) (u : SessionUpdate)
       → Among u (updates_of_all (envelopes_on_arrival arrival client))
       → Among u (all_queued client.queues.sessions) ⊎ ComesBy u arrival
   sent_on_arrival (log_came log) client u h =
@@ -219,7 +219,7 @@ module _ {C : Type 0} where
       let history = client.queues.sessions in
       by_place (in_waiting mode (update ∷ since_flush mode history) u
       (if_envelopes (is_full mode (update ∷ since_flush mode history))
-      (envelopes_of (what_waits mode (update ∷ since_flush mode history))) u h))
+      (envelopes_of (waiting_of mode (update ∷ since_flush mode history))) u h))
     where
       by_place : Among u (update ∷ since_flush client.options.plain.session_mode client.queues.sessions)
           → Among u (all_queued client.queues.sessions) ⊎ (u ≡ update)

@@ -18,7 +18,7 @@ use Rattle.sentry_base.specs.declared.protocol.refusal.Refusal.{Refusal}
 use Rattle.sentry_base.specs.declared.protocol.span.Span.{Span}
 use Rattle.sentry_options.specs.Meanings.{Meanings}
 use Rattle.sentry_sending.specs.Sending.{send, after_sending}
-use Rattle.sentry_span_table.specs.SpanLists.{TransactionState, plain_transaction, with_finished, kept_spans, spans_left}
+use Rattle.sentry_span_table.specs.SpanLists.{TransactionHistory, stored_transaction, with_span_finished, kept_spans, spans_left}
 use Rattle.sentry_span_table.specs.SpanTables.{place_in, place_of_transaction, place_of_span, is_same_transaction}
 use Rattle.sentry_span_table.specs.declared.table.records.SpanPlace.{SpanPlace}
 use Rattle.sentry_span_table.specs.declared.table.records.SpanRecord.{SpanRecord}
@@ -27,7 +27,7 @@ use Rattle.sentry_span_table.specs.declared.table.records.TracingState.TheVarian
 use Rattle.sentry_span_table.specs.declared.table.records.TransactionRecord.{TransactionRecord}
 use Rattle.sentry_span_table.specs.declared.table.records.Unfinished.{Unfinished}
 use Rattle.sentry_state.specs.declared.state.Out.{Out}
-use Rattle.sentry_state.specs.Changes.{with_client_state}
+use Rattle.sentry_state.specs.Changes.{with_client_history}
 use Rattle.sentry_state.specs.Outcomes.{transaction_at, span_at}
 use Rattle.sentry_state.specs.SpanChanges.{with_new_transaction, with_new_span}
 use Rattle.sentry_state.specs.Worlds.{World, map_values, span_table, starting_world}
@@ -92,7 +92,7 @@ mapped_there f (Some x) y e = (x, refl, cc)
 
 -- ---- one change
 
-finished_context : (span : Span) (state : TransactionState) → (with_finished span state).context ≡ state.context
+finished_context : (span : Span) (state : TransactionHistory) → (with_span_finished span state).context ≡ state.context
 finished_context span state = by_open (is_some state.unfinished)
   where
     by_open : (b : Bool) → (if b then record state { finished = state.finished ++ span ∷ [] } else state).context
@@ -100,8 +100,8 @@ finished_context span state = by_open (is_some state.unfinished)
     by_open true = refl
     by_open false = refl
 
-in_finished : (trace_id : TraceId) (span : Span) (state : TransactionState) → AreIn trace_id state.finished
-    → span.trace_id ≡ trace_id → AreIn trace_id (with_finished span state).finished
+in_finished : (trace_id : TraceId) (span : Span) (state : TransactionHistory) → AreIn trace_id state.finished
+    → span.trace_id ≡ trace_id → AreIn trace_id (with_span_finished span state).finished
 in_finished trace_id span state h k = by_open (is_some state.unfinished)
   where
     by_open : (b : Bool) → AreIn trace_id
@@ -112,12 +112,12 @@ in_finished trace_id span state h k = by_open (is_some state.unfinished)
 module _ {P C : Type 0} where
   -- the transaction of the span is held, and has its trace id
   abbrev Belongs : World P C → SpanRecord → Type 0
-  Belongs world held = (state : TransactionState) × (transaction_at world held.transaction ≡ Some state)
+  Belongs world held = (state : TransactionHistory) × (transaction_at world held.transaction ≡ Some state)
       × (held.span.trace_id ≡ state.context.trace_id)
 
   record IsTraced (world : World P C) : Type 0 where
     numbers : IsNumbered world
-    kept : (n : ℕ) (state : TransactionState) → value_at world.transactions n ≡ Some state
+    kept : (n : ℕ) (state : TransactionHistory) → value_at world.transactions n ≡ Some state
         → AreIn state.context.trace_id state.finished
     held : (n : ℕ) (held : SpanRecord) → value_at world.spans n ≡ Some held → Belongs world held
 
@@ -126,7 +126,7 @@ module _ {P C : Type 0} where
   traced_sending label [] world n t = t
   traced_sending label (first ∷ rest) world n t = record { numbers = n; kept = t.kept; held = t.held }
 
-  own_tag : (world : World P C) (key : TransactionKey) (state : TransactionState)
+  own_tag : (world : World P C) (key : TransactionKey) (state : TransactionHistory)
       → transaction_at world key ≡ Some state → (key.tag == world.tag) ≡ true
   own_tag world key state at = by_tag (key.tag == world.tag) at
     where
@@ -135,18 +135,18 @@ module _ {P C : Type 0} where
       by_tag false h = absurd cc
 
   -- a transaction that is found where its table changed
-  found_after : (world : World P C) (key : TransactionKey) (state other : TransactionState)
-      (transactions : List (ℕ × TransactionState)) → transaction_at world key ≡ Some state
+  found_after : (world : World P C) (key : TransactionKey) (state other : TransactionHistory)
+      (transactions : List (ℕ × TransactionHistory)) → transaction_at world key ≡ Some state
       → value_at transactions key.number ≡ Some other
       → (if key.tag == world.tag then value_at transactions key.number else None) ≡ Some other
   found_after world key state other transactions at there =
       ap (λ b. if b then value_at transactions key.number else None) (own_tag world key state at) ∙ there
 
   -- a transaction after one changed that keeps its trace id
-  after_changed : (world : World P C) (number : ℕ) (old new : TransactionState) (key : TransactionKey)
-      (state : TransactionState) → value_at world.transactions number ≡ Some old
+  after_changed : (world : World P C) (number : ℕ) (old new : TransactionHistory) (key : TransactionKey)
+      (state : TransactionHistory) → value_at world.transactions number ≡ Some old
       → new.context.trace_id ≡ old.context.trace_id → transaction_at world key ≡ Some state
-      → (other : TransactionState)
+      → (other : TransactionHistory)
       × ((if key.tag == world.tag then value_at (replace_at world.transactions number new) key.number else None)
       ≡ Some other) × (other.context.trace_id ≡ state.context.trace_id)
   after_changed world number old new key state found traced at = by_number (key.number == number) refl
@@ -155,7 +155,7 @@ module _ {P C : Type 0} where
       here = found_under world.tag world.transactions key.tag key.number state at
 
       by_number : (b : Bool) → (key.number == number) ≡ b
-          → (other : TransactionState)
+          → (other : TransactionHistory)
           × ((if key.tag == world.tag then value_at (replace_at world.transactions number new) key.number else None)
           ≡ Some other) × (other.context.trace_id ≡ state.context.trace_id)
       by_number true e =
@@ -165,7 +165,7 @@ module _ {P C : Type 0} where
             new,
             found_after world key state new _ at (found_replaced world.transactions number key.number new old found
                 ∙ ap (λ b. if b then Some new else value_at world.transactions key.number) e),
-            traced ∙ ap (λ (s : TransactionState). s.context.trace_id) same,
+            traced ∙ ap (λ (s : TransactionHistory). s.context.trace_id) same,
           )
       by_number false e = (
         state,
@@ -175,14 +175,14 @@ module _ {P C : Type 0} where
         refl,
       )
 
-  changed_traced : (world : World P C) (number : ℕ) (old new : TransactionState) → value_at world.transactions number
+  changed_traced : (world : World P C) (number : ℕ) (old new : TransactionHistory) → value_at world.transactions number
       ≡ Some old → new.context.trace_id ≡ old.context.trace_id
       → AreIn new.context.trace_id new.finished
       → IsNumbered (record world { transactions = replace_at world.transactions number new }) → IsTraced world
       → IsTraced (record world { transactions = replace_at world.transactions number new })
   changed_traced world number old new found traced kept numbers t = record {
     numbers = numbers;
-    kept = λ k state at. all_by (λ (s : TransactionState). AreIn s.context.trace_id s.finished) (k == number) new state
+    kept = λ k state at. all_by (λ (s : TransactionHistory). AreIn s.context.trace_id s.finished) (k == number) new state
         (value_at world.transactions k) kept (λ z zat. t.kept k z zat)
         (sym (found_replaced world.transactions number k new old found) ∙ at);
     held = λ k held at.
@@ -199,7 +199,7 @@ module _ {P C : Type 0} where
       sym (ap (λ t. (t == key.tag) && (other.number == key.number)) tags ∙ ap (λ b. b && (other.number == key.number))
       (own_number key.tag)) ∙ apart
 
-  traced_spans : (world : World P C) (transactions : List (ℕ × TransactionState)) (spans : List (ℕ × SpanRecord))
+  traced_spans : (world : World P C) (transactions : List (ℕ × TransactionHistory)) (spans : List (ℕ × SpanRecord))
       → SpanChange world transactions spans
       → IsNumbered (record world { transactions = transactions; spans = spans }) → IsTraced world
       → IsTraced (record world { transactions = transactions; spans = spans })
@@ -218,16 +218,16 @@ module _ {P C : Type 0} where
       let b = t.held number held found in
       let both_ : Some b.0 ≡ Some state = sym b.1 ∙ at in
       let same : b.0 ≡ state = cc in
-      let traced : held.span.trace_id ≡ state.context.trace_id = b.2 ∙ ap (λ (s : TransactionState). s.context.trace_id)
+      let traced : held.span.trace_id ≡ state.context.trace_id = b.2 ∙ ap (λ (s : TransactionHistory). s.context.trace_id)
       same in
-      let context : (with_finished held.span state).context.trace_id ≡ state.context.trace_id =
+      let context : (with_span_finished held.span state).context.trace_id ≡ state.context.trace_id =
       ap (λ c. c.trace_id) (finished_context held.span state) in
-      changed_traced world held.transaction.number state (with_finished held.span state) here context
-      (subst (λ id. AreIn id (with_finished held.span state).finished) (sym context)
+      changed_traced world held.transaction.number state (with_span_finished held.span state) here context
+      (subst (λ id. AreIn id (with_span_finished held.span state).finished) (sym context)
       (in_finished state.context.trace_id held.span state (t.kept held.transaction.number state here) traced)) n t
   traced_spans world transactions spans (drops_transaction key state at unnamed spanless) n t = record {
     numbers = n;
-    kept = λ k other found. all_without (λ (s : TransactionState). AreIn s.context.trace_id s.finished)
+    kept = λ k other found. all_without (λ (s : TransactionHistory). AreIn s.context.trace_id s.finished)
         (k == key.number) other (value_at world.transactions k) (λ z zat. t.kept k z zat)
         (sym (found_without 0 world.next.transaction world.transactions key.number k t.numbers.transactions) ∙ found);
     held = λ k held found.
@@ -251,11 +251,11 @@ module _ {P C : Type 0} where
         (sym (found_without 0 world.next.span world.spans key.number k t.numbers.spans) ∙ found);
   }
 
-  started_traced : (world : World P C) (state : TransactionState) → state.finished ≡ []
+  started_traced : (world : World P C) (state : TransactionHistory) → state.finished ≡ []
       → IsNumbered (with_new_transaction state world) → IsTraced world → IsTraced (with_new_transaction state world)
   started_traced world state new_ n t = record {
     numbers = n;
-    kept = λ k other at. all_by (λ (s : TransactionState). AreIn s.context.trace_id s.finished)
+    kept = λ k other at. all_by (λ (s : TransactionHistory). AreIn s.context.trace_id s.finished)
         (k == world.next.transaction) state other (value_at world.transactions k)
         (subst (AreIn state.context.trace_id) (sym new_) tt) (λ z zat. t.kept k z zat)
         (sym (found_put world.transactions world.next.transaction k state) ∙ at);
@@ -271,7 +271,7 @@ module _ {P C : Type 0} where
         );
   }
     where
-      old_number : (number : ℕ) (other : TransactionState) → value_at world.transactions number ≡ Some other
+      old_number : (number : ℕ) (other : TransactionHistory) → value_at world.transactions number ≡ Some other
           → (number == world.next.transaction) ≡ false
       old_number number other here = by_number (number == world.next.transaction) refl
         where
@@ -288,20 +288,20 @@ module _ {P C : Type 0} where
   -- what starts at a place belongs to the transaction there
   at_place : (world : World P C) (parent : TransactionOrSpanKey) (place : SpanPlace) → IsTraced world
       → place_in (span_table world) parent ≡ Some place
-      → (state : TransactionState) × (transaction_at world place.transaction ≡ Some state)
+      → (state : TransactionHistory) × (transaction_at world place.transaction ≡ Some state)
       × (place.trace_id ≡ state.context.trace_id)
   at_place world (key_of.Transaction key) place t found = by_tag (key.tag == world.tag) refl found
     where
       by_tag : (b : Bool) → (key.tag == world.tag) ≡ b → option_map (place_of_transaction key)
-          (if b then value_at (map_values plain_transaction world.transactions) key.number else None) ≡ Some place
-          → (state : TransactionState) × (transaction_at world place.transaction ≡ Some state)
+          (if b then value_at (map_values stored_transaction world.transactions) key.number else None) ≡ Some place
+          → (state : TransactionHistory) × (transaction_at world place.transaction ≡ Some state)
           × (place.trace_id ≡ state.context.trace_id)
       by_tag false e h = absurd cc
       by_tag true e h =
-          let held = mapped_there (place_of_transaction key) (value_at (map_values plain_transaction world.transactions)
+          let held = mapped_there (place_of_transaction key) (value_at (map_values stored_transaction world.transactions)
           key.number) place h in
-          let state = mapped_there plain_transaction (value_at world.transactions key.number) held.0
-          (sym (value_mapped plain_transaction world.transactions key.number) ∙ held.1) in
+          let state = mapped_there stored_transaction (value_at world.transactions key.number) held.0
+          (sym (value_mapped stored_transaction world.transactions key.number) ∙ held.1) in
           let place_is : place_of_transaction key held.0 ≡ place = held.2 in (
             state.0,
             ap (transaction_at world) (ap (λ (p : SpanPlace). p.transaction) (sym place_is))
@@ -347,8 +347,8 @@ module _ {P C : Type 0} (meanings : C → Meanings) where
       record { numbers = n; kept = t.kept; held = t.held }
   traced_by (arrives world key client arrival is_off found open_ came) n t =
       traced_sending client.label (send key client (envelopes_on_arrival arrival client)
-      (with_client_state world key (after_arrival arrival client))).sent
-      (with_client_state world key (after_arrival arrival client)) n
+      (with_client_history world key (after_arrival arrival client))).sent
+      (with_client_history world key (after_arrival arrival client)) n
       (record {
         numbers = client_numbered world key (after_arrival arrival client) t.numbers;
         kept = t.kept;
@@ -357,8 +357,8 @@ module _ {P C : Type 0} (meanings : C → Meanings) where
       })
   traced_by (accepts world key client arrival is_log is_off found open_ came) n t =
       traced_sending client.label (send key client (envelopes_on_arrival arrival client)
-      (with_client_state world key (after_arrival arrival client))).sent
-      (with_client_state world key (after_arrival arrival client)) n
+      (with_client_history world key (after_arrival arrival client))).sent
+      (with_client_history world key (after_arrival arrival client)) n
       (record {
         numbers = client_numbered world key (after_arrival arrival client) t.numbers;
         kept = t.kept;
@@ -399,7 +399,7 @@ module _ {P C : Type 0} (gives : P → Partial) (meanings : C → Meanings) wher
       → Run gives meanings (starting_world tag start) calls answers last → KeptSpansAreInTrace last
   kept_in_trace tag start calls answers last run key transaction at =
       let t = traced_run tag start calls answers last run in
-      let found = mapped_there plain_transaction (transaction_at last key) transaction at in
+      let found = mapped_there stored_transaction (transaction_at last key) transaction at in
       let state = found.0 in
       subst (λ (held : TransactionRecord). AllByRecursion (λ (span : Span). span.trace_id ≡ held.context.trace_id)
       held.spans) found.2
@@ -413,4 +413,4 @@ module _ {P C : Type 0} (gives : P → Partial) (meanings : C → Meanings) wher
   held_in_trace tag start calls answers last run key held at =
       let b = (traced_run tag start calls answers last run).held key.number held
       (found_under last.tag last.spans key.tag key.number held at) in
-      (plain_transaction b.0, ap (option_map plain_transaction) b.1, b.2)
+      (stored_transaction b.0, ap (option_map stored_transaction) b.1, b.2)

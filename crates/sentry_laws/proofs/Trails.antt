@@ -11,10 +11,10 @@ use Rattle.sentry_base.specs.declared.protocol.refusal.Refusal.{Refusal}
 use Rattle.sentry_options.specs.Meanings.{Meanings}
 use Rattle.sentry_state.specs.declared.state.Client.{Client}
 use Rattle.sentry_state.specs.declared.state.Out.{Out}
-use Rattle.sentry_state.specs.Worlds.{World, ClientState, plain_client}
+use Rattle.sentry_state.specs.Worlds.{World, ClientHistory, stored_client}
 use Rattle.sentry_state.specs.Outcomes.{Outcome, require_some, let_some, require, reply_with, value_under}
 use Rattle.sentry_sending.specs.Sending.{Sending, send_nothing, send_some, reply_sending}
-use Rattle.sentry_span_calls.specs.Replies.{map_reply, map_answer}
+use Rattle.sentry_calls.specs.Replies.{map_reply, map_answer}
 use Rattle.sentry_laws.proofs.Effects.{Effect, hub_changed, session_named}
 use Rattle.sentry_laws.proofs.Changes.{Change, Changes, nothing, one, both}
 use Rattle.sentry_laws.specs.Reachable.{SessionsAreNamed}
@@ -111,9 +111,9 @@ module _ {P C : Type 0} (meanings : C → Meanings) (given : Option Envelope) wh
     told_some refusal (Some x) h = h x refl
 
     -- a client as the engine keeps it
-    pub told_client : (refusal : Refusal) (o : Option (ClientState C)) (go : Client C → Outcome P C T)
-        → ((client : ClientState C) → o ≡ Some client → Told world own (go (plain_client client)))
-        → Told world own (require_some refusal world (option_map plain_client o) go)
+    pub told_client : (refusal : Refusal) (o : Option (ClientHistory C)) (go : Client C → Outcome P C T)
+        → ((client : ClientHistory C) → o ≡ Some client → Told world own (go (stored_client client)))
+        → Told world own (require_some refusal world (option_map stored_client o) go)
     told_client refusal None go h = record { tells = refl }
     told_client refusal (Some client) go h = h client refl
 
@@ -123,10 +123,10 @@ module _ {P C : Type 0} (meanings : C → Meanings) (given : Option Envelope) wh
     told_let None k h = k refl
     told_let (Some x) k h = h x refl
 
-    pub told_let_client : (o : Option (ClientState C)) (otherwise : Outcome P C T) (go : Client C → Outcome P C T)
+    pub told_let_client : (o : Option (ClientHistory C)) (otherwise : Outcome P C T) (go : Client C → Outcome P C T)
         → (o ≡ None → Told world own otherwise)
-        → ((client : ClientState C) → o ≡ Some client → Told world own (go (plain_client client)))
-        → Told world own (let_some (option_map plain_client o) otherwise go)
+        → ((client : ClientHistory C) → o ≡ Some client → Told world own (go (stored_client client)))
+        → Told world own (let_some (option_map stored_client o) otherwise go)
     told_let_client None otherwise go k h = k refl
     told_let_client (Some client) otherwise go k h = h client refl
 

@@ -22,14 +22,14 @@ use Rattle.sentry_sessions.specs.Sessions.{SessionEntry, end_of, end_status, ses
 use Rattle.sentry_sessions.specs.SessionQueues.{QueueEntry}
 use Rattle.sentry_sessions.specs.declared.session.record.SessionStart.{SessionStart}
 use Rattle.sentry_sessions.proofs.SessionLemmas.{ended_status_stays_is}
-use Rattle.sentry_queues.specs.Flushes.{is_flushed, session_history}
-use Rattle.sentry_queues.specs.declared.flushes.TheConstants.{SESSION_INTERVAL}
+use Rattle.sentry_telemetry.specs.Flushes.{is_flushed, session_history}
+use Rattle.sentry_telemetry.specs.declared.flushes.TheConstants.{SESSION_INTERVAL}
 use Rattle.sentry_state.specs.declared.state.Out.{Out}
-use Rattle.sentry_state.specs.Worlds.{World, ClientState, QueueHistories, SessionState, starting_world}
+use Rattle.sentry_state.specs.Worlds.{World, ClientHistory, QueueHistories, SessionHistory, starting_world}
 use Rattle.sentry_state.specs.Outcomes.{client_at}
 use Rattle.sentry_state.specs.Clients.{clone_from}
 use Rattle.sentry_state.specs.Books.{pending_report}
-use Rattle.sentry_state.specs.Changes.{with_client_state, with_new_session}
+use Rattle.sentry_state.specs.Changes.{with_client_history, with_new_session}
 use Rattle.sentry_sending.specs.Sending.{after_sending, envelopes_from, send}
 use Rattle.sentry_calls.specs.declared.call.Call.{Call}
 use Rattle.sentry_calls.specs.declared.call.Call.TheVariants as group
@@ -39,7 +39,7 @@ use Rattle.sentry_calls.specs.declared.call.hubs.HubCall.{HubCall}
 use Rattle.sentry_calls.specs.declared.call.hubs.HubCall.TheVariants.{NewHub, NewHubFromTop, ReleaseHub, Configure, AddBreadcrumbs, PushScope, PopScope, BindClient, StartSession, CaptureLog, CaptureMetric}
 use Rattle.sentry_calls.specs.declared.call.Reply.{Reply}
 use Rattle.sentry_calls.specs.declared.call.Reply.TheVariants as reply
-use Rattle.sentry_calls.specs.Runs.{May, Run}
+use Rattle.sentry_calls.specs.Runs.{StepsTo, Run}
 use Rattle.sentry_laws.specs.SentItems.{handed_in}
 use Rattle.sentry_laws.specs.Updates.{updates_in, updates_sent, updates_among, all_queued, queued_at, queued_below, updates_told, StaysEnded, started_id, IsNotStarted, IsStartedOnce, StatusStays}
 use Rattle.sentry_laws.proofs.Effects.{Effect, scope_edited, breadcrumbs_came, client_bound, layer_pushed, layer_popped, session_named, hub_changed, hub_made, hub_made_from, hub_released, losses_absorbed, report_taken, session_begun, client_dropped, item_came, client_added, client_cloned, effects, client_effects, hub_effects}
@@ -109,7 +109,7 @@ module _ (id : List ℕ) {P C : Type 0} where
   -- the update waits, or waited, in the queue of a client
   abbrev IsQueued : World P C → SessionUpdate → Type 0
   IsQueued world u =
-      (number : ℕ) × (client : ClientState C) × (value_at world.clients number ≡ Some client)
+      (number : ℕ) × (client : ClientHistory C) × (value_at world.clients number ≡ Some client)
       × Among u (all_queued client.queues.sessions)
 
   -- it was handed out, or is in a queue
@@ -118,24 +118,24 @@ module _ (id : List ℕ) {P C : Type 0} where
 
   -- what was told of the session with this id, and what is left of it
   record Agrees (told : List SessionUpdate) (world : World P C) : Type 0 where
-    held : (n : ℕ) (s : SessionState) (u : SessionUpdate) → value_at world.sessions n ≡ Some s
+    held : (n : ℕ) (s : SessionHistory) (u : SessionUpdate) → value_at world.sessions n ≡ Some s
         → s.start.session_id ≡ id → WasTold told world u → u.session_id ≡ id → Ended u → status_of s ≡ u.status
     same : (u v : SessionUpdate) → WasTold told world u → u.session_id ≡ id → Ended u → WasTold told world v
         → v.session_id ≡ id → Ended v → v.status ≡ u.status
     ended : (u : SessionUpdate) → IsQueued world u → u.session_id ≡ id → Ended u
-    one_ : (n m : ℕ) (s t : SessionState) → value_at world.sessions n ≡ Some s → s.start.session_id ≡ id
+    one_ : (n m : ℕ) (s t : SessionHistory) → value_at world.sessions n ≡ Some s → s.start.session_id ≡ id
         → value_at world.sessions m ≡ Some t → t.start.session_id ≡ id → n ≡ m
     stays : StaysEnded id told
 
   -- nothing was told of it, and it isn't held
   record IsUnknown (told : List SessionUpdate) (world : World P C) : Type 0 where
-    unheld : (n : ℕ) (s : SessionState) → value_at world.sessions n ≡ Some s → s.start.session_id ≢ id
+    unheld : (n : ℕ) (s : SessionHistory) → value_at world.sessions n ≡ Some s → s.start.session_id ≢ id
     untold : (u : SessionUpdate) → WasTold told world u → u.session_id ≢ id
 
   -- what is told by the way from one world to the next
   record Tells (old new : World P C) (sent : List SessionUpdate) : Type 0 where
-    kept : (n : ℕ) (s : SessionState) → value_at new.sessions n ≡ Some s → s.start.session_id ≡ id
-        → (before : SessionState) × (value_at old.sessions n ≡ Some before) × (before.start.session_id ≡ id)
+    kept : (n : ℕ) (s : SessionHistory) → value_at new.sessions n ≡ Some s → s.start.session_id ≡ id
+        → (before : SessionHistory) × (value_at old.sessions n ≡ Some before) × (before.start.session_id ≡ id)
         × (status_of before ≢ session_status.Ok → status_of s ≡ status_of before)
     queued : (u : SessionUpdate) → IsQueued new u → u.session_id ≡ id
         → IsQueued old u ⊎ (IsOfHeld old u × Ended u)
@@ -211,7 +211,7 @@ module _ (id : List ℕ) {P C : Type 0} where
             by_first (inr h) = sym (a.held h.0 h.1 v h.2 (h.3 ∙ is) also same more) ∙ h.4
         agree_ended u v was is ended (inr k) same more = agree_now u v was is ended (inr k) same
 
-        held_step : (n : ℕ) (s : SessionState) (u : SessionUpdate) → value_at new.sessions n ≡ Some s
+        held_step : (n : ℕ) (s : SessionHistory) (u : SessionUpdate) → value_at new.sessions n ≡ Some s
             → s.start.session_id ≡ id → WasTold (told ++ sent) new u → u.session_id ≡ id → Ended u
             → status_of s ≡ u.status
         held_step n s u found same was is ended =
@@ -219,7 +219,7 @@ module _ (id : List ℕ) {P C : Type 0} where
             let e : status_of k.0 ≡ u.status = by_time k.0 k.1 k.2 (before u was is) in
             k.3 (subst (λ status. status ≢ session_status.Ok) (sym e) ended) ∙ e
           where
-            by_time : (b : SessionState) → value_at old.sessions n ≡ Some b → b.start.session_id ≡ id
+            by_time : (b : SessionHistory) → value_at old.sessions n ≡ Some b → b.start.session_id ≡ id
                 → WasTold told old u ⊎ IsOfHeld old u → status_of b ≡ u.status
             by_time b at mine (inl was) = a.held n b u at mine was is ended
             by_time b at mine (inr h) =
@@ -255,7 +255,7 @@ module _ (id : List ℕ) {P C : Type 0} where
 
 module _ {C : Type 0} where
   -- what comes leaves what was queued, and adds what came
-  queued_after : (arrival : Arrival) (client : ClientState C) (u : SessionUpdate)
+  queued_after : (arrival : Arrival) (client : ClientHistory C) (u : SessionUpdate)
       → Among u (all_queued (after_arrival arrival client).queues.sessions)
       → Among u (all_queued client.queues.sessions) ⊎ ComesBy u arrival
   queued_after (log_came log) client u h = inl h
@@ -312,7 +312,7 @@ module _ (id : List ℕ) {P C : Type 0} where
   came_held world (metric_came metric) u came e = absurd e
   came_held world (flush_came flush) u came e = absurd e
 
-  module _ (world : World P C) (key : ClientKey) (client : ClientState C) (arrival : Arrival)
+  module _ (world : World P C) (key : ClientKey) (client : ClientHistory C) (arrival : Arrival)
       (found : client_at world key ≡ Some client)
       (came : (u : SessionUpdate) → ComesBy u arrival → IsOfHeld world u × (u.status ≢ session_status.Ok)) where
     here : value_at world.clients key.number ≡ Some client
@@ -324,18 +324,18 @@ module _ (id : List ℕ) {P C : Type 0} where
     by_arrival u (inr comes) = inr (came u comes)
 
     -- what is queued where something came
-    queued_now : (u : SessionUpdate) (n : ℕ) (c : ClientState C) (b : Bool) → (n == key.number) ≡ b
+    queued_now : (u : SessionUpdate) (n : ℕ) (c : ClientHistory C) (b : Bool) → (n == key.number) ≡ b
         → (if b then Some (after_arrival arrival client) else value_at world.clients n) ≡ Some c
         → Among u (all_queued c.queues.sessions)
         → IsQueued id world u ⊎ (IsOfHeld world u × (u.status ≢ session_status.Ok))
     queued_now u n c true e at among =
         let is : after_arrival arrival client ≡ c = cc in
         by_arrival u (queued_after arrival client u
-        (subst (λ (x : ClientState C). Among u (all_queued x.queues.sessions)) (sym is) among))
+        (subst (λ (x : ClientHistory C). Among u (all_queued x.queues.sessions)) (sym is) among))
     queued_now u n c false e at among = inl (n, c, at, among)
 
     arrival_tells : (f : Option Envelope) → f ≡ None → (report : Option ClientReport)
-        → Tells id world (with_client_state world key (after_arrival arrival client))
+        → Tells id world (with_client_history world key (after_arrival arrival client))
         (updates_sent f (envelopes_from client.occupied key report (envelopes_on_arrival arrival client)))
     arrival_tells (Some given) is_off report = absurd cc
     arrival_tells None is_off report = record {
@@ -382,29 +382,29 @@ module _ (id : List ℕ) {P C : Type 0} where
       ∙ among_reported report envelope) among)))
 
   -- a session that changes
-  changed_tells : (world : World P C) (number : ℕ) (old new : SessionState) (later : List SessionEntry)
+  changed_tells : (world : World P C) (number : ℕ) (old new : SessionHistory) (later : List SessionEntry)
       (f : Option Envelope) → value_at world.sessions number ≡ Some old
       → new ≡ record old { history = later ++ old.history }
       → Tells id world (record world { sessions = replace_at world.sessions number new }) (updates_sent f [])
   changed_tells world number old new later f found is = with_sent f
     where
-      by_number : (n : ℕ) (s : SessionState) (b : Bool) → (n == number) ≡ b
+      by_number : (n : ℕ) (s : SessionHistory) (b : Bool) → (n == number) ≡ b
           → (if b then Some new else value_at world.sessions n) ≡ Some s → s.start.session_id ≡ id
-          → (before : SessionState) × (value_at world.sessions n ≡ Some before) × (before.start.session_id ≡ id)
+          → (before : SessionHistory) × (value_at world.sessions n ≡ Some before) × (before.start.session_id ≡ id)
           × (status_of before ≢ session_status.Ok → status_of s ≡ status_of before)
       by_number n s true e at same =
           let new_is : new ≡ s = cc in
           let grown : s ≡ record old { history = later ++ old.history } = sym new_is ∙ is in (
             old,
             ap (value_at world.sessions) (same_number n number e) ∙ found,
-            sym (ap (λ (x : SessionState). x.start.session_id) grown) ∙ same,
+            sym (ap (λ (x : SessionHistory). x.start.session_id) grown) ∙ same,
             λ ended. ap status_of grown ∙ grown_status old.start old.history later ended,
           )
       by_number n s false e at same = (s, at, same, λ ended. refl)
 
-      kept_ : (n : ℕ) (s : SessionState) → value_at (replace_at world.sessions number new) n ≡ Some s
+      kept_ : (n : ℕ) (s : SessionHistory) → value_at (replace_at world.sessions number new) n ≡ Some s
           → s.start.session_id ≡ id
-          → (before : SessionState) × (value_at world.sessions n ≡ Some before) × (before.start.session_id ≡ id)
+          → (before : SessionHistory) × (value_at world.sessions n ≡ Some before) × (before.start.session_id ≡ id)
           × (status_of before ≢ session_status.Ok → status_of s ≡ status_of before)
       kept_ n s at same =
           by_number n s (n == number) refl (sym (found_replaced world.sessions number n new old found) ∙ at) same
@@ -427,16 +427,16 @@ module _ (id : List ℕ) {P C : Type 0} where
       → Tells id world (record world { sessions = without world.sessions number }) (updates_sent f [])
   gone_tells world number f numbered = with_sent f
     where
-      by_number : (n : ℕ) (s : SessionState) (b : Bool) → (if b then None else value_at world.sessions n) ≡ Some s
+      by_number : (n : ℕ) (s : SessionHistory) (b : Bool) → (if b then None else value_at world.sessions n) ≡ Some s
           → s.start.session_id ≡ id
-          → (before : SessionState) × (value_at world.sessions n ≡ Some before) × (before.start.session_id ≡ id)
+          → (before : SessionHistory) × (value_at world.sessions n ≡ Some before) × (before.start.session_id ≡ id)
           × (status_of before ≢ session_status.Ok → status_of s ≡ status_of before)
       by_number n s true at same = absurd cc
       by_number n s false at same = (s, at, same, λ ended. refl)
 
-      kept_ : (n : ℕ) (s : SessionState) → value_at (without world.sessions number) n ≡ Some s
+      kept_ : (n : ℕ) (s : SessionHistory) → value_at (without world.sessions number) n ≡ Some s
           → s.start.session_id ≡ id
-          → (before : SessionState) × (value_at world.sessions n ≡ Some before) × (before.start.session_id ≡ id)
+          → (before : SessionHistory) × (value_at world.sessions n ≡ Some before) × (before.start.session_id ≡ id)
           × (status_of before ≢ session_status.Ok → status_of s ≡ status_of before)
       kept_ n s at same =
           by_number n s (n == number)
@@ -461,18 +461,18 @@ module _ (id : List ℕ) {P C : Type 0} where
       → counted.clients ≡ world.clients → start.session_id ≢ id → Tells id world counted (updates_sent f [])
   started_tells world start counted f sessions clients other = with_sent f
     where
-      by_number : (n : ℕ) (s : SessionState) (b : Bool)
+      by_number : (n : ℕ) (s : SessionHistory) (b : Bool)
           → (if b then Some (record { start = start; history = [] }) else value_at world.sessions n) ≡ Some s
           → s.start.session_id ≡ id
-          → (before : SessionState) × (value_at world.sessions n ≡ Some before) × (before.start.session_id ≡ id)
+          → (before : SessionHistory) × (value_at world.sessions n ≡ Some before) × (before.start.session_id ≡ id)
           × (status_of before ≢ session_status.Ok → status_of s ≡ status_of before)
       by_number n s true at same =
           let is : record { start = start; history = [] } ≡ s = cc in
-          absurd (other (ap (λ (x : SessionState). x.start.session_id) is ∙ same))
+          absurd (other (ap (λ (x : SessionHistory). x.start.session_id) is ∙ same))
       by_number n s false at same = (s, at, same, λ ended. refl)
 
-      kept_ : (n : ℕ) (s : SessionState) → value_at counted.sessions n ≡ Some s → s.start.session_id ≡ id
-          → (before : SessionState) × (value_at world.sessions n ≡ Some before) × (before.start.session_id ≡ id)
+      kept_ : (n : ℕ) (s : SessionHistory) → value_at counted.sessions n ≡ Some s → s.start.session_id ≡ id
+          → (before : SessionHistory) × (value_at world.sessions n ≡ Some before) × (before.start.session_id ≡ id)
           × (status_of before ≢ session_status.Ok → status_of s ≡ status_of before)
       kept_ n s at same =
           by_number n s (n == world.next.session)
@@ -511,13 +511,13 @@ module _ (id : List ℕ) {P C : Type 0} where
       earlier u (inr queued) =
           inr (queued.0, queued.1, sym (ap (λ t. value_at t queued.0) clients) ∙ queued.2, queued.3)
 
-      by_number : (n : ℕ) (s : SessionState) (b : Bool) → (n == world.next.session) ≡ b
+      by_number : (n : ℕ) (s : SessionHistory) (b : Bool) → (n == world.next.session) ≡ b
           → (if b then Some (record { start = start; history = [] }) else value_at world.sessions n) ≡ Some s
           → s.start.session_id ≡ id → n ≡ world.next.session
       by_number n s true e at same = same_number n world.next.session e
       by_number n s false e at same = absurd (a.unheld n s at same)
 
-      next_one : (n : ℕ) (s : SessionState) → value_at counted.sessions n ≡ Some s → s.start.session_id ≡ id
+      next_one : (n : ℕ) (s : SessionHistory) → value_at counted.sessions n ≡ Some s → s.start.session_id ≡ id
           → n ≡ world.next.session
       next_one n s at same =
           by_number n s (n == world.next.session) refl
@@ -525,8 +525,8 @@ module _ (id : List ℕ) {P C : Type 0} where
           ∙ (sym (ap (λ t. value_at t n) sessions) ∙ at)) same
 
   -- a client with new queues
-  added_queues : (world : World P C) (next : ℕ) (client : ClientState C) → all_queued client.queues.sessions ≡ []
-      → (u : SessionUpdate) (n : ℕ) (c : ClientState C) → value_at (put world.clients next client) n ≡ Some c
+  added_queues : (world : World P C) (next : ℕ) (client : ClientHistory C) → all_queued client.queues.sessions ≡ []
+      → (u : SessionUpdate) (n : ℕ) (c : ClientHistory C) → value_at (put world.clients next client) n ≡ Some c
       → Among u (all_queued c.queues.sessions) → IsQueued id world u
   added_queues world next client none u n c at among =
       by_number (n == next) (sym (found_put world.clients next n client) ∙ at)
@@ -535,11 +535,11 @@ module _ (id : List ℕ) {P C : Type 0} where
       by_number true at =
           let is : client ≡ c = cc in
           absurd (subst (Among u) none
-          (subst (λ (c : ClientState C). Among u (all_queued c.queues.sessions)) (sym is) among))
+          (subst (λ (c : ClientHistory C). Among u (all_queued c.queues.sessions)) (sym is) among))
       by_number false at = (n, c, at, among)
 
   dropped_queues : (world : World P C) (number : ℕ) → IsNumbered world → (u : SessionUpdate) (n : ℕ)
-      (c : ClientState C) → value_at (without world.clients number) n ≡ Some c → Among u (all_queued c.queues.sessions)
+      (c : ClientHistory C) → value_at (without world.clients number) n ≡ Some c → Among u (all_queued c.queues.sessions)
       → IsQueued id world u
   dropped_queues world number numbered u n c at among =
       by_number (n == number) (sym (found_without 0 world.next.client world.clients number n numbered.clients) ∙ at)
@@ -573,15 +573,15 @@ module _ (id : List ℕ) {P C : Type 0} (meanings : C → Meanings) where
   step_change f (drops_client world key client label found same unnamed) n h =
       quiet id world _ f refl (λ u q. dropped_queues id world key.number n u q.0 q.1 q.2 q.3)
   step_change f (arrives world key client arrival is_off found open_ came) n h =
-      sending_tells id world (with_client_state world key (after_arrival arrival client)) client.label
+      sending_tells id world (with_client_history world key (after_arrival arrival client)) client.label
       (send key client (envelopes_on_arrival arrival client)
-      (with_client_state world key (after_arrival arrival client))).sent _
+      (with_client_history world key (after_arrival arrival client))).sent _
       (arrival_tells id world key client arrival found (λ u. came_held id world arrival u came) f is_off
       (pending_report world client.label))
   step_change f (accepts world key client arrival is_log is_off found open_ came) n h =
-      sending_tells id world (with_client_state world key (after_arrival arrival client)) client.label
+      sending_tells id world (with_client_history world key (after_arrival arrival client)) client.label
       (send key client (envelopes_on_arrival arrival client)
-      (with_client_state world key (after_arrival arrival client))).sent _
+      (with_client_history world key (after_arrival arrival client))).sent _
       (arrival_tells id world key client arrival found (λ u. item_came_not arrival is_log u came) f is_off
       (pending_report world client.label))
   step_change f (mails world key client envelope found occupied plain told_) n h =
@@ -856,8 +856,8 @@ module _ (id : List ℕ) {P C : Type 0} where
       → IsQueued id world u
   queued_in world number u h = by_client (value_at world.clients number) refl h
     where
-      by_client : (o : Option (ClientState C)) → value_at world.clients number ≡ o
-          → Among u (unwrap_or (option_map (λ (client : ClientState C). all_queued client.queues.sessions) o) [])
+      by_client : (o : Option (ClientHistory C)) → value_at world.clients number ≡ o
+          → Among u (unwrap_or (option_map (λ (client : ClientHistory C). all_queued client.queues.sessions) o) [])
           → IsQueued id world u
       by_client None at h = absurd h
       by_client (Some client) at h = (number, client, at, h)
@@ -920,12 +920,12 @@ starts_by id (Some other) = by_id (same_ids other id)
 
 module _ {P C : Type 0} (gives : P → Partial) (meanings : C → Meanings) (id : List ℕ) where
   numbered_next : (call : Call P C) (out : Out (Reply P C)) (world next : World P C)
-      → May gives meanings world call (Ok out) next → IsNumbered world → IsNumbered next
+      → StepsTo gives meanings world call (Ok out) next → IsNumbered world → IsNumbered next
   numbered_next call out world next may n =
       numbered_changes meanings (trail_of gives meanings call out world next may).changes n
 
   quiet_starts : (call : Call P C) (out : Out (Reply P C)) (world next : World P C)
-      (may : May gives meanings world call (Ok out) next) → started_id call ≢ Some id
+      (may : StepsTo gives meanings world call (Ok out) next) → started_id call ≢ Some id
       → NoStart id (trail_of gives meanings call out world next may).effects
   quiet_starts call out world next may h =
       let trail = trail_of gives meanings call out world next may in
@@ -933,7 +933,7 @@ module _ {P C : Type 0} (gives : P → Partial) (meanings : C → Meanings) (id 
       (subst (NoStart id) (sym trail.same) (call_starts id meanings call out.reply h))
 
   agrees_next : (call : Call P C) (out : Out (Reply P C)) (world next : World P C) (told : List SessionUpdate)
-      → May gives meanings world call (Ok out) next → IsNumbered world → started_id call ≢ Some id
+      → StepsTo gives meanings world call (Ok out) next → IsNumbered world → started_id call ≢ Some id
       → Agrees id told world
       → Agrees id ((told ++ updates_sent (handed_in call) out.sent) ++ queued_below world next next.next.client) next
   agrees_next call out world next told may n h a =
@@ -943,7 +943,7 @@ module _ {P C : Type 0} (gives : P → Partial) (meanings : C → Meanings) (id 
       (agrees_changes id meanings (handed_in call) trail.changes n (quiet_starts call out world next may h) told a)
 
   unknown_next : (call : Call P C) (out : Out (Reply P C)) (world next : World P C) (told : List SessionUpdate)
-      → May gives meanings world call (Ok out) next → IsNumbered world → started_id call ≢ Some id
+      → StepsTo gives meanings world call (Ok out) next → IsNumbered world → started_id call ≢ Some id
       → IsUnknown id told world
       → IsUnknown id ((told ++ updates_sent (handed_in call) out.sent) ++ queued_below world next next.next.client) next
   unknown_next call out world next told may n h a =
@@ -953,7 +953,7 @@ module _ {P C : Type 0} (gives : P → Partial) (meanings : C → Meanings) (id 
       (unknown_changes id meanings (handed_in call) trail.changes n (quiet_starts call out world next may h) told a)
 
   started_next : (call : Call P C) (out : Out (Reply P C)) (world next : World P C) (told : List SessionUpdate)
-      → May gives meanings world call (Ok out) next → IsNumbered world → IsUnknown id told world
+      → StepsTo gives meanings world call (Ok out) next → IsNumbered world → IsUnknown id told world
       → Agrees id ((told ++ updates_sent (handed_in call) out.sent) ++ queued_below world next next.next.client) next
   started_next call out world next told may n a =
       let trail = trail_of gives meanings call out world next may in

@@ -11,10 +11,10 @@ use Rattle.sentry_options.specs.Meanings.{Meanings}
 use Rattle.sentry_scope.specs.declared.scope.Scope.{Scope}
 use Rattle.sentry_batches.specs.Batches.{BatchEntry, accepted_items}
 use Rattle.sentry_hub_table.specs.declared.hub.Hub.{Hub}
-use Rattle.sentry_queues.specs.Telemetry.{client_log, client_metric}
+use Rattle.sentry_telemetry.specs.Telemetry.{client_log, client_metric}
 use Rattle.sentry_state.specs.declared.state.Out.{Out}
 use Rattle.sentry_state.specs.Outcomes.{client_at, hub_at}
-use Rattle.sentry_state.specs.Worlds.{World, ClientState, QueueHistories, plain_client, span_table}
+use Rattle.sentry_state.specs.Worlds.{World, ClientHistory, QueueHistories, stored_client, span_table}
 use Rattle.sentry_calls.specs.declared.call.Call.{Call}
 use Rattle.sentry_calls.specs.declared.call.Call.TheVariants as group
 use Rattle.sentry_calls.specs.declared.call.clients.ClientCall.TheVariants.{ClientCaptureLog, ClientCaptureMetric}
@@ -25,19 +25,19 @@ use Rattle.sentry_calls.specs.Runs.{Run}
 module _ {C T : Type 0} where
   -- what comes to the client with this number where an item is captured for the client under a key: the item as it
   -- passes the callback, if the client isn't closed
-  abbrev pub comes_to : ℕ → ClientKey → Option (ClientState C) → (ClientState C → Option T) → List T
+  abbrev pub comes_to : ℕ → ClientKey → Option (ClientHistory C) → (ClientHistory C → Option T) → List T
   comes_to number key None item = []
   comes_to number key (Some client) item =
       if (number == key.number) && not client.closed then option_to_list (item client) else []
 
 module _ {P C T : Type 0} where
   -- the same for the client that a layer names, if it names one
-  abbrev pub comes_under : ℕ → World P C → Option ClientKey → (ClientState C → Option T) → List T
+  abbrev pub comes_under : ℕ → World P C → Option ClientKey → (ClientHistory C → Option T) → List T
   comes_under number world None item = []
   comes_under number world (Some key) item = comes_to number key (client_at world key) item
 
   -- the same under the top layer of a hub
-  abbrev pub comes_on : ℕ → World P C → Option (Hub P) → (Scope P → ClientState C → Option T) → List T
+  abbrev pub comes_on : ℕ → World P C → Option (Hub P) → (Scope P → ClientHistory C → Option T) → List T
   comes_on number world None item = []
   comes_on number world (Some hub) item = comes_under number world hub.stack.top.client (item hub.stack.top.scope)
 
@@ -46,20 +46,20 @@ module _ {P C : Type 0} (meanings : C → Meanings) where
   abbrev pub logs_by : ℕ → World P C → Call P C → List Log
   logs_by number world (group.Client (ClientCaptureLog key log scope)) =
       comes_to number key (client_at world key)
-      (λ client. client_log meanings (span_table world) (plain_client client) scope log)
+      (λ client. client_log meanings (span_table world) (stored_client client) scope log)
   logs_by number world (group.Hub (CaptureLog key log)) =
       comes_on number world (hub_at world key)
-      (λ scope client. client_log meanings (span_table world) (plain_client client) scope log)
+      (λ scope client. client_log meanings (span_table world) (stored_client client) scope log)
   logs_by number world call = []
 
   -- the same of metrics
   abbrev pub metrics_by : ℕ → World P C → Call P C → List Metric
   metrics_by number world (group.Client (ClientCaptureMetric key draft scope now)) =
       comes_to number key (client_at world key)
-      (λ client. client_metric meanings (span_table world) (plain_client client) scope now draft)
+      (λ client. client_metric meanings (span_table world) (stored_client client) scope now draft)
   metrics_by number world (group.Hub (CaptureMetric key draft now)) =
       comes_on number world (hub_at world key)
-      (λ scope client. client_metric meanings (span_table world) (plain_client client) scope now draft)
+      (λ scope client. client_metric meanings (span_table world) (stored_client client) scope now draft)
   metrics_by number world call = []
 
 module _ {P C T : Type 0} (gives : P → Partial) (meanings : C → Meanings) (history : QueueHistories → List (BatchEntry T))
@@ -69,8 +69,8 @@ module _ {P C T : Type 0} (gives : P → Partial) (meanings : C → Meanings) (h
       (answers : List (Result (Out (Reply P C)) Refusal)) (last : World P C)
       → Run gives meanings world calls answers last → Type 0
   AcceptsByCalls world (call ∷ calls) (Ok out ∷ answers) last run =
-      ((number : ℕ) (after : ClientState C) → value_at run.0.clients number ≡ Some after
-      → ((before : ClientState C) → value_at world.clients number ≡ Some before
+      ((number : ℕ) (after : ClientHistory C) → value_at run.0.clients number ≡ Some after
+      → ((before : ClientHistory C) → value_at world.clients number ≡ Some before
       → accepted_items (history after.queues) ≡ accepted_items (history before.queues) ++ brought number world call)
       × (value_at world.clients number ≡ None → accepted_items (history after.queues) ≡ []))
       × AcceptsByCalls run.0 calls answers last run.2

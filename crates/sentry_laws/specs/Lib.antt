@@ -9,4 +9,5 @@ pub mod Wrong
 pub mod Losses
 pub mod Reachable
 pub mod Reports
+pub mod LossesByCalls
 pub mod Traces

@@ -10,7 +10,7 @@ use Rattle.sentry_base.specs.Losses.{no_losses}
 use Rattle.sentry_base.specs.RecordLosses.{report_losses}
 use Rattle.sentry_base.specs.declared.protocol.client_report.ClientReport.{ClientReport}
 use Rattle.sentry_base.specs.declared.protocol.losses.TheConstants.{LOSS_QUANTITIES}
-use Rattle.sentry_calls.specs.Runs.{May, Run}
+use Rattle.sentry_calls.specs.Runs.{StepsTo, Run}
 use Rattle.sentry_calls.specs.declared.call.Call.{Call}
 use Rattle.sentry_calls.specs.declared.call.Call.TheVariants.{Client}
 use Rattle.sentry_calls.specs.declared.call.Reply.{Reply}
@@ -61,7 +61,7 @@ AbsorbedStays {P} {C} gives meanings =
     (tag start : ℕ) (earlier : List (Call P C)) (answers : List (Result (Out (Reply P C)) Refusal))
     (first last : World P C)
     (call : Call P C) (answer : Result (Out (Reply P C)) Refusal)
-    → Run gives meanings (starting_world tag start) earlier answers first → May gives meanings first call answer last
+    → Run gives meanings (starting_world tag start) earlier answers first → StepsTo gives meanings first call answer last
     → leaves_absorbed call ≡ true → (number : ℕ) (history : List LossEntry) → value_at last.books number ≡ Some history
     → (before : List LossEntry) × (value_at first.books number ≡ Some before)
     × ((i : ℕ) → absorbed history i ≡ absorbed before i)

@@ -14,7 +14,7 @@ use Rattle.sentry_scope.specs.declared.scope.stack.StackLayer.{StackLayer}
 use Rattle.sentry_scope.specs.Scopes.{edit_all, breadcrumb_trail}
 use Rattle.sentry_scope.specs.Stacks.{one_layer, push, pop, top_alone, is_client}
 use Rattle.sentry_options.specs.Options.{set_up}
-use Rattle.sentry_state.specs.Worlds.{World, ClientState}
+use Rattle.sentry_state.specs.Worlds.{World, ClientHistory}
 use Rattle.sentry_state.specs.Outcomes.{client_at}
 use Rattle.sentry_hub_table.specs.declared.hub.Hub.{Hub}
 use Rattle.sentry_state.specs.declared.state.Out.{Out}
@@ -168,7 +168,7 @@ IsIsolated {P} {C} meanings calls answers last =
 abbrev pub KeepsOptions : {P C : Type 0} → (C → Meanings) → List (Call P C) → List (Result (Out (Reply P C)) Refusal)
     → World P C → Type 0
 KeepsOptions {P} {C} meanings calls answers last =
-    (key : ClientKey) (client : ClientState C) → client_at last key ≡ Some client
+    (key : ClientKey) (client : ClientHistory C) → client_at last key ≡ Some client
     → options_after (all_effects meanings calls answers []) key ≡ Some client.options
 
 -- ---- its own calls alone

@@ -10,7 +10,7 @@ use Rattle.sentry_scope.specs.declared.scope.stack.StackLayer.{StackLayer}
 use Rattle.sentry_span_table.specs.SpanTables.{is_held}
 use Rattle.sentry_state.specs.Books.{has_book, has_client_of}
 use Rattle.sentry_state.specs.Outcomes.{is_held_or_none, session_at}
-use Rattle.sentry_state.specs.Worlds.{World, SessionState, span_table}
+use Rattle.sentry_state.specs.Worlds.{World, SessionHistory, span_table}
 
 -- nothing stands under a number from this one on
 abbrev pub IsFreeFrom : {X : Type 0} → ℕ → List (ℕ × X) → Type 0
@@ -47,5 +47,5 @@ module _ {P C : Type 0} where
   -- a session that is held is named by a layer of some hub
   abbrev pub SessionsAreNamed : World P C → Type 0
   SessionsAreNamed world =
-      (key : SessionKey) (session : SessionState) → session_at world key ≡ Some session
+      (key : SessionKey) (session : SessionHistory) → session_at world key ≡ Some session
       → is_session_named key world.hubs ≡ true

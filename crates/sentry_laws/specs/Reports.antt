@@ -13,7 +13,7 @@ use Rattle.sentry_client_reports.specs.LossBooks.{LossEntry, pending_losses}
 use Rattle.sentry_options.specs.Meanings.{Meanings}
 use Rattle.sentry_state.specs.Books.{is_label, has_client_of}
 use Rattle.sentry_state.specs.Outcomes.{client_at}
-use Rattle.sentry_state.specs.Worlds.{World, ClientState, starting_world}
+use Rattle.sentry_state.specs.Worlds.{World, ClientHistory, starting_world}
 use Rattle.sentry_state.specs.declared.state.Out.{Out}
 use Rattle.sentry_calls.specs.Runs.{Run}
 use Rattle.sentry_calls.specs.declared.call.Call.{Call}
@@ -48,7 +48,7 @@ told_by_envelopes i of_label given (first ∷ rest) =
     + told_by_envelopes i of_label given rest
 
 -- the client, if there is one, has the label
-abbrev pub has_label : {C : Type 0} → Label → Option (ClientState C) → Bool
+abbrev pub has_label : {C : Type 0} → Label → Option (ClientHistory C) → Bool
 has_label label None = false
 has_label label (Some client) = is_label label client.label
 

@@ -12,7 +12,7 @@ use Rattle.sentry_base.specs.declared.protocol.metric.Metric.{Metric}
 use Rattle.sentry_base.specs.declared.protocol.refusal.Refusal.{Refusal}
 use Rattle.sentry_batches.specs.Batches.{BatchEntry, queued_items, accepted_items, items_of, IsBatch}
 use Rattle.sentry_state.specs.declared.state.Out.{Out}
-use Rattle.sentry_state.specs.Worlds.{World, ClientState, QueueHistories}
+use Rattle.sentry_state.specs.Worlds.{World, ClientHistory, QueueHistories}
 use Rattle.sentry_base.specs.Callbacks.{Partial}
 use Rattle.sentry_options.specs.Meanings.{Meanings}
 use Rattle.sentry_calls.specs.Runs.{Run}
@@ -66,7 +66,7 @@ module _ {T : Type 0} (batch_in : EnvelopeItem → Option (List T)) where
     abbrev pub SendsAccepted : (QueueHistories → List (BatchEntry T)) → List (Call P C)
         → List (Result (Out (Reply P C)) Refusal) → World P C → Type 0
     SendsAccepted history calls answers last =
-        (number : ℕ) (client : ClientState C) → value_at last.clients number ≡ Some client → client.occupied ≡ true
+        (number : ℕ) (client : ClientHistory C) → value_at last.clients number ≡ Some client → client.occupied ≡ true
         → (items_of (batches_sent number calls answers)
         ++ queued_items client.options.plain.max_batch_items (history client.queues)
         ≡ accepted_items (history client.queues))
@@ -82,7 +82,7 @@ module _ {T : Type 0} where
 module _ {T : Type 0} (history : QueueHistories → List (BatchEntry T)) where
   -- a client sent these batches by the end of a call, of all that it accepted: before the call, where it is no longer
   -- held, and then nothing waits
-  abbrev pub IsSentBy : {C : Type 0} → List (List T) → ClientState C → Option (ClientState C) → Type 0
+  abbrev pub IsSentBy : {C : Type 0} → List (List T) → ClientHistory C → Option (ClientHistory C) → Type 0
   IsSentBy sent client None =
       AreSent sent client.options.plain.max_batch_items [] (accepted_items (history client.queues))
   IsSentBy sent client (Some after) =
@@ -98,7 +98,7 @@ module _ {T : Type 0} (batch_in : EnvelopeItem → Option (List T)) (history : Q
           (answers : List (Result (Out (Reply P C)) Refusal)) (last : World P C)
           → Run gives meanings world calls answers last → Type 0
       SendsAtEachCall number sent world (call ∷ calls) (Ok out ∷ answers) last run =
-          ((client : ClientState C) → value_at world.clients number ≡ Some client → client.occupied ≡ true
+          ((client : ClientHistory C) → value_at world.clients number ≡ Some client → client.occupied ≡ true
           → IsSentBy history (sent ++ batches_by batch_in (handed_in call) number out.sent) client
           (value_at run.0.clients number))
           × SendsAtEachCall number (sent ++ batches_by batch_in (handed_in call) number out.sent) run.0 calls answers last

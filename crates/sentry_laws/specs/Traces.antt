@@ -6,7 +6,7 @@ use Rattle.sentry_base.specs.declared.protocol.keys.TransactionKey.{TransactionK
 use Rattle.sentry_base.specs.declared.protocol.span.Span.{Span}
 use Rattle.sentry_span_table.specs.declared.table.records.SpanRecord.{SpanRecord}
 use Rattle.sentry_span_table.specs.declared.table.records.TransactionRecord.{TransactionRecord}
-use Rattle.sentry_state.specs.Outcomes.{plain_transaction_at, span_at}
+use Rattle.sentry_state.specs.Outcomes.{stored_transaction_at, span_at}
 use Rattle.sentry_state.specs.Worlds.{World}
 
 -- the span has the trace id of the transaction
@@ -17,12 +17,12 @@ module _ {P C : Type 0} where
   -- each span that a transaction keeps has its trace id
   abbrev pub KeptSpansAreInTrace : World P C → Type 0
   KeptSpansAreInTrace world =
-      (key : TransactionKey) (transaction : TransactionRecord) → plain_transaction_at world key ≡ Some transaction
+      (key : TransactionKey) (transaction : TransactionRecord) → stored_transaction_at world key ≡ Some transaction
       → AllByRecursion (IsInTrace transaction) transaction.spans
 
   -- each span that is held belongs to a transaction that is held, and has its trace id
   abbrev pub HeldSpansAreInTrace : World P C → Type 0
   HeldSpansAreInTrace world =
       (key : SpanKey) (held : SpanRecord) → span_at world key ≡ Some held
-      → (transaction : TransactionRecord) × (plain_transaction_at world held.transaction ≡ Some transaction)
+      → (transaction : TransactionRecord) × (stored_transaction_at world held.transaction ≡ Some transaction)
       × IsInTrace transaction held.span

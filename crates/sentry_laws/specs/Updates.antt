@@ -14,7 +14,7 @@ use Rattle.sentry_base.specs.declared.protocol.session.SessionUpdate.{SessionUpd
 use Rattle.sentry_options.specs.Meanings.{Meanings}
 use Rattle.sentry_sessions.specs.SessionQueues.{QueueEntry, enqueued, flushed}
 use Rattle.sentry_state.specs.declared.state.Out.{Out}
-use Rattle.sentry_state.specs.Worlds.{World, ClientState, starting_world}
+use Rattle.sentry_state.specs.Worlds.{World, ClientHistory, starting_world}
 use Rattle.sentry_calls.specs.declared.call.Call.{Call}
 use Rattle.sentry_calls.specs.declared.call.Call.TheVariants as group
 use Rattle.sentry_calls.specs.declared.call.hubs.HubCall.TheVariants.{StartSession}
@@ -56,7 +56,7 @@ module _ {P C : Type 0} where
   -- the updates that came to the queue of a client
   abbrev pub queued_at : World P C → ℕ → List SessionUpdate
   queued_at world number =
-      unwrap_or (option_map (λ (client : ClientState C). all_queued client.queues.sessions)
+      unwrap_or (option_map (λ (client : ClientHistory C). all_queued client.queues.sessions)
       (value_at world.clients number)) []
 
   -- those that came since an earlier world to the queues of the clients below a number

@@ -17,7 +17,7 @@ use Rattle.sentry_scope.specs.Stacks.{one_layer}
 use Rattle.sentry_hub_table.specs.declared.hub.Hub.{Hub}
 use Rattle.sentry_state.specs.declared.state.Out.{Out}
 use Rattle.sentry_state.specs.Outcomes.{session_at}
-use Rattle.sentry_state.specs.Worlds.{World, ClientState, SessionState}
+use Rattle.sentry_state.specs.Worlds.{World, ClientHistory, SessionHistory}
 use Rattle.sentry_calls.specs.declared.call.Call.TheVariants as group
 use Rattle.sentry_calls.specs.declared.call.clients.ClientCall.TheVariants.{Flush}
 use Rattle.sentry_calls.specs.declared.call.hubs.HubCall.TheVariants.{NewHub, NewHubFromTop, Configure}
@@ -49,7 +49,7 @@ DerivedHubLeavesMaker P C meanings =
 -- a flush that hands out nothing of a log that waited
 abbrev pub SilentFlushIsRefused : Type 0 → Type 0 → Type 0
 SilentFlushIsRefused P C =
-    (world : World P C) (key : ClientKey) (client : ClientState C) (log : Log)
+    (world : World P C) (key : ClientKey) (client : ClientHistory C) (log : Log)
     → value_at world.clients 0 ≡ Some client → client.occupied ≡ true → client.queues.logs ≡ cut ∷ accept log ∷ []
     → SendsAcceptedLogs (group.Client (Flush key) ∷ []) (replied {P = P} {C = C} reply.Done ∷ []) world → ⊥
 
@@ -62,5 +62,5 @@ LaterCrashIsRefused =
 -- a session that is still held where no hub is left
 abbrev pub OutlivingSessionIsRefused : Type 0 → Type 0 → Type 0
 OutlivingSessionIsRefused P C =
-    (world : World P C) (key : SessionKey) (session : SessionState) → world.hubs ≡ []
+    (world : World P C) (key : SessionKey) (session : SessionHistory) → world.hubs ≡ []
     → session_at world key ≡ Some session → SessionsAreNamed world → ⊥

@@ -12,6 +12,7 @@ ghost use Rattle.sentry_calls.specs.Runs.{Run};
 ghost use Rattle.sentry_laws.specs.OwnCalls.{IsIsolated, KeepsOptions, OwnAloneSuffice};
 ghost use Rattle.sentry_laws.specs.Losses.{BooksBalance, AbsorbedStays};
 ghost use Rattle.sentry_laws.specs.Reports.{ReportsAddUp};
+ghost use Rattle.sentry_laws.specs.LossesByCalls.{RecordsLossesByCalls, CallsAddUp};
 ghost use Rattle.sentry_laws.specs.Reachable.{NumbersAreFree, BooksAreOfClients, ClientsAreHeld, ActiveSpansAreHeld};
 ghost use Rattle.sentry_laws.specs.Reachable.{SessionsAreNamed};
 ghost use Rattle.sentry_laws.specs.PartsOfRuns.{RunsSplit};
@@ -145,4 +146,19 @@ pub fn reports_add_up<P, C>()
 /// Each call but `AddClient` and `Absorb` leaves what each book of losses absorbed, and begins no book.
 pub fn absorbed_losses_stay<P, C>()
     ensures { (gives : P → Partial) (meanings : C → Meanings) → AbsorbedStays gives meanings }
+{}
+
+/// At each call of a run: what came to the book of each label that a client then has, reports aside, is what came
+/// before, and what the call loses under the label or absorbs; a refused call brings nothing. So after a run what the
+/// reports of such a label told, since when a client has had it without a break, and what is pending is what the calls
+/// brought, modulo 2^64.
+pub fn losses_are_recorded<P, C>()
+    ensures calls { (gives : P → Partial) (meanings : C → Meanings) (tag start : ℕ) (calls : List (Call P C))
+        (answers : List (Result (Out (Reply P C)) Refusal)) (last : World P C)
+        (run : Run gives meanings (starting_world tag start) calls answers last)
+        → RecordsLossesByCalls gives meanings (starting_world tag start) calls answers last run }
+    ensures sums { (gives : P → Partial) (meanings : C → Meanings) (tag start : ℕ) (calls : List (Call P C))
+        (answers : List (Result (Out (Reply P C)) Refusal)) (last : World P C)
+        (run : Run gives meanings (starting_world tag start) calls answers last)
+        → CallsAddUp gives meanings (starting_world tag start) calls answers last run }
 {}

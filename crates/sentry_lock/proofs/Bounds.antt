@@ -8,34 +8,34 @@ use Rattle.sentry_client_reports.proofs.LossBalances.{balanced}
 use Rattle.sentry_client_reports.specs.LossBooks.{Book, LossEntry, IsBalanced, book_of}
 use Rattle.sentry_sessions.proofs.QueueLemmas.{queue_is_short_is}
 use Rattle.sentry_span_table.proofs.SpanListLemmas.{kept_short}
-use Rattle.sentry_span_table.specs.SpanLists.{TransactionState, plain_transaction}
+use Rattle.sentry_span_table.specs.SpanLists.{TransactionHistory, stored_transaction}
 use Rattle.sentry_span_table.specs.declared.table.records.TransactionRecord.{TransactionRecord}
 use Rattle.sentry_state.specs.declared.state.Client.{Client}
 use Rattle.sentry_state.specs.declared.state.State.{State}
-use Rattle.sentry_state.specs.Worlds.{World, ClientState, Stands, plain_client}
+use Rattle.sentry_state.specs.Worlds.{World, ClientHistory, Stands, stored_client}
 use Rattle.sentry_state.proofs.Keeping.{found_in_world, value_at-map_values}
 use Rattle.sentry_lock.specs.Locked.{AreShort}
 
 module _ {C : Type 0} where
-  state_short : (client : ClientState C) → AreShort client.options.plain (plain_client client).queues
+  state_short : (client : ClientHistory C) → AreShort client.options.plain (stored_client client).queues
   state_short client = record {
     logs = queued_short client.options.plain.max_batch_items client.queues.logs;
     metrics = queued_short client.options.plain.max_batch_items client.queues.metrics;
     sessions = queue_is_short_is client.options.plain.session_mode client.queues.sessions;
   }
 
-  found_short : (o : Option (ClientState C)) (client : Client C) → Some client ≡ option_map plain_client o
+  found_short : (o : Option (ClientHistory C)) (client : Client C) → Some client ≡ option_map stored_client o
       → AreShort client.options.plain client.queues
   found_short None client e = absurd cc
   found_short (Some state) client e =
-      let same : client ≡ plain_client state = cc in
+      let same : client ≡ stored_client state = cc in
       subst (λ (c : Client C). AreShort c.options.plain c.queues) (sym same) (state_short state)
 
-found_kept : (o : Option TransactionState) (transaction : TransactionRecord)
-    → option_map plain_transaction o ≡ Some transaction → length transaction.spans ≤ transaction.max_spans
+found_kept : (o : Option TransactionHistory) (transaction : TransactionRecord)
+    → option_map stored_transaction o ≡ Some transaction → length transaction.spans ≤ transaction.max_spans
 found_kept None transaction e = absurd cc
 found_kept (Some state) transaction e =
-    let same : plain_transaction state ≡ transaction = cc in
+    let same : stored_transaction state ≡ transaction = cc in
     subst (λ (t : TransactionRecord). length t.spans ≤ t.max_spans) same (kept_short state)
 
 found_balanced : (o : Option (List LossEntry)) (book : Book) → option_map book_of o ≡ Some book → IsBalanced book
@@ -52,7 +52,7 @@ module _ {P C : Type 0} (engine : State P C) (world : World P C) (stands : Stand
       → length transaction.spans ≤ transaction.max_spans
   spans_kept n transaction at =
       found_kept (value_at world.transactions n) transaction
-      (sym (value_at-map_values plain_transaction world.transactions n)
+      (sym (value_at-map_values stored_transaction world.transactions n)
       ∙ (sym (ap (λ table. value_at table.transactions n) stands.spans) ∙ at))
 
   pub books_balanced : (n : ℕ) (book : Book) → value_at engine.books n ≡ Some book → IsBalanced book

@@ -24,24 +24,24 @@ use Rattle.sentry_calls.specs.Losses as losses
 use Rattle.sentry_calls.specs.Telemetry as telemetry
 use Rattle.sentry_laws.specs.Losses.{leaves_absorbed}
 use Rattle.sentry_laws.proofs.Absorbed.{KeepsBooks, call_keeps}
-use Rattle.sentry_lock.specs.Plain.{is_plain_client_call, is_plain_call}
+use Rattle.sentry_lock.specs.ValueCalls.{is_ordinary_client_call, is_ordinary_call}
 
 module _ {P C : Type 0} where
-  plain_client_leaves : (call : ClientCall P C) → is_plain_client_call call ≡ true
+  ordinary_client_leaves : (call : ClientCall P C) → is_ordinary_client_call call ≡ true
       → leaves_absorbed (group.Client call) ≡ true
-  plain_client_leaves (on_client.AddClient options transport label now) h = absurd cc
-  plain_client_leaves (on_client.Absorb label lost) h = absurd cc
-  plain_client_leaves call h = refl
+  ordinary_client_leaves (on_client.AddClient options transport label now) h = absurd cc
+  ordinary_client_leaves (on_client.Absorb label lost) h = absurd cc
+  ordinary_client_leaves call h = refl
 
-  plain_leaves : (call : Call P C) → is_plain_call call ≡ true → leaves_absorbed call ≡ true
-  plain_leaves (group.Client call) h = plain_client_leaves call h
-  plain_leaves (group.Hub call) h = refl
-  plain_leaves (group.Span call) h = refl
+  ordinary_leaves : (call : Call P C) → is_ordinary_call call ≡ true → leaves_absorbed call ≡ true
+  ordinary_leaves (group.Client call) h = ordinary_client_leaves call h
+  ordinary_leaves (group.Hub call) h = refl
+  ordinary_leaves (group.Span call) h = refl
 
 module _ {P C : Type 0} (gives : P → Partial) (meanings : C → Meanings) where
-  pub plain_keeps : (call : Call P C) → is_plain_call call ≡ true → (world : World P C)
+  pub ordinary_keeps : (call : Call P C) → is_ordinary_call call ≡ true → (world : World P C)
       → KeepsBooks world.books (step gives meanings call world).after.books
-  plain_keeps call plain world = call_keeps gives meanings call world (plain_leaves call plain)
+  ordinary_keeps call ordinary world = call_keeps gives meanings call world (ordinary_leaves call ordinary)
 
   pub flush_keeps : (client : ClientKey) (world : World P C)
       → KeepsBooks world.books (clients.flush client world).after.books

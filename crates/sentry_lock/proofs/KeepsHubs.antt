@@ -1,6 +1,6 @@
 -- What the calls on hubs leave of what the books absorbed.
-use Rattle.std.proofs.Common.{refl, ℕ, List}
-use Rattle.std.specs.Prelude.{Option}
+use Rattle.std.proofs.Common.{refl, ℕ, Bool, true, false, List, []}
+use Rattle.std.specs.Prelude.{Option, Some, None, if◌then◌else◌}
 use Rattle.sentry_plain.specs.Texts.{Bytes}
 use Rattle.sentry_base.specs.Callbacks.{Partial}
 use Rattle.sentry_base.specs.declared.protocol.breadcrumb.Breadcrumb.{Breadcrumb}
@@ -16,9 +16,15 @@ use Rattle.sentry_base.specs.declared.protocol.session.SessionStatus.{SessionSta
 use Rattle.sentry_options.specs.Meanings.{Meanings}
 use Rattle.sentry_scope.specs.declared.scope.Scope.{Scope}
 use Rattle.sentry_scope.specs.declared.scope.edit.ScopeEdit.{ScopeEdit}
-use Rattle.sentry_captures.specs.Captures as captures
+use Rattle.sentry_events.specs.Captures as captures
 use Rattle.sentry_state.specs.Breadcrumbs.{add_breadcrumbs}
+use Rattle.sentry_base.specs.declared.protocol.refusal.Refusal.TheVariants.{Stale}
+use Rattle.sentry_hub_table.specs.declared.hub.Hub.{Hub}
+use Rattle.sentry_state.specs.Clients.{is_enabled_client}
+use Rattle.sentry_state.specs.Outcomes.{Outcome, hub_at, let_some, stored_client_at, reply_with, require_some}
 use Rattle.sentry_state.specs.Worlds.{World}
+use Rattle.sentry_state.specs.declared.state.Client.{Client}
+use Rattle.sentry_calls.specs.Active.{if_active}
 use Rattle.sentry_calls.specs.declared.call.Call.TheVariants as group
 use Rattle.sentry_calls.specs.declared.call.hubs.HubCall.TheVariants as on_hub
 use Rattle.sentry_calls.specs.Steps.{hub_step}
@@ -26,7 +32,35 @@ use Rattle.sentry_calls.specs.Hubs as hubs
 use Rattle.sentry_calls.specs.Layers as layers
 use Rattle.sentry_calls.specs.Sessions as sessions
 use Rattle.sentry_calls.specs.Telemetry as telemetry
-use Rattle.sentry_laws.proofs.Absorbed.{KeepsBooks, call_keeps}
+use Rattle.sentry_laws.proofs.Absorbed.{KeepsBooks, call_keeps, unchanged}
+
+module _ {P C : Type 0} where
+  client_active_keeps : (call : World P C → Outcome P C (Unit {0})) (world : World P C) (enabled : Bool) → KeepsBooks world.books (call world).after.books
+      → KeepsBooks world.books (if enabled then call world else reply_with tt [] world).after.books
+  client_active_keeps call world true keeps = keeps
+  client_active_keeps call world false keeps = unchanged world.books
+
+  layer_active_keeps : (call : World P C → Outcome P C (Unit {0})) (world : World P C) (client : Option (Client C)) → KeepsBooks world.books (call world).after.books
+      → KeepsBooks world.books (let_some client (reply_with tt [] world) (λ c. if is_enabled_client c then call world else reply_with tt [] world)).after.books
+  layer_active_keeps call world None keeps = unchanged world.books
+  layer_active_keeps call world (Some client) keeps = client_active_keeps call world (is_enabled_client client) keeps
+
+  top_active_keeps : (call : World P C → Outcome P C (Unit {0})) (world : World P C) (key : Option ClientKey) → KeepsBooks world.books (call world).after.books
+      → KeepsBooks world.books (let_some key (reply_with tt [] world) (λ k.
+      let_some (stored_client_at world k) (reply_with tt [] world) (λ c. if is_enabled_client c then call world else reply_with tt [] world))).after.books
+  top_active_keeps call world None keeps = unchanged world.books
+  top_active_keeps call world (Some key) keeps = layer_active_keeps call world (stored_client_at world key) keeps
+
+  hub_active_keeps : (call : World P C → Outcome P C (Unit {0})) (world : World P C) (hub : Option (Hub P)) → KeepsBooks world.books (call world).after.books
+      → KeepsBooks world.books (require_some Stale world hub (λ h. let_some h.stack.top.client (reply_with tt [] world) (λ k.
+      let_some (stored_client_at world k) (reply_with tt [] world) (λ c. if is_enabled_client c then call world else reply_with tt [] world)))).after.books
+  hub_active_keeps call world None keeps = unchanged world.books
+  hub_active_keeps call world (Some hub) keeps = top_active_keeps call world hub.stack.top.client keeps
+
+  -- a call that is made only on an active hub
+  pub if_active_keeps : (hub : HubKey) (call : World P C → Outcome P C (Unit {0})) (world : World P C) → KeepsBooks world.books (call world).after.books
+      → KeepsBooks world.books (if_active hub call world).after.books
+  if_active_keeps hub call world keeps = hub_active_keeps call world (hub_at world hub) keeps
 
 module _ {P C : Type 0} (gives : P → Partial) (meanings : C → Meanings) where
   pub capture_event_keeps : (hub : HubKey) (event : Event) (fresh : Fresh) (world : World P C)

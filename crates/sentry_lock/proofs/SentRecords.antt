@@ -7,6 +7,8 @@ use Rattle.sentry_plain.proofs.value.ValueMap.TheLaws.TheKnot as knot
 use Rattle.std.proofs.option.Option.TheSendSync as Option
 use Rattle.sentry_plain.proofs.text.Text.TheSendSync as Text
 use Rattle.sentry_plain.proofs.items.Items.TheSendSync as Items
+use Rattle.sentry_plain.proofs.shared.Shared.TheSendSync as Shared
+use Rattle.sentry_plain.proofs.boxed.Boxed.TheSendSync as Boxed
 use Rattle.sentry_plain.proofs.table.Table.TheSendSync as Table
 use Rattle.sentry_plain.proofs.text_map.TextMap.TheSendSync as TextMap
 use Rattle.sentry_base.proofs.protocol.attachment.Attachment.TheSendSync as Attachment
@@ -33,6 +35,10 @@ use Rattle.sentry_sessions.proofs.session.aggregates.AggregateKey.TheSendSync as
 use Rattle.sentry_sessions.proofs.session.aggregates.AggregateCounts.TheSendSync as AggregateCounts
 use Rattle.sentry_batches.proofs.tick.LastTick.TheSendSync as LastTick
 use Rattle.sentry_batches.proofs.batcher.Batch.TheSendSync as Batch
+use Rattle.sentry_plain.specs.contracts.shared.Shared as SharedOf
+use Rattle.sentry_base.specs.contracts.protocol.sdk.ClientSdkInfo as Sdk
+use Rattle.sentry_plain.specs.contracts.text.Text as TextOf
+use Rattle.sentry_plain.specs.contracts.text_map.TextMap as TextMapOf
 use Rattle.sentry_plain.specs.contracts.value.Value as Value
 use Rattle.sentry_plain.specs.contracts.value.ValueMap as ValueMap
 use Rattle.sentry_base.specs.contracts.protocol.context.TraceContext as TraceContext
@@ -55,13 +61,13 @@ use Rattle.sentry_sessions.specs.contracts.session.queue.SessionQueue as Session
 use Rattle.sentry_state.specs.contracts.state.Queues as Queues
 
 pub Value_send : IsSend Value.the_row
-Value_send = search (maps.crosses, heap.crosses, knot.crosses, sendable) depth 60 fits 20000
+Value_send = search (maps.crosses, heap.crosses, knot.crosses, Text.the_send, sendable) depth 60 fits 20000
 
 pub ValueMap_send : IsSend ValueMap.the_row
-ValueMap_send = search (maps.crosses, heap.crosses, knot.crosses, sendable) depth 60 fits 20000
+ValueMap_send = search (maps.crosses, heap.crosses, knot.crosses, Text.the_send, sendable) depth 60 fits 20000
 
 pub ValueMap_sync : IsSync ValueMap.the_row
-ValueMap_sync = search (maps.crosses, heap.crosses, knot.crosses, sendable) depth 60 fits 20000
+ValueMap_sync = search (maps.crosses, heap.crosses, knot.crosses, Text.the_sync, sendable) depth 60 fits 20000
 
 pub TraceContext_field_send : IsSend (TraceContext.the_field).row
 TraceContext_field_send = search (Option.the_field_send, Text.the_send, TraceId.the_field_send, SpanId.the_field_send, SpanId.the_send, SpanStatus.the_send, ValueMap_send, sendable) depth 60 fits 20000
@@ -112,43 +118,58 @@ pub Breadcrumb_sync : IsSync Breadcrumb.the_row
 Breadcrumb_sync = search (Breadcrumb_field_sync, sendable)
 
 pub LogAttribute_field_send : IsSend (LogAttribute.the_field).row
-LogAttribute_field_send = search (maps.crosses, heap.crosses, knot.crosses, sendable) depth 60 fits 20000
+LogAttribute_field_send = search (maps.crosses, heap.crosses, knot.crosses, Text.the_send, sendable) depth 60 fits 20000
 
 pub LogAttribute_send : IsSend LogAttribute.the_row
 LogAttribute_send = search (LogAttribute_field_send, sendable)
 
+pub LogAttribute_field_sync : IsSync (LogAttribute.the_field).row
+LogAttribute_field_sync = search (maps.crosses, heap.crosses, knot.crosses, Text.the_sync, sendable) depth 60 fits 20000
+
+pub LogAttribute_sync : IsSync LogAttribute.the_row
+LogAttribute_sync = search (LogAttribute_field_sync, sendable)
+
 pub Log_field_send : IsSend (Log.the_field).row
-Log_field_send = search (Option.the_field_send, Text.the_send, TextMap.the_send, LogLevel.the_field_send, TraceId.the_send, LogAttribute_send, sendable) depth 60 fits 20000
+Log_field_send = search (Option.the_field_send, Text.the_send, TextMap.the_send, LogAttribute_sync, LogLevel.the_field_send, TraceId.the_send, LogAttribute_send, sendable) depth 60 fits 20000
 
 pub Log_send : IsSend Log.the_row
 Log_send = search (Log_field_send, sendable)
 
 pub Metric_field_send : IsSend (Metric.the_field).row
-Metric_field_send = search (Option.the_field_send, Text.the_send, TextMap.the_send, MetricType.the_field_send, TraceId.the_field_send, SpanId.the_send, Unit.the_send, LogAttribute_send, sendable) depth 60 fits 20000
+Metric_field_send = search (Option.the_field_send, Text.the_send, TextMap.the_send, LogAttribute_sync, MetricType.the_field_send, TraceId.the_field_send, SpanId.the_send, Unit.the_send, LogAttribute_send, sendable) depth 60 fits 20000
 
 pub Metric_send : IsSend Metric.the_row
 Metric_send = search (Metric_field_send, sendable)
 
 pub Span_field_send : IsSend (Span.the_field).row
-Span_field_send = search (Option.the_field_send, Text.the_send, TextMap.the_send, SpanId.the_field_send, SpanId.the_send, TraceId.the_field_send, SpanStatus.the_send, ValueMap_send, sendable) depth 60 fits 20000
+Span_field_send = search (Option.the_field_send, Text.the_send, TextMap.the_send, Text.the_sync, SpanId.the_field_send, SpanId.the_send, TraceId.the_field_send, SpanStatus.the_send, ValueMap_send, sendable) depth 60 fits 20000
 
 pub Span_send : IsSend Span.the_row
 Span_send = search (Span_field_send, sendable)
 
+pub Tags_send : IsSend (TextMapOf.the_row TextOf.the_row)
+Tags_send = search (TextMap.the_send, Text.the_send, Text.the_sync, sendable) depth 60 fits 20000
+
+pub Contexts_send : IsSend (TextMapOf.the_row Context.the_row)
+Contexts_send = search (TextMap.the_send, Context_send, Context_sync, sendable) depth 60 fits 20000
+
+pub Sdk_send : IsSend (SharedOf.the_row Sdk.the_row)
+Sdk_send = search (Shared.the_send, ClientSdkInfo.the_send, ClientSdkInfo.the_sync, sendable) depth 60 fits 20000
+
 pub Transaction_field_send : IsSend (Transaction.the_field).row
-Transaction_field_send = search (Option.the_field_send, Text.the_send, TextMap.the_send, Items.the_send, ValueMap_send, ClientSdkInfo.the_send, Span_send, Context_send, Request.the_send, User_send, sendable) depth 60 fits 20000
+Transaction_field_send = search (Option.the_field_send, Text.the_send, Tags_send, Contexts_send, Items.the_send, ValueMap_send, Sdk_send, Span_send, Request.the_send, User_send, sendable) depth 60 fits 20000
 
 pub Transaction_send : IsSend Transaction.the_row
 Transaction_send = search (Transaction_field_send, sendable)
 
 pub Event_field_send : IsSend (Event.the_field).row
-Event_field_send = search (Option.the_field_send, Text.the_send, TextMap.the_send, Items.the_send, Level.the_field_send, User_send, Request.the_send, Context_send, Breadcrumb_send, Exception.the_send, ValueMap_send, ClientSdkInfo.the_send, sendable) depth 60 fits 20000
+Event_field_send = search (Option.the_field_send, Text.the_send, Tags_send, Contexts_send, Items.the_send, Level.the_field_send, User_send, Request.the_send, Breadcrumb_send, Exception.the_send, ValueMap_send, Sdk_send, sendable) depth 60 fits 20000
 
 pub Event_send : IsSend Event.the_row
 Event_send = search (Event_field_send, sendable)
 
 pub EnvelopeItem_field_send : IsSend (EnvelopeItem.the_field).row
-EnvelopeItem_field_send = search (Items.the_send, Event_field_send, SessionUpdate.the_field_send, SessionAggregates.the_field_send, Transaction_field_send, Attachment.the_field_send, Log_send, Metric_send, ClientReport.the_field_send, sendable) depth 60 fits 20000
+EnvelopeItem_field_send = search (Items.the_send, Boxed.the_send, Event_send, SessionUpdate.the_field_send, SessionAggregates.the_field_send, Transaction_send, Attachment.the_field_send, Log_send, Metric_send, ClientReport.the_field_send, sendable) depth 60 fits 20000
 
 pub EnvelopeItem_send : IsSend EnvelopeItem.the_row
 EnvelopeItem_send = search (EnvelopeItem_field_send, sendable)
@@ -178,13 +199,13 @@ pub SpanRecord_send : IsSend SpanRecord.the_row
 SpanRecord_send = search (SpanRecord_field_send, sendable)
 
 pub SpanTable_field_send : IsSend (SpanTable.the_field).row
-SpanTable_field_send = search (Table.the_send, TransactionRecord_send, SpanRecord_send, sendable) depth 60 fits 20000
+SpanTable_field_send = search (Table.the_send, Boxed.the_send, TransactionRecord_send, SpanRecord_send, sendable) depth 60 fits 20000
 
 pub SpanTable_send : IsSend SpanTable.the_row
 SpanTable_send = search (SpanTable_field_send, sendable)
 
 pub SessionQueue_send : IsSend SessionQueue.the_row
-SessionQueue_send = search (SessionMode.the_field_send, AggregateKey.the_send, AggregateCounts.the_send, Option.the_field_send, SessionAttributes.the_send, Items.the_send, EnvelopeItem_send, maps.crosses, sendable) depth 60 fits 20000
+SessionQueue_send = search (SessionMode.the_field_send, AggregateKey.the_send, AggregateCounts.the_send, Option.the_field_send, Shared.the_send, SessionAttributes.the_send, SessionAttributes.the_sync, Items.the_send, SessionUpdate.the_send, maps.crosses, sendable) depth 60 fits 20000
 
 pub Queues_field_send : IsSend (Queues.the_field).row
 Queues_field_send = search (SessionQueue_send, LastTick.the_field_send, Batch.the_send, Log_send, Metric_send, sendable) depth 60 fits 20000

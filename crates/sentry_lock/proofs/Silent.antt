@@ -12,11 +12,11 @@ use Rattle.sentry_base.specs.declared.protocol.keys.TransactionOrSpanKey.TheVari
 use Rattle.sentry_base.specs.declared.protocol.refusal.Refusal.{Refusal}
 use Rattle.sentry_base.specs.declared.protocol.refusal.Refusal.TheVariants.{ForeignLosses, Full, Stale, StillNamed}
 use Rattle.sentry_options.specs.Meanings.{Meanings}
-use Rattle.sentry_span_calls.specs.Calls.{span_step}
-use Rattle.sentry_span_calls.specs.Replies.{map_answer, map_reply}
-use Rattle.sentry_span_calls.specs.declared.call.records.SpanCall.{SpanCall}
-use Rattle.sentry_span_calls.specs.declared.call.records.SpanCall.TheVariants as on_span
-use Rattle.sentry_span_calls.specs.declared.call.records.SpanReply.{SpanReply}
+use Rattle.sentry_calls.specs.SpanCalls.{span_step}
+use Rattle.sentry_calls.specs.Replies.{map_answer, map_reply}
+use Rattle.sentry_calls.specs.declared.call.spans.records.SpanCall.{SpanCall}
+use Rattle.sentry_calls.specs.declared.call.spans.records.SpanCall.TheVariants as on_span
+use Rattle.sentry_calls.specs.declared.call.spans.records.SpanReply.{SpanReply}
 use Rattle.sentry_span_edits.specs.Discards.{discard, is_active_on}
 use Rattle.sentry_span_edits.specs.Reads.{get_status, read_data, is_sampled, get_span_id, get_trace_context, iter_headers}
 use Rattle.sentry_span_edits.specs.Setters.{change}
@@ -25,7 +25,7 @@ use Rattle.sentry_span_table.specs.SpanTables.{has_span_of, is_held, place_in}
 use Rattle.sentry_spans.specs.Spans as spans
 use Rattle.sentry_state.specs.Books.{has_book}
 use Rattle.sentry_state.specs.Breadcrumbs.{add_breadcrumbs}
-use Rattle.sentry_state.specs.Outcomes.{Outcome, DoesWith, client_at, hub_at, is_held_or_none, let_some, plain_client_at, plain_transaction_at, refuse, reply_with, require, require_some, span_at}
+use Rattle.sentry_state.specs.Outcomes.{Outcome, DoesWith, client_at, hub_at, is_held_or_none, let_some, stored_client_at, stored_transaction_at, refuse, reply_with, require, require_some, span_at}
 use Rattle.sentry_state.specs.Worlds.{World, span_table}
 use Rattle.sentry_state.specs.declared.state.Out.{Out}
 use Rattle.sentry_state.specs.declared.state.State.{State}
@@ -43,7 +43,7 @@ use Rattle.sentry_calls.specs.declared.call.clients.ClientCall.TheVariants as on
 use Rattle.sentry_calls.specs.declared.call.hubs.HubCall.{HubCall}
 use Rattle.sentry_calls.specs.declared.call.hubs.HubCall.TheVariants as on_hub
 use Rattle.sentry_lock.specs.Locked.{IsSound}
-use Rattle.sentry_lock.specs.Plain.{can_hand_out, client_call_can_hand_out, hub_call_can_hand_out, span_call_can_hand_out}
+use Rattle.sentry_lock.specs.ValueCalls.{can_hand_out, client_call_can_hand_out, hub_call_can_hand_out, span_call_can_hand_out}
 use Rattle.sentry_lock.specs.Words.{Drainers}
 
 nothing_sent : {X : Type 0} (sent : List X) → ∥ (sent ≡ []) ∥₁ → sent ≡ []
@@ -97,42 +97,42 @@ module _ {T U : Type 0} (f : T → U) where
 -- ---- spans
 
 module _ {P C : Type 0} (meanings : C → Meanings) where
-  silent_change : (by : SpanEdit) (name : TransactionOrSpanKey) (world : World P C) → IsSilent (change by name world)
+  silent_change : (by : SpanEdit) (span : TransactionOrSpanKey) (world : World P C) → IsSilent (change by span world)
   unfolding change
   silent_change by (key_of.Transaction key) world = silent_some _ _ _ _ (λ held. silent_reply _ _)
   silent_change by (key_of.Span key) world = silent_some _ _ _ _ (λ held. silent_reply _ _)
 
-  silent_discard : (name : TransactionOrSpanKey) (world : World P C) → IsSilent (discard name world)
+  silent_discard : (span : TransactionOrSpanKey) (world : World P C) → IsSilent (discard span world)
   unfolding discard
   silent_discard (key_of.Transaction key) world =
-      silent_some Stale world (plain_transaction_at world key) _ (λ held.
+      silent_some Stale world (stored_transaction_at world key) _ (λ held.
       silent_require StillNamed world (not (is_active_on (key_of.Transaction key) world.hubs)) _
       (silent_require StillNamed world (not (has_span_of (span_table world) key)) _ (silent_reply _ _)))
   silent_discard (key_of.Span key) world =
       silent_some Stale world (span_at world key) _ (λ held.
       silent_require StillNamed world (not (is_active_on (key_of.Span key) world.hubs)) _ (silent_reply _ _))
 
-  silent_status : (name : TransactionOrSpanKey) (world : World P C) → IsSilent (get_status name world)
+  silent_status : (span : TransactionOrSpanKey) (world : World P C) → IsSilent (get_status span world)
   unfolding get_status
   silent_status (key_of.Transaction key) world = silent_some _ _ _ _ (λ held. silent_reply _ _)
   silent_status (key_of.Span key) world = silent_some _ _ _ _ (λ held. silent_reply _ _)
 
-  silent_data : (name : TransactionOrSpanKey) (world : World P C) → IsSilent (read_data name world)
+  silent_data : (span : TransactionOrSpanKey) (world : World P C) → IsSilent (read_data span world)
   unfolding read_data
   silent_data (key_of.Transaction key) world = silent_some _ _ _ _ (λ held. silent_reply _ _)
   silent_data (key_of.Span key) world = silent_some _ _ _ _ (λ held. silent_reply _ _)
 
-  silent_sampled : (name : TransactionOrSpanKey) (world : World P C) → IsSilent (is_sampled name world)
+  silent_sampled : (span : TransactionOrSpanKey) (world : World P C) → IsSilent (is_sampled span world)
   unfolding is_sampled
   silent_sampled (key_of.Transaction key) world = silent_some _ _ _ _ (λ held. silent_reply _ _)
   silent_sampled (key_of.Span key) world = silent_some _ _ _ _ (λ held. silent_reply _ _)
 
-  silent_context : (name : TransactionOrSpanKey) (world : World P C) → IsSilent (get_trace_context name world)
+  silent_context : (span : TransactionOrSpanKey) (world : World P C) → IsSilent (get_trace_context span world)
   unfolding get_trace_context
   silent_context (key_of.Transaction key) world = silent_some _ _ _ _ (λ held. silent_reply _ _)
   silent_context (key_of.Span key) world =
       silent_some Stale world (span_at world key) _ (λ held.
-      silent_some Stale world (plain_transaction_at world held.transaction) _ (λ kept. silent_reply _ _))
+      silent_some Stale world (stored_transaction_at world held.transaction) _ (λ kept. silent_reply _ _))
 
   span_silent : (call : SpanCall) → span_call_can_hand_out call ≡ false → (world : World P C)
       → IsSilent (span_step meanings call world)
@@ -154,25 +154,25 @@ module _ {P C : Type 0} (meanings : C → Meanings) where
       (silent_reply _ _)
   span_silent (on_span.ContinueFromSpan name op (Some key) fresh) h world =
       silent_mapped _ _ (silent_some _ _ _ _ (λ place. silent_reply _ _))
-  span_silent (on_span.SetData name key value) h world = silent_mapped _ _ (silent_change _ _ _)
-  span_silent (on_span.SetTag name key value) h world = silent_mapped _ _ (silent_change _ _ _)
+  span_silent (on_span.SetData span key value) h world = silent_mapped _ _ (silent_change _ _ _)
+  span_silent (on_span.SetTag span key value) h world = silent_mapped _ _ (silent_change _ _ _)
   span_silent (on_span.SetExtra transaction key value) h world = silent_mapped _ _ (silent_change _ _ _)
-  span_silent (on_span.SetStatus name status) h world = silent_mapped _ _ (silent_change _ _ _)
-  span_silent (on_span.SetOp name op) h world = silent_mapped _ _ (silent_change _ _ _)
-  span_silent (on_span.SetName name text) h world = silent_mapped _ _ (silent_change _ _ _)
-  span_silent (on_span.SetRequest name request) h world = silent_mapped _ _ (silent_change _ _ _)
+  span_silent (on_span.SetStatus span status) h world = silent_mapped _ _ (silent_change _ _ _)
+  span_silent (on_span.SetOp span op) h world = silent_mapped _ _ (silent_change _ _ _)
+  span_silent (on_span.SetName span name) h world = silent_mapped _ _ (silent_change _ _ _)
+  span_silent (on_span.SetRequest span request) h world = silent_mapped _ _ (silent_change _ _ _)
   span_silent (on_span.SetOrigin transaction origin) h world = silent_mapped _ _ (silent_change _ _ _)
-  span_silent (on_span.GetStatus name) h world = silent_mapped _ _ (silent_status _ _)
-  span_silent (on_span.GetTraceContext name) h world = silent_mapped _ _ (silent_context _ _)
+  span_silent (on_span.GetStatus span) h world = silent_mapped _ _ (silent_status _ _)
+  span_silent (on_span.GetTraceContext span) h world = silent_mapped _ _ (silent_context _ _)
   span_silent (on_span.GetSpanId span) h world = silent_mapped _ _ (silent_some _ _ _ _ (λ held. silent_reply _ _))
-  span_silent (on_span.Data name) h world = silent_mapped _ _ (silent_data _ _)
-  span_silent (on_span.IterHeaders name) h world = silent_mapped _ _ (silent_some _ _ _ _ (λ place. silent_reply _ _))
-  span_silent (on_span.IsSampled name) h world = silent_mapped _ _ (silent_sampled _ _)
+  span_silent (on_span.Data span) h world = silent_mapped _ _ (silent_data _ _)
+  span_silent (on_span.IterHeaders span) h world = silent_mapped _ _ (silent_some _ _ _ _ (λ place. silent_reply _ _))
+  span_silent (on_span.IsSampled span) h world = silent_mapped _ _ (silent_sampled _ _)
   span_silent (on_span.FinishTransaction transaction hub moment) h world = absurd cc
   span_silent (on_span.FinishSpan span moment) h world =
       silent_mapped _ _ (silent_some Stale world (span_at world span) _ (λ held.
       silent_cond (is_some held.span.timestamp) _ _ (silent_reply _ _) (silent_reply _ _)))
-  span_silent (on_span.Discard name) h world = silent_mapped _ _ (silent_discard _ _)
+  span_silent (on_span.Discard span) h world = silent_mapped _ _ (silent_discard _ _)
 
 -- ---- clients and hubs
 
@@ -187,7 +187,7 @@ module _ {P C : Type 0} (gives : P → Partial) (meanings : C → Meanings) wher
   client_silent (on_client.SampleShouldSend rate draw) h world =
       silent_mapped {T = Bool} Reply.Decision (clients.sample_should_send rate draw world) (silent_reply _ _)
   client_silent (on_client.PrepareEvent client event scope fresh) h world =
-      silent_mapped _ _ (silent_some Stale world (plain_client_at world client) _ (λ held.
+      silent_mapped _ _ (silent_some Stale world (stored_client_at world client) _ (λ held.
       silent_require Stale world (clients.holds_active_span world scope) _ (silent_reply _ _)))
   client_silent (on_client.CloneClient client now) h world =
       silent_mapped _ _ (silent_some Stale world (client_at world client) _ (λ held.
@@ -212,7 +212,7 @@ module _ {P C : Type 0} (gives : P → Partial) (meanings : C → Meanings) wher
       silent_some Stale world (hub_at world hub) _ (λ held.
       silent_cond (length breadcrumbs == 0) _ _ (silent_reply _ _)
       (silent_let held.stack.top.client _ _ (silent_reply _ _) (λ key.
-      silent_let (plain_client_at world key) _ _ (silent_reply _ _) (λ client. silent_reply _ _))))
+      silent_let (stored_client_at world key) _ _ (silent_reply _ _) (λ client. silent_reply _ _))))
 
   hub_silent : (call : HubCall P) → hub_call_can_hand_out call ≡ false → (world : World P C)
       → IsSilent (hub_step gives meanings call world)
@@ -227,7 +227,7 @@ module _ {P C : Type 0} (gives : P → Partial) (meanings : C → Meanings) wher
   hub_silent (on_hub.IsActive hub) h world =
       silent_mapped _ _ (silent_some Stale world (hub_at world hub) _ (λ held.
       silent_let held.stack.top.client _ _ (silent_reply _ _) (λ key.
-      silent_let (plain_client_at world key) _ _ (silent_reply _ _) (λ client. silent_reply _ _))))
+      silent_let (stored_client_at world key) _ _ (silent_reply _ _) (λ client. silent_reply _ _))))
   hub_silent (on_hub.Scope hub) h world = silent_mapped _ _ (silent_some _ _ _ _ (λ held. silent_reply _ _))
   hub_silent (on_hub.PushScope hub) h world = silent_mapped _ _ (silent_some _ _ _ _ (λ held. silent_reply _ _))
   hub_silent (on_hub.NewHubFromTop hub) h world =

@@ -5,6 +5,7 @@ use Rattle.std.proofs.Common.{◌≡◌, refl, ap, ◌∙◌, sym, subst, ℕ, L
 use Rattle.std.specs.Prelude.{Option, Some, None, Result, Ok, Err, ◌==◌, ◌&&◌, if◌then◌else◌}
 use Rattle.std.specs.Option.{is_some}
 use Rattle.sentry_plain.specs.Tables.{value_at, put, replace_at}
+use Rattle.sentry_base.proofs.ByIndex.{at_index}
 use Rattle.sentry_base.specs.Losses.{plus, no_losses}
 use Rattle.sentry_base.specs.declared.protocol.keys.ClientKey.{ClientKey}
 use Rattle.sentry_base.specs.declared.protocol.keys.Label.{Label}
@@ -41,6 +42,10 @@ free_by : (a : Bool) (o : Option (List LossEntry)) → a ≡ true → false ≡ 
 free_by true None is h = refl
 free_by true (Some held) is h = absurd cc
 free_by false o is h = absurd cc
+
+-- nothing is lost
+pub quiet_words : AreZero no_losses
+quiet_words i inside = at_index (λ k. 0) i inside
 
 module _ {P C : Type 0} where
   made_sound : (engine : State P C) (drainers : Drainers) (world : World P C) → Stands engine world

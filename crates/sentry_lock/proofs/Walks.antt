@@ -1,19 +1,16 @@
 -- The walk over the labels.
 use Rattle.std.proofs.Common.{◌≡◌, ◌+◌, refl, ap, ◌∙◌, sym, subst, ℕ, List, [], ◌∷◌, Bool, true, false, cond, ◌&&◌, Ordering, Less, Equal, Greater, length, arith, inl, inr}
-use Rattle.std.specs.Prelude.{Option, Some, None, Result, Ok, Err, IfOk, IfErr, MatchOption}
+use Rattle.std.specs.Prelude.{Option, Some, None}
 use Rattle.std.specs.Option.{IsSomeAnd}
 use Rattle.std.specs.BTreeMap.Range.{range_contains}
 use Rattle.std.specs.Ordering.{nat_cmp, is_eq, is_lt}
 use Rattle.std.specs.declared.ops.Bound.TheVariants.{Unbounded}
 use Rattle.sentry_plain.specs.Tables.{above, entries_after, replace_at}
 use Rattle.sentry_base.specs.declared.protocol.keys.Label.{Label}
-use Rattle.sentry_base.specs.declared.protocol.losses.Losses.{Losses}
-use Rattle.sentry_base.specs.declared.protocol.refusal.Refusal.{Refusal}
-use Rattle.sentry_base.specs.declared.protocol.refusal.Refusal.TheVariants.{ForeignLosses}
 use Rattle.sentry_client_reports.specs.LossCounts.{CountedPart}
 use Rattle.sentry_state.specs.declared.state.State.{State}
 use Rattle.sentry_lock.specs.Words.{Drainers}
-use Rattle.sentry_lock.specs.Locked.{DrainsAndAbsorbs, DrainsEach, DrainsIfOpen, DrainsNext, FindsNoWords, IsHeld}
+use Rattle.sentry_lock.specs.Locked.{DrainsEach, DrainsIfOpen, DrainsNext}
 
 abbrev is_after : ℕ → ℕ → Bool
 is_after n m = range_contains nat_cmp (above (Some n)) Unbounded m
@@ -60,18 +57,6 @@ module _ {X : Type 0} where
   none_left (e ∷ es) passed total sum is = absurd (omega arith)
 
 module _ {P C : Type 0} where
-  -- what `drain_and_absorb` comes to
-  pub drains_if_open : (label : Label) (result : Result (Option Losses) Refusal) (old new : State P C)
-      (drainers drained : Drainers)
-      → IfOk result (λ done. IsHeld true label old × MatchOption done (FindsNoWords label old new drainers drained)
-      (λ losses. DrainsAndAbsorbs label losses.quantities old new drainers drained))
-      → IfErr result (λ refusal. (refusal ≡ ForeignLosses) × IsHeld false label old × (new ≡ old) × (drained ≡ drainers))
-      → DrainsIfOpen label old new drainers drained
-  drains_if_open label (Ok (Some losses)) old new drainers drained done refused = inl (done.0, (losses.quantities, done.1))
-  drains_if_open label (Ok None) old new drainers drained done refused =
-      inr (inr done.1.0, done.1.1, done.1.2)
-  drains_if_open label (Err refusal) old new drainers drained done refused = inr (inl refused.1, refused.2, refused.3)
-
   -- it leaves the labels above its own
   same_after : (label : Label) (old new : State P C) (drainers drained : Drainers)
       → DrainsIfOpen label old new drainers drained

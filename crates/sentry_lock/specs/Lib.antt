@@ -1,4 +1,3 @@
-pub mod Plain
+pub mod ValueCalls
 pub mod Words
 pub mod Locked
-pub mod Transports

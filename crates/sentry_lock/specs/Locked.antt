@@ -20,7 +20,7 @@ use Rattle.sentry_state.specs.Worlds.{World, Stands}
 use Rattle.sentry_calls.specs.Losses.{absorb}
 use Rattle.sentry_calls.specs.declared.call.Call.{Call}
 use Rattle.sentry_laws.proofs.Increasing.{IsIncreasing}
-use Rattle.sentry_lock.specs.Plain.{dropped_label}
+use Rattle.sentry_lock.specs.ValueCalls.{dropped_label}
 use Rattle.sentry_lock.specs.Words.{Drainers, HasNoOpenWords, DrainsOne, EndsWords}
 
 -- fewer logs, metrics and individual sessions wait in the queues of a client than are sent at once

@@ -1,6 +1,6 @@
 //! A client: its key, and a share of the core that holds it.
 ghost use Rattle.std.specs.Prelude.{◌≡◌, Ok, nat_lt, true};
-ghost use Rattle.sentry_lock.specs.Plain.{is_plain_client_call};
+ghost use Rattle.sentry_lock.specs.ValueCalls.{is_ordinary_client_call};
 
 mod setup;
 
@@ -220,7 +220,7 @@ impl<L: CoreLock> Client<L> {
 
     // A call whose reply says no more than that it is done.
     fn done(&self, call: ClientCall<L::Processor, L::Callbacks>) -> Result<(), Refusal>
-        requires { is_plain_client_call call ≡ true }
+        requires { is_ordinary_client_call call ≡ true }
     {
         drop(self.core.call(Call::Client(call))?);
         Ok(())

@@ -1,9 +1,9 @@
 //! The lock of a core, as one trait with the types of the core, and the lock with what waits for it.
 use crate::locked::Core;
-use crate::transport::Transport;
 use crate::under_lock::UnderLock;
 use sentry_base::callbacks::EventCallback;
 use sentry_options::clientoptions::Callbacks;
+use sentry_transport::transport::Transport;
 use std::alloc::{AllocError, Global};
 use std::convert::Infallible;
 use std::sync::{Mutex, MutexGuard, Wait};

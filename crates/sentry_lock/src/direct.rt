@@ -1,7 +1,6 @@
 //! Calls on hubs and spans that are made by methods of their own: no value of a call or of a reply is made for them.
 use crate::core_lock::{CoreGuard, CoreLock};
 use crate::shared_core::SharedCore;
-use crate::transport::Transport;
 use crate::under_lock::UnderLock;
 use sentry_base::callbacks::EventCallback;
 use sentry_base::protocol::{
@@ -15,6 +14,7 @@ use sentry_plain::{Boxed, Value, ValueMap};
 use sentry_scope::scope::{Scope, ScopeEdit};
 use sentry_trace::headers::TraceHeadersIter;
 use sentry_trace::performance::TransactionContext;
+use sentry_transport::transport::Transport;
 
 /// A hub while its core is locked, for one call. Each call ends the lock, and hands out its envelopes after that.
 ///
@@ -110,6 +110,27 @@ impl<P: EventCallback + Drop, C: Callbacks, T: Transport + Drop> LockedHub<'_, P
     pub fn end_session_with_status(self, status: SessionStatus, now: u64) -> Result<(), Refusal> {
         let LockedHub { mut guard, hub } = self;
         let handed = guard.under.core.end_session_with_status(hub, status, now)?;
+        drop(guard);
+        Ok(handed.deliver())
+    }
+
+    /// Starts a session under the client of the top layer, if that is enabled.
+    ///
+    /// `Stale`: the hub isn't held. `Full`: the numbers are used up. `OutOfMemory`.
+    pub fn start_active_session(self, fresh: Fresh) -> Result<(), Refusal> {
+        let LockedHub { mut guard, hub } = self;
+        let handed = guard.under.core.start_active_session(hub, fresh)?;
+        drop(guard);
+        Ok(handed.deliver())
+    }
+
+    /// Ends the session of the top layer with a status, if it has one and its client is enabled. `now` is the moment in
+    /// nanoseconds since the epoch.
+    ///
+    /// `Stale`: the hub isn't held. `OutOfMemory`.
+    pub fn end_active_session(self, status: SessionStatus, now: u64) -> Result<(), Refusal> {
+        let LockedHub { mut guard, hub } = self;
+        let handed = guard.under.core.end_active_session(hub, status, now)?;
         drop(guard);
         Ok(handed.deliver())
     }
@@ -320,11 +341,38 @@ impl<L: CoreLock> SharedCore<L> {
         Ok(handed.deliver())
     }
 
+    /// Finishes a span at a moment in nanoseconds since the epoch, and forgets it.
+    ///
+    /// `Stale`: it isn't held. `OutOfMemory`. `StillNamed`: a layer of a hub names it, which is finished then, and stays.
+    pub fn end_span(&self, span: SpanKey, moment: u64) -> Result<(), Refusal> {
+        let mut guard = self.lock();
+        let core = &mut guard.under.core;
+        let discarded = core.end_span(span, moment)?;
+        discarded
+    }
+
+    /// Finishes a transaction at a moment in nanoseconds since the epoch, under the top scope of a hub, and forgets it.
+    ///
+    /// `Stale`: it isn't held, or the hub isn't. `OutOfMemory`. `StillNamed`: a layer of a hub names it, or a span of it is
+    /// held; it is finished then, and stays.
+    pub fn end_transaction(
+        &self,
+        transaction: TransactionKey,
+        hub: HubKey,
+        moment: u64,
+    ) -> Result<(), Refusal> {
+        let mut guard = self.lock();
+        let core = &mut guard.under.core;
+        let handed = core.end_transaction(transaction, hub, moment)?;
+        drop(guard);
+        handed.deliver()
+    }
+
     /// Forgets a transaction or a span. It takes no memory.
     ///
     /// `Stale`: it isn't held. `StillNamed`: a layer of a hub names it, or a span of it is held.
-    pub fn discard(&self, name: TransactionOrSpanKey) -> Result<(), Refusal> {
-        self.lock().under.core.discard(name)
+    pub fn discard(&self, span: TransactionOrSpanKey) -> Result<(), Refusal> {
+        self.lock().under.core.discard(span)
     }
 
     /// Sets data of a span, or of a transaction while it is unfinished.
@@ -332,11 +380,11 @@ impl<L: CoreLock> SharedCore<L> {
     /// `Stale`: it isn't held. `OutOfMemory`.
     pub fn set_data(
         &self,
-        name: TransactionOrSpanKey,
+        span: TransactionOrSpanKey,
         key: &str,
         value: Value,
     ) -> Result<(), Refusal> {
-        self.lock().under.core.set_data(name, key, value)
+        self.lock().under.core.set_data(span, key, value)
     }
 
     /// Sets a tag of a span, or of a transaction while it is unfinished.
@@ -344,11 +392,11 @@ impl<L: CoreLock> SharedCore<L> {
     /// `Stale`: it isn't held. `OutOfMemory`.
     pub fn set_tag(
         &self,
-        name: TransactionOrSpanKey,
+        span: TransactionOrSpanKey,
         key: &str,
         value: &str,
     ) -> Result<(), Refusal> {
-        self.lock().under.core.set_tag(name, key, value)
+        self.lock().under.core.set_tag(span, key, value)
     }
 
     /// Sets extra data of a transaction, while it is unfinished.
@@ -368,31 +416,31 @@ impl<L: CoreLock> SharedCore<L> {
     /// `Stale`: it isn't held. `OutOfMemory`.
     pub fn set_status(
         &self,
-        name: TransactionOrSpanKey,
+        span: TransactionOrSpanKey,
         status: SpanStatus,
     ) -> Result<(), Refusal> {
-        self.lock().under.core.set_status(name, status)
+        self.lock().under.core.set_status(span, status)
     }
 
     /// Sets the operation of a transaction or a span.
     ///
     /// `Stale`: it isn't held. `OutOfMemory`.
-    pub fn set_op(&self, name: TransactionOrSpanKey, op: &str) -> Result<(), Refusal> {
-        self.lock().under.core.set_op(name, op)
+    pub fn set_op(&self, span: TransactionOrSpanKey, op: &str) -> Result<(), Refusal> {
+        self.lock().under.core.set_op(span, op)
     }
 
     /// Sets the name of a transaction, while it is unfinished, or the description of a span.
     ///
     /// `Stale`: it isn't held. `OutOfMemory`.
-    pub fn set_name(&self, name: TransactionOrSpanKey, text: &str) -> Result<(), Refusal> {
-        self.lock().under.core.set_name(name, text)
+    pub fn set_name(&self, span: TransactionOrSpanKey, name: &str) -> Result<(), Refusal> {
+        self.lock().under.core.set_name(span, name)
     }
 
     /// Sets the request of a transaction, while it is unfinished, or the data that a span has of one.
     ///
     /// `Stale`: it isn't held. `OutOfMemory`.
-    pub fn set_request(&self, name: TransactionOrSpanKey, request: Request) -> Result<(), Refusal> {
-        self.lock().under.core.set_request(name, request)
+    pub fn set_request(&self, span: TransactionOrSpanKey, request: Request) -> Result<(), Refusal> {
+        self.lock().under.core.set_request(span, request)
     }
 
     /// Sets what created a transaction.
@@ -405,20 +453,20 @@ impl<L: CoreLock> SharedCore<L> {
     /// The status of a transaction or a span, if it has one. It takes no memory.
     ///
     /// `Stale`: it isn't held.
-    pub fn get_status(&self, name: TransactionOrSpanKey) -> Result<Option<SpanStatus>, Refusal> {
+    pub fn get_status(&self, span: TransactionOrSpanKey) -> Result<Option<SpanStatus>, Refusal> {
         let mut guard = self.lock();
         let core = &mut guard.under.core;
-        let out = core.engine().get_status(name)?;
+        let out = core.engine().get_status(span)?;
         Ok(out.reply)
     }
 
     /// The place of a transaction in its trace; that of a span is its transaction's.
     ///
     /// `Stale`: it isn't held. `OutOfMemory`.
-    pub fn get_trace_context(&self, name: TransactionOrSpanKey) -> Result<TraceContext, Refusal> {
+    pub fn get_trace_context(&self, span: TransactionOrSpanKey) -> Result<TraceContext, Refusal> {
         let mut guard = self.lock();
         let core = &mut guard.under.core;
-        let out = core.engine().get_trace_context(name)?;
+        let out = core.engine().get_trace_context(span)?;
         Ok(out.reply)
     }
 
@@ -435,30 +483,30 @@ impl<L: CoreLock> SharedCore<L> {
     /// A copy of the data of a transaction or a span.
     ///
     /// `Stale`: it isn't held. `OutOfMemory`.
-    pub fn data(&self, name: TransactionOrSpanKey) -> Result<ValueMap, Refusal> {
+    pub fn data(&self, span: TransactionOrSpanKey) -> Result<ValueMap, Refusal> {
         let mut guard = self.lock();
         let core = &mut guard.under.core;
-        let out = core.engine().data(name)?;
+        let out = core.engine().data(span)?;
         Ok(out.reply)
     }
 
     /// The headers that pass the trace on to the next service.
     ///
     /// `Stale`: it isn't held. `OutOfMemory`.
-    pub fn iter_headers(&self, name: TransactionOrSpanKey) -> Result<TraceHeadersIter, Refusal> {
+    pub fn iter_headers(&self, span: TransactionOrSpanKey) -> Result<TraceHeadersIter, Refusal> {
         let mut guard = self.lock();
         let core = &mut guard.under.core;
-        let out = core.engine().iter_headers(name)?;
+        let out = core.engine().iter_headers(span)?;
         Ok(out.reply)
     }
 
     /// Whether a transaction or a span is sampled. It takes no memory.
     ///
     /// `Stale`: it isn't held.
-    pub fn is_sampled(&self, name: TransactionOrSpanKey) -> Result<bool, Refusal> {
+    pub fn is_sampled(&self, span: TransactionOrSpanKey) -> Result<bool, Refusal> {
         let mut guard = self.lock();
         let core = &mut guard.under.core;
-        let out = core.engine().is_sampled(name)?;
+        let out = core.engine().is_sampled(span)?;
         Ok(out.reply)
     }
 }

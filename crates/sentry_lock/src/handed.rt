@@ -1,13 +1,48 @@
 //! Envelopes on their way from the lock to the transports.
 
-use crate::transport::Transport;
 use sentry_base::protocol::{ClientKey, Envelope};
-use sentry_engine::engine::Out;
+use sentry_engine::engine::{Out, Sent};
 use sentry_plain::{Shared, Table};
+use sentry_transport::transport::Transport;
+use std::alloc::AllocError;
 
 /// The transports by the number of their client. A call takes a share of the whole table before it changes the engine, so
 /// that nothing needs memory after it.
 pub(crate) type Transports<T> = Shared<Table<Shared<T>>>;
+
+/// The transports, and a share of them that lies ready for a call that hands out envelopes. Most calls hand out none, and
+/// so take none.
+#[derive(Drop)]
+pub(crate) struct Routes<T> {
+    pub(crate) transports: Transports<T>,
+    ready: Option<Transports<T>>,
+}
+
+impl<T: Drop> Routes<T> {
+    /// By these transports.
+    pub(crate) fn by(transports: Transports<T>) -> Routes<T> {
+        Routes {
+            transports,
+            ready: None,
+        }
+    }
+
+    /// Sees to it that a share lies ready.
+    pub(crate) fn make_ready(&mut self) -> Result<(), AllocError> {
+        if self.ready.is_none() {
+            self.ready = Some(self.transports.clone()?);
+        }
+        Ok(())
+    }
+
+    /// The share that lies ready, if there is something to send.
+    pub(crate) fn take_for(&mut self, sent: &Sent) -> Option<Transports<T>> {
+        if sent.is_empty() {
+            return None;
+        }
+        self.ready.take()
+    }
+}
 
 /// How a call ends at the transport of its client.
 #[derive(Clone, Copy)]

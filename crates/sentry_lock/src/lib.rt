@@ -8,6 +8,5 @@ mod handed;
 pub mod locked;
 pub mod scope_edits;
 pub mod shared_core;
-pub mod transport;
 pub mod under_lock;
 mod words;

@@ -10,10 +10,11 @@ mod losses;
 mod sending;
 mod spans;
 
-use crate::handed::Transports;
+use crate::handed::Routes;
 use crate::words::Drainers;
 use sentry_base::callbacks::EventCallback;
-use sentry_engine::engine::Engine;
+use sentry_base::protocol::Losses;
+use sentry_engine::engine::{Engine, Held};
 use sentry_options::clientoptions::Callbacks;
 use sentry_plain::{Shared, Table};
 use std::alloc::{AllocError, Global};
@@ -31,8 +32,10 @@ pub struct Core<P, C, T> {
     tag: u64,
     // By the number of their label.
     drainers: Drainers,
-    // By the number of their client.
-    transports: Transports<T>,
+    // The transports by the number of their client.
+    routes: Routes<T>,
+    // What the last drain that found something gave.
+    drained: Losses,
     // The number of the next label.
     next_label: u64,
     alloc: Global,
@@ -49,10 +52,16 @@ impl<P: EventCallback + Drop, C: Callbacks, T: Drop> Core<P, C, T> {
             engine: Engine::new(alloc, tag),
             tag,
             drainers: Table::new(alloc),
-            transports,
+            routes: Routes::by(transports),
+            drained: Losses::none(),
             next_label: 0,
             alloc,
         })
+    }
+
+    /// How many clients, hubs, layers, transactions, spans and sessions it holds.
+    pub(crate) fn held(&self) -> Held {
+        self.engine.held()
     }
 
     /// The engine, to read.

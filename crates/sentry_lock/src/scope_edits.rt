@@ -3,9 +3,10 @@ ghost use Rattle.std.specs.Prelude.{◌≡◌, [], ◌∷◌, ◌++◌, IfOk, On
 ghost use Rattle.sentry_scope.specs.declared.scope.edit.ScopeEdit.TheVariants as call;
 
 use sentry_base::protocol::{
-    Attachment, Context, Level, SpanId, TraceId, TransactionOrSpanKey, User, Value,
+    Attachment, Context, Level, SpanId, TraceId, TransactionOrSpanKey, User,
 };
-use sentry_plain::{Items, Text, copy_texts};
+use sentry_batches::to_value::ToValue;
+use sentry_plain::{Items, Text, ValueMap, copy_texts};
 use sentry_scope::scope::{Scope, ScopeEdit};
 use std::alloc::{AllocError, Global};
 
@@ -26,6 +27,41 @@ impl IntoSpanKey for Option<TransactionOrSpanKey> {
 
     fn into_span_key(self) -> Option<TransactionOrSpanKey> {
         self
+    }
+}
+
+/// What can be a context: a `Context`, or a name with a value, which is all that the context has.
+pub trait IntoContext: Drop {
+    ghost use Rattle.sentry_base.specs.declared.protocol.context.Context.{Context};
+
+    ghost context: { Self → Context };
+
+    /// The context.
+    fn into_context(self, alloc: Global) -> Result<Context, AllocError>
+        ensures { IfOk result (λ made. made ≡ context self) };
+}
+
+impl IntoContext for Context {
+    ghost context = { λ same. same };
+
+    fn into_context(self, _alloc: Global) -> Result<Context, AllocError> {
+        Ok(self)
+    }
+}
+
+impl<V: ToValue + Drop> IntoContext for (&str, V) {
+    ghost use Rattle.std.specs.Prelude.{[]};
+    ghost use Rattle.sentry_plain.specs.Texts.{put};
+    ghost use Rattle.sentry_plain.specs.ValueView.{data_of};
+    ghost use Rattle.sentry_base.specs.declared.protocol.context.Context.TheVariants as of_context;
+
+    ghost context = { λ pair. of_context.Other (put [] pair.0.now (data_of (V.value pair.1))) };
+
+    fn into_context(self, alloc: Global) -> Result<Context, AllocError> {
+        let (name, value) = self;
+        let mut values = ValueMap::new(alloc);
+        values.insert(Text::new(alloc, name)?, value.to_value(alloc)?)?;
+        Ok(Context::Other(values))
     }
 }
 
@@ -183,13 +219,14 @@ impl<P: Drop> ScopeEdits<P> {
         self.keep(ScopeEdit::RemoveTag(key))
     }
 
-    /// Sets an extra value. It replaces a value with the same key.
-    pub fn set_extra(&mut self, key: &str, value: Value) -> Result<(), AllocError>
+    /// Sets an extra value: a truth value, a whole number, a text or a `Value`. It replaces a value with the same key.
+    pub fn set_extra<V: ToValue + Drop>(&mut self, key: &str, value: V) -> Result<(), AllocError>
         ensures scope { self.new.scope ≡ self.old.scope }
-        ensures ok { OnOk result (self.new.edits ≡ self.old.edits ++ call.SetExtra key.now value ∷ []) }
+        ensures ok { OnOk result (self.new.edits ≡ self.old.edits ++ call.SetExtra key.now (V.value value) ∷ []) }
         ensures err { OnErr result (self.new.edits ≡ self.old.edits) }
     {
         let key = self.text(key)?;
+        let value = value.to_value(self.edits.allocator())?;
         self.keep(ScopeEdit::SetExtra(key, value))
     }
 
@@ -203,13 +240,14 @@ impl<P: Drop> ScopeEdits<P> {
         self.keep(ScopeEdit::RemoveExtra(key))
     }
 
-    /// Sets a context. It replaces a context with the same key.
-    pub fn set_context(&mut self, key: &str, context: Context) -> Result<(), AllocError>
+    /// Sets a context: a `Context`, or a name with a value. It replaces a context with the same key.
+    pub fn set_context<K: IntoContext>(&mut self, key: &str, context: K) -> Result<(), AllocError>
         ensures scope { self.new.scope ≡ self.old.scope }
-        ensures ok { OnOk result (self.new.edits ≡ self.old.edits ++ call.SetContext key.now context ∷ []) }
+        ensures ok { OnOk result (self.new.edits ≡ self.old.edits ++ call.SetContext key.now (K.context context) ∷ []) }
         ensures err { OnErr result (self.new.edits ≡ self.old.edits) }
     {
         let key = self.text(key)?;
+        let context = context.into_context(self.edits.allocator())?;
         self.keep(ScopeEdit::SetContext(key, context))
     }
 

@@ -2,19 +2,21 @@
 ghost use Rattle.std.specs.Prelude.{◌≡◌, ◌+◌, ◌≤◌, true, length, vec_len};
 ghost use Rattle.std.specs.List.{list_all};
 ghost use Rattle.std.specs.Vec.{vec_capacity};
-ghost use Rattle.sentry_lock.specs.Plain.{is_plain_call};
+ghost use Rattle.sentry_lock.specs.ValueCalls.{is_ordinary_call};
 
 use crate::client::{Client, ClientSetup};
 use crate::core_lock::{CoreGuard, CoreLock, Gate, Locked};
 use crate::handed::Handed;
-use crate::transport::Transport;
 use crate::under_lock::UnderLock;
 use sentry_base::callbacks::EventCallback;
 use sentry_base::protocol::{ClientKey, HubKey, Refusal};
 use sentry_engine::call::{Call, Reply};
-use sentry_engine::engine::ScopeGuard;
+use sentry_engine::engine::{Held, ScopeGuard};
 use sentry_options::clientoptions::{Callbacks, ClientOptions};
+use sentry_transport::transport::Transport;
 use std::alloc::{AllocError, Global};
+use std::fmt;
+use std::fmt::Debug;
 use std::sync::Arc;
 
 /// A share of a core under its lock. Its clones share it, also with other threads.
@@ -61,6 +63,13 @@ impl<P: EventCallback + Drop, C: Callbacks, T: Transport + Drop, W: Gate + Drop>
     }
 }
 
+/// What it holds, by `held`.
+impl<L: CoreLock> Debug for SharedCore<L> {
+    fn fmt<W: fmt::Write>(&self, f: &mut fmt::Formatter<W>) -> fmt::Result {
+        Debug::fmt(&self.held(), f)
+    }
+}
+
 impl<L: CoreLock> SharedCore<L> {
     /// The allocator of the core.
     pub fn allocator(&self) -> Global {
@@ -70,6 +79,13 @@ impl<L: CoreLock> SharedCore<L> {
     /// Takes the lock: the core is the guard's field `under.core`. While the guard is held every other call on this core waits.
     pub fn lock(&self) -> CoreGuard<'_, UnderLock<L::Processor, L::Callbacks, L::Transport>> {
         self.core.lock()
+    }
+
+    /// How many clients, hubs, layers, transactions, spans and sessions it holds: what a program has not given back.
+    pub fn held(&self) -> Held {
+        let mut guard = self.lock();
+        let core = &mut guard.under.core;
+        core.held()
     }
 
     /// Makes the label and the words of a client that is to be added with these options.
@@ -95,7 +111,7 @@ impl<L: CoreLock> SharedCore<L> {
         &self,
         call: Call<L::Processor, L::Callbacks>,
     ) -> Result<Handed<Reply<L::Processor, L::Callbacks>, L::Transport>, Refusal>
-        requires { is_plain_call call ≡ true }
+        requires { is_ordinary_call call ≡ true }
     {
         let mut guard = self.lock();
         guard.under.core.drain_and_apply(call)
@@ -109,7 +125,7 @@ impl<L: CoreLock> SharedCore<L> {
         &self,
         call: Call<L::Processor, L::Callbacks>,
     ) -> Result<Reply<L::Processor, L::Callbacks>, Refusal>
-        requires { is_plain_call call ≡ true }
+        requires { is_ordinary_call call ≡ true }
     {
         let handed = self.called(call)?;
         Ok(handed.deliver())
@@ -122,7 +138,7 @@ impl<L: CoreLock> SharedCore<L> {
         calls: Vec<Call<L::Processor, L::Callbacks>>,
         all: &mut Vec<Handed<Reply<L::Processor, L::Callbacks>, L::Transport>>,
     ) -> Result<(), Refusal>
-        requires plain { list_all is_plain_call calls.items ≡ true }
+        requires ordinary { list_all is_ordinary_call calls.items ≡ true }
         requires room { vec_len all.old + length calls.items ≤ vec_capacity all.old }
     {
         let mut guard = self.lock();
@@ -138,7 +154,7 @@ impl<L: CoreLock> SharedCore<L> {
     ///
     /// The refusals of the engine's calls; `OutOfMemory`.
     pub fn call_all(&self, calls: Vec<Call<L::Processor, L::Callbacks>>) -> Result<(), Refusal>
-        requires { list_all is_plain_call calls.items ≡ true }
+        requires { list_all is_ordinary_call calls.items ≡ true }
     {
         let mut all = Vec::with_capacity(self.alloc, calls.len())?;
         let answer = self.all_called(calls, &mut all);

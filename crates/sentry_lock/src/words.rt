@@ -1,5 +1,6 @@
 //! The words of labels, as the lock keeps them.
 ghost use Rattle.std.specs.Prelude.{◌≡◌, MatchOption, IfOk, OnErr};
+ghost use Rattle.sentry_client_reports.specs.LossWords.{given_if};
 ghost use Rattle.sentry_lock.specs.Words.{HasNoOpenWords, HasOpenWords, DrainsOne, EndsWords};
 
 use sentry_base::protocol::Losses;
@@ -27,6 +28,27 @@ pub(crate) fn drain_words(drainers: &mut Drainers, number: u64) -> Option<Losses
     };
     let (_, losses) = drainer.drain().into_parts();
     Some(losses)
+}
+
+/// Drains the words of a number once, into losses that are written only if a flag was up, and answers whether one was;
+/// `None` if they were ended, or there are none.
+#[tactic(auto, using(crate::proofs::WordLemmas::none_there, crate::proofs::WordLemmas::ended_there, crate::proofs::WordLemmas::ended_stays))]
+pub(crate) fn drain_words_into(
+    drainers: &mut Drainers,
+    number: u64,
+    losses: &mut Losses,
+) -> Option<bool>
+    ensures { MatchOption result ((drainers.new ≡ drainers.old) × HasNoOpenWords drainers.old number)
+        (λ up. DrainsOne drainers.old drainers.new number (given_if up losses.new.quantities)) }
+{
+    let Some(place) = drainers.get_mut(number) else {
+        return None;
+    };
+    let Some(drainer) = place else {
+        return None;
+    };
+    let up = drainer.drain_into(losses);
+    Some(up)
 }
 
 /// Ends the words of a number and returns what stood in them; `None` if they were ended before, or there are none.

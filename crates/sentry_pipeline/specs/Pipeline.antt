@@ -78,10 +78,11 @@ sample (FixedRate rate) draw = if nat_lt draw rate then Kept else SampledOut
 
 -- the event as it comes through all callbacks and whether it is to be sent, or the place that dropped it
 unfoldable pub prepare_event : {P C : Type 0}
-    → (P → Partial) → (C → Meanings) → SpanTable → ClientOptions C → Option (Scope P) → Fresh → Event → Prepared
-prepare_event gives meanings spans options scope fresh event =
+    → (P → Partial) → (C → Meanings) → SpanTable → ClientOptions C → ClientSdkInfo → Option (Scope P) → Fresh → Event
+    → Prepared
+prepare_event gives meanings spans options sdk scope fresh event =
     let client = meanings options.callbacks in
-    let identified = with_sdk (sdk_info client) (with_id fresh.uuid event) in
+    let identified = with_sdk sdk (with_id fresh.uuid event) in
     continue_or_drop EventProcessor (process_if_any gives scope (fill_if_any spans scope identified)) (λ processed.
     continue_or_drop Integration (process_by_all client.integrations options.plain processed) (λ integrated.
     continue_or_drop BeforeSend (call_if_any client.before_send (with_defaults options.plain integrated)) (λ made.

@@ -7,14 +7,14 @@ ghost use Rattle.sentry_pipeline.specs.Pipeline.{with_id, with_sdk, sdk_info, wi
 mod attributes;
 mod telemetry;
 
-pub use attributes::{DefaultAttribute, default_log_attributes, default_metric_attributes};
+pub use attributes::{default_log_attributes, default_metric_attributes};
 use sentry_base::callbacks::EventCallback;
 use sentry_base::protocol::{ClientSdkInfo, ClientSdkPackage, Draw, Event, Fresh, Reason, Uuid};
 use sentry_options::clientoptions::{
     Callbacks, ClientOptions, EventSamplingStrategy, PlainOptions,
 };
 use sentry_options::constants::{PACKAGE_NAME, SDK_NAME, VERSION};
-use sentry_plain::{Items, Text};
+use sentry_plain::{Boxed, Items, Shared, Text};
 use sentry_scope::scope::Scope;
 use sentry_span_table::table::SpanTable;
 use std::alloc::{AllocError, Global};
@@ -66,7 +66,10 @@ fn fill_in_id(fresh: Uuid, event: &mut Event)
 }
 
 /// What every event and transaction of a client says of the SDK.
-pub fn sdk_info<C: Callbacks>(alloc: Global, callbacks: &C) -> Result<ClientSdkInfo, AllocError>
+pub fn sdk_info<C: Callbacks>(
+    alloc: Global,
+    callbacks: &C,
+) -> Result<Shared<ClientSdkInfo>, AllocError>
     ensures { IfOk result (λ info. info ≡ sdk_info (C.meanings callbacks.now)) }
 {
     let mut packages = Items::new(alloc);
@@ -74,24 +77,22 @@ pub fn sdk_info<C: Callbacks>(alloc: Global, callbacks: &C) -> Result<ClientSdkI
         name: Text::new(alloc, PACKAGE_NAME)?,
         version: Text::new(alloc, VERSION)?,
     })?;
-    Ok(ClientSdkInfo {
+    let info = ClientSdkInfo {
         name: Text::new(alloc, SDK_NAME)?,
         version: Text::new(alloc, VERSION)?,
         packages,
         integrations: callbacks.integration_names(alloc)?,
-    })
+    };
+    let share = Shared::new(alloc, info)?;
+    Ok(share)
 }
 
-// Names the SDK, if the event names none.
-fn fill_in_sdk<C: Callbacks>(
-    alloc: Global,
-    callbacks: &C,
-    event: &mut Event,
-) -> Result<(), AllocError>
-    ensures { OnOk result (event.new ≡ with_sdk (sdk_info (C.meanings callbacks.now)) event.old) }
+// Names the SDK, if the event names none. The event shares what is said of it.
+fn fill_in_sdk(sdk: &Shared<ClientSdkInfo>, event: &mut Event) -> Result<(), AllocError>
+    ensures { OnOk result (event.new ≡ with_sdk sdk.now event.old) }
 {
     if event.sdk.is_none() {
-        event.sdk = Some(sdk_info(alloc, callbacks)?);
+        event.sdk = Some(sdk.clone()?);
     }
     Ok(())
 }
@@ -124,19 +125,18 @@ fn fill_in_defaults(
 }
 
 // Gives an event what it has before any callback: an id, the SDK, and what the scope fills in.
-fn fill_in_before_callbacks<P: Drop, C: Callbacks>(
-    alloc: Global,
-    callbacks: &C,
+fn fill_in_before_callbacks<P: Drop>(
+    sdk: &Shared<ClientSdkInfo>,
     spans: &SpanTable,
     scope: Option<&Scope<P>>,
     fresh: Uuid,
     event: &mut Event,
 ) -> Result<(), AllocError>
     ensures { OnOk result (event.new ≡ fill_if_any spans.now (option_copied scope.entry)
-        (with_sdk (sdk_info (C.meanings callbacks.now)) (with_id fresh event.old))) }
+        (with_sdk sdk.now (with_id fresh event.old))) }
 {
     fill_in_id(fresh, event);
-    fill_in_sdk(alloc, callbacks, event)?;
+    fill_in_sdk(sdk, event)?;
     match scope {
         None => Ok(()),
         Some(scope) => scope.fill_event(spans, event),
@@ -146,7 +146,7 @@ fn fill_in_before_callbacks<P: Drop, C: Callbacks>(
 // Passes an event through the processors of the scope, if there is one.
 fn process_by_scope<P: EventCallback + Drop>(
     scope: Option<&Scope<P>>,
-    event: &mut Option<Event>,
+    event: &mut Option<Boxed<Event>>,
 ) -> Result<(), AllocError>
     ensures { OnOk result
         (event.new ≡ option_and_then (process_if_any P.gives (option_copied scope.entry)) event.old) }
@@ -167,29 +167,30 @@ fn sample(strategy: EventSamplingStrategy, draw: Draw) -> Preparation
     }
 }
 
-/// Prepares an event for sending, in place: it gets an id and the SDK, goes under the scope, if there is one, through
-/// its processors and the integrations, gets the defaults of the options, goes through `before_send`, and is sampled.
-/// The first callback that returns `None` drops it: then the event becomes `None`. Given `None`, it does nothing. If
-/// memory runs out, some of this was done.
+/// Prepares an event for sending, in its box: it gets an id and what the client says of the SDK, goes under the scope, if
+/// there is one, through its processors and the integrations, gets the defaults of the options, goes through
+/// `before_send`, and is sampled. The first callback that returns `None` drops it: then the event becomes `None`. Given
+/// `None`, it does nothing. If memory runs out, some of this was done.
 #[tactic(auto, unfolding(crate::specs::Pipeline::prepare_event))]
 pub fn prepare_event<P: EventCallback + Drop, C: Callbacks>(
     alloc: Global,
     options: &ClientOptions<C>,
+    sdk: &Shared<ClientSdkInfo>,
     spans: &SpanTable,
     scope: Option<&Scope<P>>,
     fresh: Fresh,
-    event: &mut Option<Event>,
+    event: &mut Option<Boxed<Event>>,
 ) -> Result<Preparation, AllocError>
     ensures preparation { (captured : Event) → event.old ≡ Some captured → IfOk result (λ preparation. preparation ≡
-        (prepare_event P.gives C.meanings spans.now options.now (option_copied scope.entry) fresh captured).preparation) }
+        (prepare_event P.gives C.meanings spans.now options.now sdk.now (option_copied scope.entry) fresh captured).preparation) }
     ensures event { (captured : Event) → event.old ≡ Some captured → OnOk result (event.new ≡
-        (prepare_event P.gives C.meanings spans.now options.now (option_copied scope.entry) fresh captured).event) }
+        (prepare_event P.gives C.meanings spans.now options.now sdk.now (option_copied scope.entry) fresh captured).event) }
 {
     let callbacks = &options.callbacks;
     let Some(captured) = event else {
         return Ok(Preparation::Kept);
     };
-    fill_in_before_callbacks(alloc, callbacks, spans, scope, fresh.uuid, captured)?;
+    fill_in_before_callbacks(sdk, spans, scope, fresh.uuid, captured.get_mut())?;
     process_by_scope(scope, event)?;
     if event.is_none() {
         return Ok(Preparation::Dropped(Place::EventProcessor));
@@ -198,7 +199,7 @@ pub fn prepare_event<P: EventCallback + Drop, C: Callbacks>(
     let Some(integrated) = event else {
         return Ok(Preparation::Dropped(Place::Integration));
     };
-    fill_in_defaults(alloc, &options.plain, integrated)?;
+    fill_in_defaults(alloc, &options.plain, integrated.get_mut())?;
     callbacks.before_send(event)?;
     if event.is_none() {
         return Ok(Preparation::Dropped(Place::BeforeSend));

@@ -9,7 +9,7 @@ use Rattle.sentry_state.specs.Books.{pending_report, with_entry}
 use Rattle.sentry_base.specs.Envelopes.{with_report}
 use Rattle.sentry_state.specs.Outcomes.{Outcome, reply_with}
 use Rattle.sentry_state.specs.declared.state.State.{State}
-use Rattle.sentry_state.specs.Worlds.{World, ClientState, Stands}
+use Rattle.sentry_state.specs.Worlds.{World, ClientHistory, Stands}
 
 -- what is handed out, and the world after it
 pub record Sending (P C : Type 0) : Type 0 where
@@ -51,7 +51,7 @@ module _ {P C : Type 0} where
   after_sending label (first ∷ rest) world = with_entry world label report_point
 
   -- the envelopes of a client are sent, if its slot is occupied, and else dropped
-  abbrev pub send : ClientKey → ClientState C → List Envelope → World P C → Sending P C
+  abbrev pub send : ClientKey → ClientHistory C → List Envelope → World P C → Sending P C
   send key client envelopes world =
       let sent = envelopes_from client.occupied key (pending_report world client.label) envelopes in
       record { sent = sent; after = after_sending client.label sent world }

@@ -12,7 +12,7 @@ use Rattle.sentry_hub_table.specs.declared.hub.Hub.{Hub}
 use Rattle.sentry_state.specs.Outcomes.{client_at, session_at}
 use Rattle.sentry_sending.specs.Sending.{Sending, send, send_nothing, send_some}
 use Rattle.sentry_state.specs.Worlds.{World}
-use Rattle.sentry_state.specs.Changes.{with_session, with_client_state, with_client_entry}
+use Rattle.sentry_state.specs.Changes.{with_session, with_client_history, with_client_entry}
 
 module _ {P C : Type 0} where
   -- the last update of a session is queued at a client, which may send all that waits; a closed client drops it
@@ -21,7 +21,7 @@ module _ {P C : Type 0} where
       send_some world (client_at world key) (λ client.
       if client.closed then send_nothing world else
       send key client (envelopes_on client.options.plain.session_mode update client.queues.sessions)
-      (with_client_state world key (with_client_entry (enqueued update) client)))
+      (with_client_history world key (with_client_entry (enqueued update) client)))
 
   -- the session is closed, what is to be told of it is queued at the client of its start, and it is no longer held
   unfoldable pub end_session : SessionKey → Option SessionStatus → ℕ → World P C → Sending P C

@@ -1,12 +1,19 @@
 //! How envelopes leave a client.
-ghost use Rattle.std.specs.Prelude.{◌≡◌, IfOk};
+ghost use Rattle.std.specs.Prelude.{◌≡◌, ◌+◌, ◌<◌, ◌≤◌, ◌++◌, [], List, IfOk, vec_len, vec_capacity};
+ghost use Rattle.sentry_base.specs.Envelopes.{with_report};
+ghost use Rattle.sentry_base.specs.declared.protocol.envelope.Envelope.{Envelope};
+ghost use Rattle.sentry_sessions.specs.SessionQueues.{envelope_if_any, envelope_of};
+ghost use Rattle.sentry_sessions.specs.TakenSessions.{taken_envelopes, HasRoom};
 ghost use Rattle.sentry_state.specs.Worlds.{World, Stands};
 ghost use Rattle.sentry_state.specs.Books.{pending_report};
 ghost use Rattle.sentry_sending.specs.Sending.{for_client, envelopes_from, after_sending};
 
-use sentry_base::protocol::{ClientKey, ClientReport, Envelope, Label};
+use sentry_base::protocol::{
+    ClientKey, ClientReport, Envelope, EnvelopeHeaders, EnvelopeItem, Label,
+};
 use sentry_options::clientoptions::Callbacks;
 use sentry_plain::Items;
+use sentry_sessions::session::TakenSessions;
 use sentry_state::state::{Sent, State};
 use std::alloc::{AllocError, Global};
 
@@ -47,6 +54,76 @@ pub fn envelopes_from<P: Drop, C: Callbacks>(
     let report = state.pending_report(label)?;
     let sent = for_client(state.alloc, key, report, envelopes.into_vec())?;
     Ok(sent)
+}
+
+// An envelope of these items.
+fn envelope_of(items: Vec<EnvelopeItem>) -> Envelope
+    ensures { result ≡ envelope_of items.items }
+{
+    Envelope {
+        header: EnvelopeHeaders {
+            event_id: None,
+            trace: None,
+        },
+        items: Items::from_vec(items),
+    }
+}
+
+// An envelope of these items and a report, if there is one, for which there is room.
+fn with_report(mut items: Vec<EnvelopeItem>, report: Option<ClientReport>) -> Envelope
+    requires { vec_len items < vec_capacity items }
+    ensures { result ≡ with_report report (envelope_of items.items) }
+{
+    match report {
+        None => envelope_of(items),
+        Some(report) => {
+            items.push_reserved(EnvelopeItem::ClientReport(report));
+            envelope_of(items)
+        }
+    }
+}
+
+// Adds an envelope of these items, if there are any, with the report, if it is still to go along with one.
+#[tactic(auto, using(crate::proofs::TakenLemmas::none_more, crate::proofs::TakenLemmas::one_more))]
+fn push_if_any(
+    sent: &mut Vec<(ClientKey, Envelope)>,
+    key: ClientKey,
+    report: &mut Option<ClientReport>,
+    items: Vec<EnvelopeItem>,
+)
+    requires sent { vec_len sent.old < vec_capacity sent.old }
+    requires items { vec_len items < vec_capacity items }
+    ensures items { (others : List Envelope) → sent.new.items ++ for_client key report.new others
+        ≡ sent.old.items ++ for_client key report.old (envelope_if_any items.items ++ others) }
+    ensures len { vec_len sent.new ≤ vec_len sent.old + 1 }
+    ensures capacity { vec_capacity sent.new ≡ vec_capacity sent.old }
+{
+    if items.is_empty() {
+        return;
+    }
+    let envelope = with_report(items, report.take());
+    sent.push_reserved((key, envelope));
+}
+
+/// What leaves an occupied slot when all ended sessions are sent, the first envelope with the report. It takes no memory.
+pub(crate) fn send_taken(
+    mut sent: Vec<(ClientKey, Envelope)>,
+    key: ClientKey,
+    mut report: Option<ClientReport>,
+    taken: TakenSessions,
+) -> Sent
+    requires empty { sent.items ≡ [] }
+    requires sent { vec_len sent + 2 ≤ vec_capacity sent }
+    requires room { HasRoom taken }
+    ensures { result ≡ for_client key report (taken_envelopes taken) }
+{
+    let TakenSessions {
+        counted,
+        individual,
+    } = taken;
+    push_if_any(&mut sent, key, &mut report, counted);
+    push_if_any(&mut sent, key, &mut report, individual);
+    Items::from_vec(sent)
 }
 
 /// Marks what is pending under a label as reported, once something was sent.

@@ -7,7 +7,7 @@ ghost use Rattle.sentry_state.specs.Worlds.{World, Stands};
 ghost use Rattle.sentry_sending.specs.Sending.{Sends};
 ghost use Rattle.sentry_sending.specs.SessionEnds.{queue_update, end_session, end_unnamed_session, release_session};
 
-use crate::sending::{envelopes_from, mark_sent};
+use crate::sending::{mark_sent, send_taken};
 use sentry_base::protocol::{ClientKey, SessionKey, SessionStatus, SessionUpdate};
 use sentry_options::clientoptions::Callbacks;
 use sentry_plain::Items;
@@ -32,10 +32,17 @@ fn queue_update<P: Drop, C: Callbacks>(
     if client.closed {
         return Ok(Items::new(state.alloc));
     }
+    let occupied = client.occupied;
+    let sends = occupied & client.queues.sessions.fills_queue(&update);
+    if !sends {
+        state.enqueue_update(key.number, update)?;
+        return Ok(Items::new(state.alloc));
+    }
     let label = client.label;
-    let envelopes = client.queues.sessions.envelopes_on(&update)?;
-    let sent = envelopes_from(state, client.occupied, key, label, envelopes)?;
-    state.enqueue_update(key.number, update)?;
+    let report = state.pending_report(label)?;
+    let room = Vec::with_capacity(state.alloc, 2)?;
+    let taken = state.take_sessions(key.number, update)?;
+    let sent = send_taken(room, key, report, taken);
     mark_sent(state, label, &sent);
     Ok(sent)
 }
@@ -56,14 +63,12 @@ pub fn end_session<P: Drop, C: Callbacks>(
     let Some(session) = state.named_session(Some(key)) else {
         return Ok(Items::new(state.alloc));
     };
-    let mut session = session.clone()?;
-    session.close(status, now);
-    if !session.dirty {
+    let client = session.start.client;
+    let Some(update) = session.closing_update(status, now)? else {
         state.remove_session(key.number);
         return Ok(Items::new(state.alloc));
-    }
-    let update = session.update()?;
-    let sent = queue_update(state, session.start.client, update)?;
+    };
+    let sent = queue_update(state, client, update)?;
     state.remove_session(key.number);
     Ok(sent)
 }

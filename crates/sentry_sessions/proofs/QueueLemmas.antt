@@ -1,17 +1,18 @@
 -- Sessions that wait: what one call does to what is kept is what one more entry does to what the history says.
-use Rattle.std.proofs.Common.{◌≡◌, ◌<◌, ◌-◌, ℕ, Bool, true, false, cond, length, Option, Some, None, List, [], ◌∷◌, map, reverse, refl, sym, ap, ◌∙◌, arith}
+use Rattle.std.proofs.Common.{◌≡◌, ◌<◌, ◌-◌, ℕ, Bool, true, false, not, cond, length, Option, Some, None, List, [], ◌∷◌, map, reverse, refl, sym, ap, ◌∙◌, arith}
 use Rattle.std.proofs.lemmas.Bool.Decides.{nat_tests}
 use Rattle.std.proofs.lemmas.Grind.{reverse_onto}
 use Rattle.std.proofs.lemmas.List.{nil_from_length, map-append, length-map, length-reverse}
 use Rattle.std.specs.FinMap.{entries, empty, len-empty, len-entries}
 use Rattle.std.specs.Option.{option_or}
-use Rattle.std.specs.Prelude.{nat_le, option_map}
+use Rattle.std.specs.Prelude.{nat_le, option_map, ◌&&◌}
+use Rattle.sentry_base.specs.declared.protocol.envelope.Envelope.{Envelope}
 use Rattle.sentry_base.specs.declared.protocol.envelope.EnvelopeItem.TheVariants as item
 use Rattle.sentry_base.specs.declared.protocol.session.SessionUpdate.{SessionUpdate}
 use Rattle.sentry_options.specs.declared.clientoptions.choices.SessionMode.{SessionMode}
 use Rattle.sentry_sessions.specs.SessionLaws.{QueueIsShort}
-use Rattle.sentry_sessions.specs.SessionQueues.{QueueEntry, enqueued, flushed, aggregate_cmp, counts_of, is_aggregated, aggregated_updates, individual, is_full, since_flush, oldest, Waiting, what_waits, queue_of, envelopes_of, envelopes_on}
-use Rattle.sentry_sessions.specs.QueueSteps.{aggregate, append, nothing, clear, is_last, append_or_clear, envelopes_on_append, enqueue, envelopes_on_enqueue}
+use Rattle.sentry_sessions.specs.SessionQueues.{QueueEntry, enqueued, flushed, aggregate_cmp, counts_of, is_aggregated, aggregated_updates, individual, is_full, since_flush, oldest, Waiting, waiting_of, queue_of, envelopes_of, envelopes_on}
+use Rattle.sentry_sessions.specs.QueueSteps.{aggregate, append, nothing, clear, lacks_one, append_or_clear, envelopes_on_append, enqueue, envelopes_on_enqueue, fills_queue}
 use Rattle.sentry_sessions.specs.declared.session.aggregates.AggregateCounts.{AggregateCounts}
 use Rattle.sentry_sessions.specs.declared.session.aggregates.TheConstants.{MAX_INDIVIDUAL}
 use Rattle.sentry_sessions.proofs.AggregateLemmas.{count_is}
@@ -32,8 +33,8 @@ unfolding counts_of
 no_entries = nil_from_length _ (sym (len-entries (empty {X = AggregateCounts} {R = aggregate_cmp})) ∙ len-empty aggregate_cmp AggregateCounts)
 
 -- nothing waits
-pub waiting_none : (mode : SessionMode) → what_waits mode [] ≡ nothing mode
-unfolding what_waits
+pub waiting_none : (mode : SessionMode) → waiting_of mode [] ≡ nothing mode
+unfolding waiting_of
 waiting_none mode = λ i. record { mode = mode; counts = no_entries i; attributes = None; individual = [] }
 
 first_kept : {A B : Type 0} (f : A → B) (o : Option A) (x : A) → option_map f (option_or o (Some x)) ≡ option_or (option_map f o) (Some (f x))
@@ -71,17 +72,17 @@ module _ (mode : SessionMode) (u : SessionUpdate) (us : List SessionUpdate) wher
   others_more : is_aggregated mode u ≡ false → individual mode (u ∷ us) ≡ u ∷ individual mode us
   others_more h = rw h refl
 
-  aggregate_is : is_aggregated mode u ≡ true → what_waits mode (u ∷ us) ≡ aggregate u (what_waits mode us)
-  unfolding what_waits
+  aggregate_is : is_aggregated mode u ≡ true → waiting_of mode (u ∷ us) ≡ aggregate u (waiting_of mode us)
+  unfolding waiting_of
   aggregate_is h =
-      let split : what_waits mode (u ∷ us) ≡ waiting_from mode (u ∷ aggregated_updates mode us) (individual mode us) =
+      let split : waiting_of mode (u ∷ us) ≡ waiting_from mode (u ∷ aggregated_updates mode us) (individual mode us) =
       λ i. waiting_from mode (counted_more h i) (others_stay h i) in
       split ∙ aggregate_from mode u (aggregated_updates mode us) (individual mode us)
 
-  append_is : is_aggregated mode u ≡ false → what_waits mode (u ∷ us) ≡ append u (what_waits mode us)
-  unfolding what_waits
+  append_is : is_aggregated mode u ≡ false → waiting_of mode (u ∷ us) ≡ append u (waiting_of mode us)
+  unfolding waiting_of
   append_is h =
-      let split : what_waits mode (u ∷ us) ≡ waiting_from mode (aggregated_updates mode us) (u ∷ individual mode us) =
+      let split : waiting_of mode (u ∷ us) ≡ waiting_from mode (aggregated_updates mode us) (u ∷ individual mode us) =
       λ i. waiting_from mode (counted_stay h i) (others_more h i) in
       split ∙ append_from mode u (aggregated_updates mode us) (individual mode us)
 
@@ -102,7 +103,7 @@ length_kept : (others : List SessionUpdate) → length (map item.SessionUpdate (
 length_kept others = length-map (reverse others) item.SessionUpdate ∙ length-reverse others
 
 pub queue_is_short_is : QueueIsShort
-unfolding what_waits
+unfolding waiting_of
 queue_is_short_is mode history =
     rw (length_kept (individual mode (since_flush mode history))) (short mode history)
 
@@ -120,8 +121,8 @@ module _ (mode : SessionMode) (u : SessionUpdate) (history : List QueueEntry) wh
       ap (λ (others : List SessionUpdate). nat_le MAX_INDIVIDUAL (length others)) (others_stay mode u (since_flush mode history) h)
       ∙ not_full (length (individual mode (since_flush mode history))) (short mode history)
 
-  last_is : is_aggregated mode u ≡ false → is_last (queue_of mode history) ≡ is_full mode (u ∷ since_flush mode history)
-  unfolding what_waits
+  last_is : is_aggregated mode u ≡ false → lacks_one (queue_of mode history) ≡ is_full mode (u ∷ since_flush mode history)
+  unfolding waiting_of
   last_is h =
       let others = individual mode (since_flush mode history) in
       ap (nat_le (MAX_INDIVIDUAL - 1)) (length_kept others)
@@ -129,23 +130,23 @@ module _ (mode : SessionMode) (u : SessionUpdate) (history : List QueueEntry) wh
       ∙ ap (λ (xs : List SessionUpdate). nat_le MAX_INDIVIDUAL (length xs)) (sym (others_more mode u (since_flush mode history) h)))
 
   after_append : (b : Bool) → is_aggregated mode u ≡ false
-      → cond b (clear (queue_of mode history)) (append u (queue_of mode history)) ≡ what_waits mode (cond b [] (u ∷ since_flush mode history))
-  unfolding what_waits
+      → cond b (clear (queue_of mode history)) (append u (queue_of mode history)) ≡ waiting_of mode (cond b [] (u ∷ since_flush mode history))
+  unfolding waiting_of
   after_append true h = sym (waiting_none mode)
   after_append false h = sym (append_is mode u (since_flush mode history) h)
 
   sent_on_append : (b : Bool) → is_aggregated mode u ≡ false
-      → cond b (envelopes_of (append u (queue_of mode history))) [] ≡ cond b (envelopes_of (what_waits mode (u ∷ since_flush mode history))) []
+      → cond b (envelopes_of (append u (queue_of mode history))) [] ≡ cond b (envelopes_of (waiting_of mode (u ∷ since_flush mode history))) []
   sent_on_append true h = ap envelopes_of (sym (append_is mode u (since_flush mode history) h))
   sent_on_append false h = refl
 
   enqueue_by : (b : Bool) → is_aggregated mode u ≡ b → enqueue u (queue_of mode history) ≡ queue_of mode (enqueued u ∷ history)
-  unfolding since_flush what_waits
+  unfolding since_flush waiting_of
   enqueue_by true h =
       let queue = queue_of mode history in
       ap (λ (b : Bool). cond b (aggregate u queue) (append_or_clear u queue)) h
       ∙ (sym (aggregate_is mode u (since_flush mode history) h)
-      ∙ ap (λ (b : Bool). what_waits mode (cond b [] (u ∷ since_flush mode history))) (sym (counted_not_full h)))
+      ∙ ap (λ (b : Bool). waiting_of mode (cond b [] (u ∷ since_flush mode history))) (sym (counted_not_full h)))
   enqueue_by false h =
       let queue = queue_of mode history in
       ap (λ (b : Bool). cond b (aggregate u queue) (append_or_clear u queue)) h
@@ -153,11 +154,11 @@ module _ (mode : SessionMode) (u : SessionUpdate) (history : List QueueEntry) wh
       ∙ after_append (is_full mode (u ∷ since_flush mode history)) h)
 
   envelopes_by : (b : Bool) → is_aggregated mode u ≡ b → envelopes_on_enqueue u (queue_of mode history) ≡ envelopes_on mode u history
-  unfolding what_waits
+  unfolding waiting_of
   envelopes_by true h =
       let queue = queue_of mode history in
       ap (λ (b : Bool). cond b [] (envelopes_on_append u queue)) h
-      ∙ ap (λ (b : Bool). cond b (envelopes_of (what_waits mode (u ∷ since_flush mode history))) []) (sym (counted_not_full h))
+      ∙ ap (λ (b : Bool). cond b (envelopes_of (waiting_of mode (u ∷ since_flush mode history))) []) (sym (counted_not_full h))
   envelopes_by false h =
       let queue = queue_of mode history in
       ap (λ (b : Bool). cond b [] (envelopes_on_append u queue)) h
@@ -172,9 +173,39 @@ module _ (mode : SessionMode) (u : SessionUpdate) (history : List QueueEntry) wh
   pub envelopes_on_is : envelopes_on_enqueue u (queue_of mode history) ≡ envelopes_on mode u history
   envelopes_on_is = envelopes_by (is_aggregated mode u) refl
 
+both_hold : (a l : Bool) → (not a && l) ≡ true → (a ≡ false) × (l ≡ true)
+both_hold true l h = absurd cc
+both_hold false l h = (refl, h)
+
+nothing_sent : (a l : Bool) (envelopes : List Envelope) → (not a && l) ≡ false → cond a [] (cond l envelopes []) ≡ []
+nothing_sent true l envelopes h = refl
+nothing_sent false true envelopes h = absurd cc
+nothing_sent false false envelopes h = refl
+
+module _ (mode : SessionMode) (u : SessionUpdate) (history : List QueueEntry) (queue : Waiting) (is : queue ≡ queue_of mode history) where
+  -- an update that is not the hundredth
+  pub quiet_is : fills_queue u queue ≡ false → envelopes_on mode u history ≡ []
+  quiet_is h =
+      sym (ap (envelopes_on_enqueue u) is ∙ envelopes_on_is mode u history)
+      ∙ nothing_sent (is_aggregated queue.mode u) (lacks_one queue) (envelopes_of (append u queue)) h
+
+  -- the hundredth sends all that waits
+  pub sent_is : fills_queue u queue ≡ true → envelopes_of (append u queue) ≡ envelopes_on mode u history
+  sent_is h =
+      let both = both_hold (is_aggregated queue.mode u) (lacks_one queue) h in
+      sym (ap (λ b. cond b [] (envelopes_on_append u queue)) both.0 ∙ ap (λ b. cond b (envelopes_of (append u queue)) []) both.1)
+      ∙ (ap (envelopes_on_enqueue u) is ∙ envelopes_on_is mode u history)
+
+  -- and leaves nothing
+  pub left_is : fills_queue u queue ≡ true → clear queue ≡ queue_of mode (enqueued u ∷ history)
+  left_is h =
+      let both = both_hold (is_aggregated queue.mode u) (lacks_one queue) h in
+      sym (ap (λ b. cond b (aggregate u queue) (append_or_clear u queue)) both.0 ∙ ap (λ b. cond b (clear queue) (append u queue)) both.1)
+      ∙ (ap (enqueue u) is ∙ enqueue_is mode u history)
+
 -- a flush
 pub clear_is : (mode : SessionMode) (history : List QueueEntry) → clear (queue_of mode history) ≡ queue_of mode (flushed ∷ history)
-unfolding since_flush what_waits
+unfolding since_flush waiting_of
 clear_is mode history = sym (waiting_none mode)
 
 -- a new queue

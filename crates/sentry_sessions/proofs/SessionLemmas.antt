@@ -9,7 +9,7 @@ use Rattle.sentry_base.specs.declared.protocol.session.SessionStatus.{SessionSta
 use Rattle.sentry_base.specs.declared.protocol.session.SessionStatus.TheVariants as session_status
 use Rattle.sentry_sessions.specs.declared.session.record.Session.{Session}
 use Rattle.sentry_sessions.specs.declared.session.record.SessionStart.{SessionStart}
-use Rattle.sentry_sessions.specs.Sessions.{SessionEntry, event_reached, handed_out, closed, SessionEnd, crash, closing, end_by, end_of, end_status, end_duration, closing_status, what_counts, is_crash, is_error, is_error_entry, is_change, since_hand_out, was_handed_out, session_of}
+use Rattle.sentry_sessions.specs.Sessions.{SessionEntry, event_reached, handed_out, closed, SessionEnd, crash, closing, end_by, end_of, end_status, end_duration, closing_status, counted_entries, is_crash, is_error, is_error_entry, is_change, since_hand_out, was_handed_out, session_of, update_of, pending_update}
 use Rattle.sentry_sessions.specs.SessionLaws.{EndedStatusStays}
 use Rattle.sentry_sessions.specs.SessionSteps.{has_ended, count_event, end_at, update_from_event, close, mark_handed_out}
 
@@ -84,13 +84,13 @@ pub update_from_event_is : (event : Event) (start : SessionStart) (history : Lis
     → update_from_event event (session_of start history) ≡ session_of start (event_reached event ∷ history)
 unfolding session_of
 update_from_event_is event start history =
-    after_event start (end_of history) (what_counts history) (was_handed_out history) event
+    after_event start (end_of history) (counted_entries history) (was_handed_out history) event
 
 -- a closing
 pub close_is : (status : Option SessionStatus) (now : ℕ) (start : SessionStart) (history : List SessionEntry)
     → close status now (session_of start history) ≡ session_of start (closed status now ∷ history)
 unfolding session_of
-close_is status now start history = after_close start (end_of history) (what_counts history) (was_handed_out history) status now
+close_is status now start history = after_close start (end_of history) (counted_entries history) (was_handed_out history) status now
 
 pub event_ended : (event : Event) (session : Session) (start : SessionStart) (history : List SessionEntry)
     → has_ended session.status ≡ true → session ≡ session_of start history → session ≡ session_of start (event_reached event ∷ history)
@@ -115,6 +115,12 @@ pub close_counted : (status : Option SessionStatus) (now : ℕ) (session : Sessi
 close_counted status now session start history goes_on is =
     ap (λ (b : Bool). cond b session (end_at status now session)) (sym goes_on)
     ∙ (ap (close status now) is ∙ close_is status now start history)
+
+-- the update of a session that goes on, once it is closed
+pub told_at_end : (status : Option SessionStatus) (now : ℕ) (session : Session) (start : SessionStart) (history : List SessionEntry)
+    → has_ended session.status ≡ false → session ≡ session_of start history
+    → Some (update_of (end_at status now session)) ≡ pending_update (session_of start (closed status now ∷ history))
+told_at_end status now session start history goes_on is = ap pending_update (close_counted status now session start history goes_on is)
 
 -- a hand-out
 pub mark_handed_out_is : (start : SessionStart) (history : List SessionEntry)

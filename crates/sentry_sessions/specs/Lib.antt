@@ -4,3 +4,4 @@ pub mod SessionLaws
 pub mod AggregateOrder
 pub mod SessionQueues
 pub mod QueueSteps
+pub mod TakenSessions

@@ -1,5 +1,5 @@
 -- What one call does to the sessions that wait. `SessionQueue`'s contracts say that this is what its history says.
-use Rattle.std.specs.Prelude.{ℕ, ◌+◌, ◌-◌, ◌^◌, ◌++◌, min, Bool, nat_le, length, unwrap_or, Some, None, List, [], ◌∷◌, if◌then◌else◌}
+use Rattle.std.specs.Prelude.{ℕ, ◌+◌, ◌-◌, ◌^◌, ◌++◌, min, Bool, not, ◌&&◌, nat_le, length, unwrap_or, Some, None, List, [], ◌∷◌, if◌then◌else◌}
 use Rattle.std.specs.Option.{option_or}
 use Rattle.std.specs.BTreeMap.{insert_entry, is_at}
 use Rattle.std.specs.Map.{lookup}
@@ -51,15 +51,19 @@ abbrev pub clear : Waiting → Waiting
 clear queue = nothing queue.mode
 
 -- the next individual update is the hundredth
-abbrev pub is_last : Waiting → Bool
-is_last queue = nat_le (MAX_INDIVIDUAL - 1) (length queue.individual)
+abbrev pub lacks_one : Waiting → Bool
+lacks_one queue = nat_le (MAX_INDIVIDUAL - 1) (length queue.individual)
+
+-- this update is the hundredth that is sent as it is
+abbrev pub fills_queue : SessionUpdate → Waiting → Bool
+fills_queue update queue = not (is_aggregated queue.mode update) && lacks_one queue
 
 -- an update that is sent as it is
 abbrev pub append_or_clear : SessionUpdate → Waiting → Waiting
-append_or_clear update queue = if is_last queue then clear queue else append update queue
+append_or_clear update queue = if lacks_one queue then clear queue else append update queue
 
 abbrev pub envelopes_on_append : SessionUpdate → Waiting → List Envelope
-envelopes_on_append update queue = if is_last queue then envelopes_of (append update queue) else []
+envelopes_on_append update queue = if lacks_one queue then envelopes_of (append update queue) else []
 
 abbrev pub enqueue : SessionUpdate → Waiting → Waiting
 enqueue update queue =

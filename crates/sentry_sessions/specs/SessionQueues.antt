@@ -118,8 +118,8 @@ pub record Waiting : Type 0 where
   pub attributes : Option SessionAttributes
   pub individual : List EnvelopeItem
 
-unfoldable pub what_waits : SessionMode → List SessionUpdate → Waiting
-what_waits mode updates = record {
+unfoldable pub waiting_of : SessionMode → List SessionUpdate → Waiting
+waiting_of mode updates = record {
   mode = mode;
   counts = entries (counts_of (aggregated_updates mode updates));
   attributes = option_map (λ update. update.attributes) (oldest (aggregated_updates mode updates));
@@ -128,7 +128,7 @@ what_waits mode updates = record {
 
 -- what a queue keeps of its history
 abbrev pub queue_of : SessionMode → List QueueEntry → Waiting
-queue_of mode history = what_waits mode (since_flush mode history)
+queue_of mode history = waiting_of mode (since_flush mode history)
 
 -- ---- envelopes
 
@@ -168,4 +168,4 @@ envelopes_of queue = envelope_if_any (aggregates_items (aggregates_of queue)) ++
 abbrev pub envelopes_on : SessionMode → SessionUpdate → List QueueEntry → List Envelope
 envelopes_on mode update history =
     let updates = update ∷ since_flush mode history in
-    if is_full mode updates then envelopes_of (what_waits mode updates) else []
+    if is_full mode updates then envelopes_of (waiting_of mode updates) else []

@@ -7,6 +7,7 @@ use Rattle.sentry_base.specs.declared.protocol.exception.Exception.{Exception}
 use Rattle.sentry_base.specs.declared.protocol.keys.ClientKey.{ClientKey}
 use Rattle.sentry_base.specs.declared.protocol.level.Level.{Level}
 use Rattle.sentry_base.specs.declared.protocol.level.Level.TheVariants as level
+use Rattle.sentry_base.specs.declared.protocol.session.SessionAttributes.{SessionAttributes}
 use Rattle.sentry_base.specs.declared.protocol.session.SessionStatus.{SessionStatus}
 use Rattle.sentry_base.specs.declared.protocol.session.SessionStatus.TheVariants as session_status
 use Rattle.sentry_base.specs.declared.protocol.session.SessionUpdate.{SessionUpdate}
@@ -65,10 +66,10 @@ end_of [] = None
 end_of (entry ∷ earlier) = option_or (end_of earlier) (end_by entry)
 
 -- the entries that count: what came before the end, the end itself, and all that was handed out
-abbrev pub what_counts : List SessionEntry → List SessionEntry
-what_counts [] = []
-what_counts (handed_out ∷ earlier) = handed_out ∷ what_counts earlier
-what_counts (entry ∷ earlier) = if is_some (end_of earlier) then what_counts earlier else entry ∷ what_counts earlier
+abbrev pub counted_entries : List SessionEntry → List SessionEntry
+counted_entries [] = []
+counted_entries (handed_out ∷ earlier) = handed_out ∷ counted_entries earlier
+counted_entries (entry ∷ earlier) = if is_some (end_of earlier) then counted_entries earlier else entry ∷ counted_entries earlier
 
 abbrev pub is_error_entry : SessionEntry → Bool
 is_error_entry (event_reached event) = is_error event
@@ -111,11 +112,11 @@ abbrev pub was_handed_out : List SessionEntry → Bool
 was_handed_out history = list_any is_hand_out history
 
 abbrev pub count_errors : List SessionEntry → ℕ
-count_errors history = min (count_by is_error_entry (what_counts history)) (2 ^ 64 - 1)
+count_errors history = min (count_by is_error_entry (counted_entries history)) (2 ^ 64 - 1)
 
 -- nothing was handed out, or a change that counts followed what was handed out last
 abbrev pub is_dirty : List SessionEntry → Bool
-is_dirty history = not (was_handed_out history) || list_any is_change (since_hand_out (what_counts history))
+is_dirty history = not (was_handed_out history) || list_any is_change (since_hand_out (counted_entries history))
 
 -- the session that started so and to which this came
 unfoldable pub session_of : SessionStart → List SessionEntry → Session
@@ -156,17 +157,21 @@ abbrev pub distinct_id_of : Option User → Option Bytes
 distinct_id_of None = None
 distinct_id_of (Some user) = option_or user.id (option_or user.email user.username)
 
--- the start of a session of this client, which needs a release
-abbrev pub start_of : ClientKey → PlainOptions → Option User → List ℕ → ℕ → Option SessionStart
-start_of client options user session_id now = option_map (λ release. record {
+-- what the sessions of a client with these options have, which needs a release
+abbrev pub session_attributes : PlainOptions → Option SessionAttributes
+session_attributes options =
+    option_map (λ release. record { release = release; environment = options.environment }) options.release
+
+-- the start of a session of this client, whose sessions have these attributes
+abbrev pub start_of : ClientKey → SessionAttributes → Option User → List ℕ → ℕ → SessionStart
+start_of client attributes user session_id now = record {
   client = client;
   session_id = session_id;
   distinct_id = distinct_id_of user;
   started = now;
-  attributes = record { release = release; environment = options.environment };
-}) options.release
+  attributes = attributes;
+}
 
 -- the session that starts so
-abbrev pub new_session : ClientKey → PlainOptions → Option User → List ℕ → ℕ → Option Session
-new_session client options user session_id now =
-    option_map (λ start. session_of start []) (start_of client options user session_id now)
+abbrev pub new_session : ClientKey → SessionAttributes → Option User → List ℕ → ℕ → Session
+new_session client attributes user session_id now = session_of (start_of client attributes user session_id now) []

@@ -7,7 +7,10 @@ mod events;
 mod laws;
 mod queue;
 mod record;
+mod taken;
 
+pub use calls::session_attributes;
 pub use laws::{ended_status_stays, queue_is_short};
 pub use queue::SessionQueue;
 pub use record::{Session, SessionStart};
+pub use taken::TakenSessions;

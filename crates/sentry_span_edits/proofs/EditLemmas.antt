@@ -5,7 +5,7 @@ use Rattle.std.specs.Option.{option_map}
 use Rattle.sentry_base.specs.declared.protocol.span.Span.{Span}
 use Rattle.sentry_span_edits.specs.Edits.{edit_held, edit_transaction, edit_unfinished}
 use Rattle.sentry_span_edits.specs.declared.edit.SpanEdit.{SpanEdit}
-use Rattle.sentry_span_table.specs.SpanLists.{TransactionState, kept_spans, plain_transaction, spans_left}
+use Rattle.sentry_span_table.specs.SpanLists.{TransactionHistory, kept_spans, stored_transaction, spans_left}
 use Rattle.sentry_plain.specs.Tables.{value_at}
 use Rattle.sentry_base.specs.declared.protocol.keys.SpanKey.{SpanKey}
 use Rattle.sentry_span_table.specs.SpanTables.{span_in}
@@ -19,10 +19,10 @@ spans_stay change None kept = refl
 spans_stay change (Some unfinished) kept = refl
 
 -- an edit of what the engine has is what the engine has after the edit
-pub held_edited : (edit : SpanEdit) (state : TransactionState)
-    → edit_held edit (plain_transaction state) ≡ plain_transaction (edit_transaction edit state)
+pub held_edited : (edit : SpanEdit) (state : TransactionHistory)
+    → edit_held edit (stored_transaction state) ≡ stored_transaction (edit_transaction edit state)
 held_edited edit state =
-    ap (λ spans. record (plain_transaction (edit_transaction edit state)) { spans = spans })
+    ap (λ spans. record (stored_transaction (edit_transaction edit state)) { spans = spans })
     (spans_stay (edit_unfinished edit) state.unfinished (kept_spans state.tracing state.max_spans state.finished))
 
 some_under : {X : Type 0} (b : Bool) (found : Option X) → is_some (cond b found None) ≡ true → is_some found ≡ true

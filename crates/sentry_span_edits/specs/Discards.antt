@@ -7,7 +7,7 @@ use Rattle.sentry_base.specs.declared.protocol.refusal.Refusal.TheVariants.{Stal
 use Rattle.sentry_hub_table.specs.Hubs.{is_span_named, is_transaction_named}
 use Rattle.sentry_hub_table.specs.declared.hub.Hub.{Hub}
 use Rattle.sentry_span_table.specs.SpanTables.{has_span_of}
-use Rattle.sentry_state.specs.Outcomes.{Outcome, plain_transaction_at, reply_with, require, require_some, span_at}
+use Rattle.sentry_state.specs.Outcomes.{Outcome, stored_transaction_at, reply_with, require, require_some, span_at}
 use Rattle.sentry_state.specs.Worlds.{World, span_table}
 
 -- the scope of a layer of a hub names it
@@ -19,7 +19,7 @@ module _ {P C : Type 0} where
   -- a transaction or a span is forgotten, if no layer names it and no span that is held belongs to it; nothing is lost
   unfoldable pub discard : TransactionOrSpanKey → World P C → Outcome P C (Unit {0})
   discard (Transaction key) world =
-      require_some Stale world (plain_transaction_at world key) (λ held.
+      require_some Stale world (stored_transaction_at world key) (λ held.
       require StillNamed world (not (is_active_on (Transaction key) world.hubs))
       (require StillNamed world (not (has_span_of (span_table world) key))
       (reply_with tt [] (record world { transactions = without world.transactions key.number }))))

@@ -6,10 +6,10 @@ use Rattle.sentry_plain.specs.ValueView.{data_of}
 use Rattle.sentry_base.specs.declared.protocol.context.TraceContext.{TraceContext}
 use Rattle.sentry_base.specs.declared.protocol.span.Span.{Span}
 use Rattle.sentry_base.specs.declared.protocol.transaction.Transaction.{Transaction}
-use Rattle.sentry_bodies.specs.Requests.{with_request}
+use Rattle.sentry_span_edits.specs.Requests.{with_request}
 use Rattle.sentry_span_edits.specs.declared.edit.SpanEdit.{SpanEdit}
 use Rattle.sentry_span_edits.specs.declared.edit.SpanEdit.TheVariants.{Data, Tag, Extra, Status, Op, Name, Request, Origin}
-use Rattle.sentry_span_table.specs.SpanLists.{TransactionState}
+use Rattle.sentry_span_table.specs.SpanLists.{TransactionHistory}
 use Rattle.sentry_span_table.specs.declared.table.records.SpanRecord.{SpanRecord}
 use Rattle.sentry_span_table.specs.declared.table.records.TransactionRecord.{TransactionRecord}
 use Rattle.sentry_span_table.specs.declared.table.records.Unfinished.{Unfinished}
@@ -33,7 +33,7 @@ edit_context (Op op) unfinished context = record context { op = Some op }
 edit_context (Origin origin) unfinished context = record context { origin = Some origin }
 edit_context edit unfinished context = context
 
-abbrev pub edit_transaction : SpanEdit → TransactionState → TransactionState
+abbrev pub edit_transaction : SpanEdit → TransactionHistory → TransactionHistory
 edit_transaction edit state = record state {
   context = edit_context edit (is_some state.unfinished) state.context;
   unfinished = option_map (edit_unfinished edit) state.unfinished;

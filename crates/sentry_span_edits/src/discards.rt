@@ -51,11 +51,11 @@ fn discard_span<P: Drop, C: Callbacks>(
 /// `Stale`: it isn't held. `StillNamed`: a layer of a hub names it, or a span that is held belongs to the transaction.
 pub fn discard<P: Drop, C: Callbacks>(
     state: &mut State<P, C>,
-    name: TransactionOrSpanKey,
+    span: TransactionOrSpanKey,
 ) -> Result<Out<()>, Refusal>
-    ensures { DoesWithoutMemory state.old state.new result (call.discard name) }
+    ensures { DoesWithoutMemory state.old state.new result (call.discard span) }
 {
-    match name {
+    match span {
         TransactionOrSpanKey::Transaction(key) => discard_transaction(state, key),
         TransactionOrSpanKey::Span(key) => discard_span(state, key),
     }

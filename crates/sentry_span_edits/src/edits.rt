@@ -12,8 +12,8 @@ ghost use Rattle.sentry_state.specs.SpanChanges.{with_span};
 ghost use Rattle.sentry_state.specs.Worlds.{World, Stands};
 
 use crate::edit::SpanEdit;
+use crate::requests::with_request;
 use sentry_base::protocol::{Span, SpanKey, TraceContext, Transaction, TransactionKey};
-use sentry_bodies::requests::with_request;
 use sentry_options::clientoptions::Callbacks;
 use sentry_span_table::table::{SpanTable, TransactionRecord, Unfinished};
 use sentry_state::state::State;
@@ -125,7 +125,7 @@ fn edit_transaction_at(spans: &mut SpanTable, number: u64, edit: SpanEdit) -> Re
     let Some(held) = spans.transactions.get_mut(number) else {
         unreachable!()
     };
-    edit_held(held, edit)?;
+    edit_held(held.get_mut(), edit)?;
     Ok(())
 }
 
@@ -144,9 +144,10 @@ fn edit_span_at(
         }) }
     ensures err { OnErr result (spans.new ≡ spans.old) }
 {
-    let Some(held) = spans.spans.get_mut(number) else {
+    let Some(boxed) = spans.spans.get_mut(number) else {
         unreachable!()
     };
+    let held = boxed.get_mut();
     edit_span(alloc, &mut held.span, edit)?;
     Ok(())
 }

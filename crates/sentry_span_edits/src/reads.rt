@@ -21,11 +21,11 @@ use std::alloc::{AllocError, Global};
 #[tactic(auto, unfolding(crate::specs::Reads::get_status))]
 pub fn get_status<P: Drop, C: Callbacks>(
     state: &State<P, C>,
-    name: TransactionOrSpanKey,
+    span: TransactionOrSpanKey,
 ) -> Result<Out<Option<SpanStatus>>, Refusal>
-    ensures { DoesWithoutMemory state.now state.now result (call.get_status name) }
+    ensures { DoesWithoutMemory state.now state.now result (call.get_status span) }
 {
-    match name {
+    match span {
         TransactionOrSpanKey::Transaction(key) => match state.transaction_at(key) {
             None => Err(Refusal::Stale),
             Some(held) => Ok(state.out(held.context.status)),
@@ -53,11 +53,11 @@ fn open_data(alloc: Global, held: &TransactionRecord) -> Result<ValueMap, AllocE
 #[tactic(auto, unfolding(crate::specs::Reads::read_data))]
 pub fn data<P: Drop, C: Callbacks>(
     state: &State<P, C>,
-    name: TransactionOrSpanKey,
+    span: TransactionOrSpanKey,
 ) -> Result<Out<ValueMap>, Refusal>
-    ensures { Does state.now state.now result (call.read_data name) }
+    ensures { Does state.now state.now result (call.read_data span) }
 {
-    match name {
+    match span {
         TransactionOrSpanKey::Transaction(key) => {
             let Some(held) = state.transaction_at(key) else {
                 return Err(Refusal::Stale);
@@ -82,11 +82,11 @@ pub fn data<P: Drop, C: Callbacks>(
 #[tactic(auto, unfolding(crate::specs::Reads::get_trace_context))]
 pub fn get_trace_context<P: Drop, C: Callbacks>(
     state: &State<P, C>,
-    name: TransactionOrSpanKey,
+    span: TransactionOrSpanKey,
 ) -> Result<Out<TraceContext>, Refusal>
-    ensures { Does state.now state.now result (call.get_trace_context name) }
+    ensures { Does state.now state.now result (call.get_trace_context span) }
 {
-    let key = match name {
+    let key = match span {
         TransactionOrSpanKey::Transaction(key) => key,
         TransactionOrSpanKey::Span(key) => match state.span_at(key) {
             None => return Err(Refusal::Stale),
@@ -123,11 +123,11 @@ pub fn get_span_id<P: Drop, C: Callbacks>(
 #[tactic(auto, unfolding(crate::specs::Reads::is_sampled))]
 pub fn is_sampled<P: Drop, C: Callbacks>(
     state: &State<P, C>,
-    name: TransactionOrSpanKey,
+    span: TransactionOrSpanKey,
 ) -> Result<Out<bool>, Refusal>
-    ensures { DoesWithoutMemory state.now state.now result (call.is_sampled name) }
+    ensures { DoesWithoutMemory state.now state.now result (call.is_sampled span) }
 {
-    match name {
+    match span {
         TransactionOrSpanKey::Transaction(key) => match state.transaction_at(key) {
             None => Err(Refusal::Stale),
             Some(held) => Ok(state.out(held.tracing.is_sampled())),
@@ -159,11 +159,11 @@ fn headers_at(alloc: Global, place: SpanPlace) -> Result<TraceHeadersIter, Alloc
 #[tactic(auto, unfolding(crate::specs::Reads::iter_headers), using(sentry_state::proofs::SpanKeeping::place_in_world))]
 pub fn iter_headers<P: Drop, C: Callbacks>(
     state: &State<P, C>,
-    name: TransactionOrSpanKey,
+    span: TransactionOrSpanKey,
 ) -> Result<Out<TraceHeadersIter>, Refusal>
-    ensures { Does state.now state.now result (call.iter_headers name) }
+    ensures { Does state.now state.now result (call.iter_headers span) }
 {
-    let Some(place) = state.spans.place(name) else {
+    let Some(place) = state.spans.place(span) else {
         return Err(Refusal::Stale);
     };
     let headers = headers_at(state.alloc, place)?;

@@ -68,13 +68,13 @@ pub fn change<P: Drop, C: Callbacks>(
 #[tactic(auto, unfolding(crate::specs::Setters::change))]
 fn require_held<P: Drop, C: Callbacks>(
     state: &State<P, C>,
-    name: TransactionOrSpanKey,
+    span: TransactionOrSpanKey,
 ) -> Result<(), Refusal>
-    ensures held { OnOk result ((world : World P C) → Stands state.now world → IsEditable name world) }
+    ensures held { OnOk result ((world : World P C) → Stands state.now world → IsEditable span world) }
     ensures stale { IfErr result (λ refusal. (refusal ≡ Stale)
-        × ((world : World P C) → Stands state.now world → IsStale name world)) }
+        × ((world : World P C) → Stands state.now world → IsStale span world)) }
 {
-    match name {
+    match span {
         TransactionOrSpanKey::Transaction(key) => match state.transaction_at(key) {
             None => Err(Refusal::Stale),
             Some(_) => Ok(()),
@@ -91,15 +91,15 @@ fn require_held<P: Drop, C: Callbacks>(
 /// `Stale`: it isn't held. `OutOfMemory`.
 pub fn set_data<P: Drop, C: Callbacks>(
     state: &mut State<P, C>,
-    name: TransactionOrSpanKey,
+    span: TransactionOrSpanKey,
     key: &str,
     value: Value,
 ) -> Result<Out<()>, Refusal>
-    ensures { Does state.old state.new result (call.set_data name key.now value) }
+    ensures { Does state.old state.new result (call.set_data span key.now value) }
 {
-    require_held(state, name)?;
+    require_held(state, span)?;
     let key = Text::new(state.alloc, key)?;
-    change(state, name, SpanEdit::Data { key, value })
+    change(state, span, SpanEdit::Data { key, value })
 }
 
 /// Sets a tag of a span, or of a transaction while it is unfinished.
@@ -107,16 +107,16 @@ pub fn set_data<P: Drop, C: Callbacks>(
 /// `Stale`: it isn't held. `OutOfMemory`.
 pub fn set_tag<P: Drop, C: Callbacks>(
     state: &mut State<P, C>,
-    name: TransactionOrSpanKey,
+    span: TransactionOrSpanKey,
     key: &str,
     value: &str,
 ) -> Result<Out<()>, Refusal>
-    ensures { Does state.old state.new result (call.set_tag name key.now value.now) }
+    ensures { Does state.old state.new result (call.set_tag span key.now value.now) }
 {
-    require_held(state, name)?;
+    require_held(state, span)?;
     let key = Text::new(state.alloc, key)?;
     let value = Text::new(state.alloc, value)?;
-    change(state, name, SpanEdit::Tag { key, value })
+    change(state, span, SpanEdit::Tag { key, value })
 }
 
 /// Sets extra data of a transaction, while it is unfinished.
@@ -124,16 +124,16 @@ pub fn set_tag<P: Drop, C: Callbacks>(
 /// `Stale`: it isn't held. `OutOfMemory`.
 pub fn set_extra<P: Drop, C: Callbacks>(
     state: &mut State<P, C>,
-    name: TransactionKey,
+    transaction: TransactionKey,
     key: &str,
     value: Value,
 ) -> Result<Out<()>, Refusal>
-    ensures { Does state.old state.new result (call.set_extra name key.now value) }
+    ensures { Does state.old state.new result (call.set_extra transaction key.now value) }
 {
-    let name = TransactionOrSpanKey::Transaction(name);
-    require_held(state, name)?;
+    let span = TransactionOrSpanKey::Transaction(transaction);
+    require_held(state, span)?;
     let key = Text::new(state.alloc, key)?;
-    change(state, name, SpanEdit::Extra { key, value })
+    change(state, span, SpanEdit::Extra { key, value })
 }
 
 /// Sets the status of a transaction or a span, also of one that is finished.
@@ -141,12 +141,12 @@ pub fn set_extra<P: Drop, C: Callbacks>(
 /// `Stale`: it isn't held. `OutOfMemory`.
 pub fn set_status<P: Drop, C: Callbacks>(
     state: &mut State<P, C>,
-    name: TransactionOrSpanKey,
+    span: TransactionOrSpanKey,
     status: SpanStatus,
 ) -> Result<Out<()>, Refusal>
-    ensures { Does state.old state.new result (call.set_status name status) }
+    ensures { Does state.old state.new result (call.set_status span status) }
 {
-    change(state, name, SpanEdit::Status(status))
+    change(state, span, SpanEdit::Status(status))
 }
 
 /// Sets the operation of a transaction or a span, also of one that is finished.
@@ -154,14 +154,14 @@ pub fn set_status<P: Drop, C: Callbacks>(
 /// `Stale`: it isn't held. `OutOfMemory`.
 pub fn set_op<P: Drop, C: Callbacks>(
     state: &mut State<P, C>,
-    name: TransactionOrSpanKey,
+    span: TransactionOrSpanKey,
     op: &str,
 ) -> Result<Out<()>, Refusal>
-    ensures { Does state.old state.new result (call.set_op name op.now) }
+    ensures { Does state.old state.new result (call.set_op span op.now) }
 {
-    require_held(state, name)?;
+    require_held(state, span)?;
     let op = Text::new(state.alloc, op)?;
-    change(state, name, SpanEdit::Op(op))
+    change(state, span, SpanEdit::Op(op))
 }
 
 /// Sets the name of a transaction while it is unfinished, or the description of a span, which may be empty.
@@ -169,14 +169,14 @@ pub fn set_op<P: Drop, C: Callbacks>(
 /// `Stale`: it isn't held. `OutOfMemory`.
 pub fn set_name<P: Drop, C: Callbacks>(
     state: &mut State<P, C>,
-    name: TransactionOrSpanKey,
-    text: &str,
+    span: TransactionOrSpanKey,
+    name: &str,
 ) -> Result<Out<()>, Refusal>
-    ensures { Does state.old state.new result (call.set_name name text.now) }
+    ensures { Does state.old state.new result (call.set_name span name.now) }
 {
-    require_held(state, name)?;
-    let text = Text::new(state.alloc, text)?;
-    change(state, name, SpanEdit::Name(text))
+    require_held(state, span)?;
+    let name = Text::new(state.alloc, name)?;
+    change(state, span, SpanEdit::Name(name))
 }
 
 /// Sets the request of a transaction while it is unfinished, or the data that a span has of a request.
@@ -184,12 +184,12 @@ pub fn set_name<P: Drop, C: Callbacks>(
 /// `Stale`: it isn't held. `OutOfMemory`.
 pub fn set_request<P: Drop, C: Callbacks>(
     state: &mut State<P, C>,
-    name: TransactionOrSpanKey,
+    span: TransactionOrSpanKey,
     request: Request,
 ) -> Result<Out<()>, Refusal>
-    ensures { Does state.old state.new result (call.set_request name request) }
+    ensures { Does state.old state.new result (call.set_request span request) }
 {
-    change(state, name, SpanEdit::Request(request))
+    change(state, span, SpanEdit::Request(request))
 }
 
 /// Sets what created a transaction, also of one that is finished.
@@ -197,13 +197,13 @@ pub fn set_request<P: Drop, C: Callbacks>(
 /// `Stale`: it isn't held. `OutOfMemory`.
 pub fn set_origin<P: Drop, C: Callbacks>(
     state: &mut State<P, C>,
-    name: TransactionKey,
+    transaction: TransactionKey,
     origin: &str,
 ) -> Result<Out<()>, Refusal>
-    ensures { Does state.old state.new result (call.set_origin name origin.now) }
+    ensures { Does state.old state.new result (call.set_origin transaction origin.now) }
 {
-    let name = TransactionOrSpanKey::Transaction(name);
-    require_held(state, name)?;
+    let span = TransactionOrSpanKey::Transaction(transaction);
+    require_held(state, span)?;
     let origin = Text::new(state.alloc, origin)?;
-    change(state, name, SpanEdit::Origin(origin))
+    change(state, span, SpanEdit::Origin(origin))
 }

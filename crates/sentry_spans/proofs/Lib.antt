@@ -1,1 +1,3 @@
 pub mod SpanCalls
+pub mod EndLemmas
+pub mod SendLemmas

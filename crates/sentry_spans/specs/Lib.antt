@@ -1,2 +1,4 @@
 pub mod Sampling
 pub mod Spans
+pub mod Prepared
+pub mod Ends

@@ -26,11 +26,10 @@ use Rattle.sentry_base.specs.declared.protocol.transaction.Transaction.{Transact
 use Rattle.sentry_client_reports.specs.LossBooks.{LossEntry, engine_losses}
 use Rattle.sentry_options.specs.Meanings.{Meanings}
 use Rattle.sentry_options.specs.declared.clientoptions.ClientOptions.{ClientOptions}
-use Rattle.sentry_pipeline.specs.Pipeline.{sdk_info}
 use Rattle.sentry_scope.specs.Scopes.{fill_transaction}
 use Rattle.sentry_scope.specs.declared.scope.Scope.{Scope}
 use Rattle.sentry_sending.specs.Sending.{envelopes_from, after_sending}
-use Rattle.sentry_span_table.specs.SpanLists.{TransactionState, fate_of, with_finished}
+use Rattle.sentry_span_table.specs.SpanLists.{TransactionHistory, fate_of, with_span_finished}
 use Rattle.sentry_span_table.specs.SpanTables.{place_in, trace_sampled}
 use Rattle.sentry_span_table.specs.declared.table.records.SpanFate.{SpanFate}
 use Rattle.sentry_span_table.specs.declared.table.records.SpanFate.TheVariants.{Kept, Lost, Gone}
@@ -40,8 +39,8 @@ use Rattle.sentry_span_table.specs.declared.table.records.TracingState.{TracingS
 use Rattle.sentry_span_table.specs.declared.table.records.TracingState.TheVariants.{Enabled, Disabled}
 use Rattle.sentry_spans.specs.Sampling.{accepted_context, tracing_of}
 use Rattle.sentry_state.specs.Books.{pending_report, with_entry}
-use Rattle.sentry_state.specs.Outcomes.{Outcome, hub_at, plain_client_at, let_some, reply_with, require, require_some, plain_transaction_at, span_at, transaction_at}
-use Rattle.sentry_state.specs.SpanChanges.{finished_span, next_span_key, next_transaction_key, with_closed, with_new_span, with_new_transaction, with_span, with_transaction}
+use Rattle.sentry_state.specs.Outcomes.{Outcome, hub_at, stored_client_at, let_some, reply_with, require, require_some, stored_transaction_at, span_at, transaction_at}
+use Rattle.sentry_state.specs.SpanChanges.{finished_span, next_span_key, next_transaction_key, with_transaction_finished, with_new_span, with_new_transaction, with_span, with_transaction}
 use Rattle.sentry_state.specs.Worlds.{World, span_table}
 use Rattle.sentry_state.specs.declared.state.Client.{Client}
 use Rattle.sentry_trace.specs.Contexts.{new_context}
@@ -63,7 +62,7 @@ trace_context context = record {
 }
 
 -- a transaction without a client, which is finished from the start
-abbrev pub clientless_transaction : TransactionContext → TransactionState
+abbrev pub clientless_transaction : TransactionContext → TransactionHistory
 clientless_transaction context = record {
   tracing = Disabled context.sampled;
   context = trace_context context;
@@ -73,7 +72,7 @@ clientless_transaction context = record {
 }
 
 -- a transaction that starts from a context that the client accepts
-abbrev pub transaction_from : ClientKey → TracingState → ℕ → TransactionContext → List ℕ → ℕ → TransactionState
+abbrev pub transaction_from : ClientKey → TracingState → ℕ → TransactionContext → List ℕ → ℕ → TransactionHistory
 transaction_from key tracing max_spans context id start = record {
   tracing = tracing;
   context = trace_context context;
@@ -84,7 +83,7 @@ transaction_from key tracing max_spans context id start = record {
 
 -- a transaction of a client
 abbrev pub client_transaction : {C : Type 0} → (C → Meanings) → ClientKey → ClientOptions C → TransactionContext
-    → ℕ → Fresh → TransactionState
+    → ℕ → Fresh → TransactionHistory
 client_transaction meanings key options context start fresh =
     let accepted = accepted_context options.plain fresh.trace_id context in
     transaction_from key
@@ -93,7 +92,7 @@ client_transaction meanings key options context start fresh =
 
 -- a transaction under a client that was found, or without one
 abbrev pub started_transaction : {C : Type 0} → (C → Meanings) → Option ClientKey → Option (Client C)
-    → TransactionContext → ℕ → Fresh → TransactionState
+    → TransactionContext → ℕ → Fresh → TransactionHistory
 started_transaction meanings (Some key) (Some client) context start fresh =
     client_transaction meanings key client.options context start fresh
 started_transaction meanings name client context start fresh = clientless_transaction context
@@ -124,27 +123,27 @@ child_of place op description id start = record {
 -- ---- finishes
 
 -- a span that its transaction has no room for
-abbrev pub lost_span : LossEntry
-lost_span = engine_losses (loss_of category.Span reason.BufferOverflow 1)
+abbrev pub span_loss : LossEntry
+span_loss = engine_losses (loss_of category.Span reason.BufferOverflow 1)
 
 -- a transaction that was not sampled, with the spans that it kept
-abbrev pub lost_transaction : Transaction → LossEntry
-lost_transaction transaction = engine_losses (transaction_losses reason.SampleRate transaction)
+abbrev pub transaction_loss : Transaction → LossEntry
+transaction_loss transaction = engine_losses (transaction_losses reason.SampleRate transaction)
 
 -- the transaction as it is sent: its end, its place in the trace, and the spans that it kept; what the scope sets; and
 -- what the client says of itself
-abbrev pub sent_transaction : {P C : Type 0} → (C → Meanings) → ClientOptions C → Scope P → TraceContext → List Span → ℕ
-    → Transaction → Transaction
-sent_transaction meanings options scope context spans moment transaction =
+abbrev pub sent_transaction : {P C : Type 0} → Client C → Scope P → TraceContext → List Span → ℕ → Transaction
+    → Transaction
+sent_transaction client scope context spans moment transaction =
     record (fill_transaction scope (record transaction {
       timestamp = Some moment;
       contexts = put transaction.contexts (codes "trace") (context_of.Trace context);
       spans = spans;
     })) {
-      release = options.plain.release;
-      environment = options.plain.environment;
-      sdk = Some (sdk_info (meanings options.callbacks));
-      server_name = options.plain.server_name;
+      release = client.options.plain.release;
+      environment = client.options.plain.environment;
+      sdk = Some client.sdk;
+      server_name = client.options.plain.server_name;
     }
 
 -- the envelope of a transaction that was sampled at a rate
@@ -176,19 +175,19 @@ module _ {P C : Type 0} where
 
   -- the world in which a client lost something, if it is held
   abbrev pub with_client_loss : ClientKey → LossEntry → World P C → World P C
-  with_client_loss key entry world = with_loss_of (plain_client_at world key) entry world
+  with_client_loss key entry world = with_loss_of (stored_client_at world key) entry world
 
   -- the world in which this became of a span: one that is lost counts at the client
   abbrev pub with_fate : SpanFate → World P C → World P C
   with_fate Kept world = world
-  with_fate (Lost client) world = with_client_loss client lost_span world
+  with_fate (Lost client) world = with_client_loss client span_loss world
   with_fate Gone world = world
 
   -- the world in which a span finished in a transaction, if that is held
-  abbrev pub with_span_in : TransactionKey → Span → Option TransactionState → World P C → World P C
+  abbrev pub with_span_in : TransactionKey → Span → Option TransactionHistory → World P C → World P C
   with_span_in key span None world = world
   with_span_in key span (Some state) world =
-      with_fate (fate_of state) (with_transaction key.number (with_finished span state) world)
+      with_fate (fate_of state) (with_transaction key.number (with_span_finished span state) world)
 
   -- an envelope of a client is sent with a report, if its slot is occupied
   abbrev pub send_envelope : ClientKey → Client C → Option ClientReport → Envelope → World P C
@@ -213,7 +212,7 @@ module _ {P C : Type 0} where
       require Full world (is_transaction_number_left world)
       (reply_with (next_transaction_key world) [] (with_new_transaction
       (started_transaction meanings hub.stack.top.client
-      (option_and_then (plain_client_at world) hub.stack.top.client) context start fresh) world)))
+      (option_and_then (stored_client_at world) hub.stack.top.client) context start fresh) world)))
 
   -- the same, at the moment of the call
   abbrev pub start_transaction : (C → Meanings) → HubKey → TransactionContext → Fresh → World P C
@@ -252,21 +251,19 @@ module _ {P C : Type 0} where
 
   -- a transaction finishes at a moment, under the top scope of a hub: one that was sampled is sent, one that was not is
   -- lost, and one that is finished already stays as it is
-  unfoldable pub finish_transaction : (C → Meanings) → TransactionKey → HubKey → ℕ → World P C
-      → Outcome P C (Unit {0})
-  finish_transaction meanings key hub_key moment world =
-      require_some Stale world (plain_transaction_at world key) (λ held.
+  unfoldable pub finish_transaction : TransactionKey → HubKey → ℕ → World P C → Outcome P C (Unit {0})
+  finish_transaction key hub_key moment world =
+      require_some Stale world (stored_transaction_at world key) (λ held.
       require_some Stale world (hub_at world hub_key) (λ hub.
       let_some held.unfinished (reply_with tt [] world) (λ unfinished.
       by_tracing held.tracing
-      (reply_with tt [] (with_closed key world))
+      (reply_with tt [] (with_transaction_finished key world))
       (reply_with tt []
-      (with_client_loss unfinished.client (lost_transaction (record unfinished.transaction { spans = held.spans }))
-      (with_closed key world)))
+      (with_client_loss unfinished.client (transaction_loss (record unfinished.transaction { spans = held.spans }))
+      (with_transaction_finished key world)))
       (λ rate.
-      let_some (plain_client_at world unfinished.client) (reply_with tt [] (with_closed key world)) (λ client.
+      let_some (stored_client_at world unfinished.client) (reply_with tt [] (with_transaction_finished key world)) (λ client.
       send_envelope unfinished.client client (pending_report world client.label)
       (transaction_envelope client.options held.context rate
-      (sent_transaction meanings client.options hub.stack.top.scope held.context held.spans moment
-      unfinished.transaction))
-      (with_closed key world))))))
+      (sent_transaction client hub.stack.top.scope held.context held.spans moment unfinished.transaction))
+      (with_transaction_finished key world))))))

@@ -1,31 +1,37 @@
 //! How transactions and spans finish.
-ghost use Rattle.std.specs.Prelude.{◌≡◌, [], ◌∷◌, IfOk, OnOk, OnErr, Some, true, is_some, codes};
+ghost use Rattle.std.specs.Prelude.{◌≡◌, ◌<◌, [], ◌∷◌, List, IfOk, OnOk, OnErr, Some, true, is_some, codes, vec_len, vec_capacity};
 ghost use Rattle.sentry_plain.specs.Texts.{put};
+ghost use Rattle.sentry_base.specs.Envelopes.{with_report};
+ghost use Rattle.sentry_base.specs.declared.protocol.span.Span.{Span};
+ghost use Rattle.sentry_base.specs.declared.protocol.transaction.Transaction.{Transaction};
+ghost use Rattle.sentry_sending.specs.Sending.{for_client};
+ghost use Rattle.sentry_spans.specs.Prepared.{HasRoom, prepared_envelope};
+ghost use Rattle.sentry_state.specs.Books.{pending_report};
 ghost use Rattle.sentry_base.specs.declared.protocol.context.Context.TheVariants as context_of;
 ghost use Rattle.sentry_client_reports.specs.LossBooks.{engine_losses};
-ghost use Rattle.sentry_span_table.specs.SpanLists.{TransactionState, fate_of};
+ghost use Rattle.sentry_span_table.specs.SpanLists.{TransactionHistory, fate_of};
 ghost use Rattle.sentry_span_table.specs.SpanTables.{span_in, transaction_in};
 ghost use Rattle.sentry_span_table.specs.declared.table.records.SpanFate.TheVariants.{Kept};
 ghost use Rattle.sentry_span_table.specs.declared.table.records.SpanRecord.{SpanRecord};
-ghost use Rattle.sentry_spans.specs.Spans.{lost_span, lost_transaction, sent_transaction, transaction_envelope, with_client_loss, with_span_in};
+ghost use Rattle.sentry_spans.specs.Spans.{span_loss, transaction_loss, sent_transaction, transaction_envelope, with_client_loss, with_span_in};
 ghost use Rattle.std.specs.Option.{option_map};
-ghost use Rattle.sentry_pipeline.specs.Pipeline.{sdk_info};
 ghost use Rattle.sentry_spans.specs.Spans as call;
 ghost use Rattle.sentry_state.specs.Outcomes.{Does, span_at, transaction_at};
 ghost use Rattle.sentry_state.specs.SpanChanges.{finished_span, with_span};
 ghost use Rattle.sentry_state.specs.Worlds.{World, Stands};
 
+use crate::prepared::Prepared;
 use sentry_base::protocol::{
-    Category, ClientKey, Context, DynamicSamplingContext, Envelope, EnvelopeItem, HubKey, Losses,
-    Reason, Refusal, SampleRate, Span, SpanKey, TraceContext, Transaction, TransactionKey,
+    Category, ClientKey, ClientReport, Context, DynamicSamplingContext, Envelope, EnvelopeHeaders,
+    EnvelopeItem, HubKey, Losses, Reason, Refusal, SampleRate, Span, SpanKey, TraceContext,
+    Transaction, TransactionKey, Uuid,
 };
 use sentry_options::clientoptions::{Callbacks, ClientOptions};
-use sentry_pipeline::pipeline::sdk_info;
-use sentry_plain::{Items, Text};
+use sentry_plain::{Boxed, Items, Text};
 use sentry_scope::scope::Scope;
-use sentry_sending::sending::{envelopes_from, mark_sent};
+use sentry_sending::sending::mark_sent;
 use sentry_span_table::table::{SpanFate, TracingState, TransactionRecord};
-use sentry_state::state::{Out, State};
+use sentry_state::state::{Client, Out, Sent, State};
 use std::alloc::{AllocError, Global};
 
 // Records what a client lost, if it is held.
@@ -47,7 +53,7 @@ fn record_client_loss<P: Drop, C: Callbacks>(
 // Records that a client lost a span, if it is held.
 fn lose_span<P: Drop, C: Callbacks>(state: &mut State<P, C>, client: ClientKey)
     ensures { (world : World P C) → Stands state.old world →
-        Stands state.new (with_client_loss client lost_span world) }
+        Stands state.new (with_client_loss client span_loss world) }
 {
     let losses = Losses::of(Category::Span, Reason::BufferOverflow, 1);
     record_client_loss(state, client, &losses);
@@ -71,7 +77,7 @@ fn keep_span<P: Drop, C: Callbacks>(
 ) -> Result<(), AllocError>
     requires span { is_some (span_in state.old.spans key) ≡ true }
     requires transaction { is_some (transaction_in state.old.spans transaction) ≡ true }
-    ensures in_world { OnOk result ((world : World P C) (held : SpanRecord) (kept : TransactionState) →
+    ensures in_world { OnOk result ((world : World P C) (held : SpanRecord) (kept : TransactionHistory) →
         Stands state.old world → span_at world key ≡ Some held → transaction_at world transaction ≡ Some kept →
         fate_of kept ≡ Kept → Stands state.new (with_span_in transaction (finished_span moment held).span (Some kept)
         (with_span key.number (finished_span moment held) world))) }
@@ -147,7 +153,7 @@ pub fn finish_span<P: Drop, C: Callbacks>(
 // What is lost with a transaction that was not sampled, and the spans that it kept.
 fn unsampled_losses(held: &TransactionRecord, transaction: &Transaction) -> Losses
     ensures { engine_losses result.quantities
-        ≡ lost_transaction (record transaction.now { spans = held.now.spans }) }
+        ≡ transaction_loss (record transaction.now { spans = held.now.spans }) }
 {
     let mut losses = Losses::of(Category::Transaction, Reason::SampleRate, 1);
     losses.add(&Losses::of(Category::Span, Reason::SampleRate, 1));
@@ -156,7 +162,7 @@ fn unsampled_losses(held: &TransactionRecord, transaction: &Transaction) -> Loss
     losses
 }
 
-// Gives a transaction its end, its place in the trace and its spans.
+// Gives a transaction its end and its place in the trace.
 fn end_transaction(
     alloc: Global,
     held: &TransactionRecord,
@@ -166,76 +172,69 @@ fn end_transaction(
     ensures { OnOk result (transaction.new ≡ record transaction.old {
       timestamp = Some moment;
       contexts = put transaction.old.contexts (codes "trace") (context_of.Trace held.now.context);
-      spans = held.now.spans;
     }) }
 {
     transaction.timestamp = Some(moment);
     let key = Text::new(alloc, "trace")?;
     let context = Context::Trace(held.context.clone()?);
     transaction.contexts.insert(key, context)?;
-    transaction.spans = held.spans.clone()?;
     Ok(())
 }
 
 // Says of a transaction what its client says of itself.
-fn describe_client<C: Callbacks>(
-    alloc: Global,
-    options: &ClientOptions<C>,
-    transaction: &mut Transaction,
-) -> Result<(), AllocError>
+fn describe_client<C>(client: &Client<C>, transaction: &mut Transaction) -> Result<(), AllocError>
     ensures { OnOk result (transaction.new ≡ record transaction.old {
-      release = options.now.plain.release;
-      environment = options.now.plain.environment;
-      sdk = Some (sdk_info (C.meanings options.now.callbacks));
-      server_name = options.now.plain.server_name;
+      release = client.now.options.plain.release;
+      environment = client.now.options.plain.environment;
+      sdk = Some client.now.sdk;
+      server_name = client.now.options.plain.server_name;
     }) }
 {
-    transaction.release = options.plain.release.clone()?;
-    transaction.environment = options.plain.environment.clone()?;
-    transaction.sdk = Some(sdk_info(alloc, &options.callbacks)?);
-    transaction.server_name = options.plain.server_name.clone()?;
+    let options = &client.options.get().plain;
+    transaction.release = options.release.clone()?;
+    transaction.environment = options.environment.clone()?;
+    transaction.sdk = Some(client.sdk.clone()?);
+    transaction.server_name = options.server_name.clone()?;
     Ok(())
 }
 
-// A transaction as it is sent.
-fn sent_transaction<P: Drop, C: Callbacks>(
+// A transaction as it is sent, once it has its spans.
+fn sent_transaction<P: Drop, C>(
     alloc: Global,
-    options: &ClientOptions<C>,
+    client: &Client<C>,
     scope: &Scope<P>,
     held: &TransactionRecord,
     moment: u64,
     transaction: &Transaction,
-) -> Result<Transaction, AllocError>
-    ensures { IfOk result (λ sent. sent ≡ sent_transaction C.meanings options.now scope.now held.now.context
-        held.now.spans moment transaction.now) }
+) -> Result<Boxed<Transaction>, AllocError>
+    ensures { IfOk result (λ sent. (spans : List Span) → record sent { spans = spans }
+        ≡ sent_transaction client.now scope.now held.now.context spans moment transaction.now) }
 {
     let mut sent = transaction.clone()?;
     end_transaction(alloc, held, moment, &mut sent)?;
     scope.apply_to_transaction(&mut sent)?;
-    describe_client(alloc, options, &mut sent)?;
-    Ok(sent)
+    describe_client(client, &mut sent)?;
+    let boxed = Boxed::new(alloc, sent)?;
+    Ok(boxed)
 }
 
-// The envelope of a transaction that was sampled at a rate.
-fn transaction_envelope<C: Callbacks>(
+// How the trace of a transaction was sampled, at a rate.
+fn sampling<C: Callbacks>(
     alloc: Global,
     options: &ClientOptions<C>,
     context: &TraceContext,
     rate: SampleRate,
-    transaction: Transaction,
-) -> Result<Envelope, AllocError>
-    ensures { IfOk result (λ envelope. envelope ≡ transaction_envelope options.now context.now rate transaction) }
+) -> Result<DynamicSamplingContext, AllocError>
+    ensures { IfOk result (λ trace. (transaction : Transaction) →
+        Some trace ≡ (transaction_envelope options.now context.now rate transaction).header.trace) }
 {
     let public_key = public_key_of(alloc, options)?;
-    let mut envelope = Envelope::new(alloc);
-    envelope.header.trace = Some(DynamicSamplingContext {
+    Ok(DynamicSamplingContext {
         trace_id: Some(context.trace_id),
         sample_rate: Some(rate),
         sampled: Some(true),
         public_key,
-    });
-    envelope.add_item(EnvelopeItem::Transaction(transaction))?;
-    Ok(envelope)
+    })
 }
 
 // The public key of a client's DSN, if it has one.
@@ -254,25 +253,96 @@ fn public_key_of<C: Callbacks>(
     }
 }
 
-// The envelope of a transaction that finishes at a moment under a scope, sampled at a rate.
-fn finished_envelope<P: Drop, C: Callbacks>(
-    alloc: Global,
-    options: &ClientOptions<C>,
+// What is made of a transaction of a client that finishes at a moment under a scope, sampled at a rate, before it is
+// sent.
+fn prepare<P: Drop, C: Callbacks>(
+    state: &State<P, C>,
+    client: &Client<C>,
     scope: &Scope<P>,
     held: &TransactionRecord,
     transaction: &Transaction,
     rate: SampleRate,
     moment: u64,
-) -> Result<Items<Envelope>, AllocError>
-    ensures { IfOk result (λ envelopes. envelopes ≡ transaction_envelope options.now held.now.context rate
-        (sent_transaction C.meanings options.now scope.now held.now.context held.now.spans moment transaction.now)
-        ∷ []) }
+) -> Result<Prepared, AllocError>
+    ensures room { IfOk result HasRoom }
+    ensures report { IfOk result (λ made. (world : World P C) → Stands state.now world →
+        made.report ≡ pending_report world client.now.label) }
+    ensures envelope { IfOk result (λ made. (spans : List Span) → prepared_envelope made spans
+        ≡ transaction_envelope client.now.options held.now.context rate
+        (sent_transaction client.now scope.now held.now.context spans moment transaction.now)) }
 {
-    let sent = sent_transaction(alloc, options, scope, held, moment, transaction)?;
-    let envelope = transaction_envelope(alloc, options, &held.context, rate, sent)?;
-    let mut envelopes = Items::new(alloc);
-    envelopes.push(envelope)?;
-    Ok(envelopes)
+    let alloc = state.alloc;
+    let options = client.options.get();
+    let trace = sampling(alloc, options, &held.context, rate)?;
+    let report = state.pending_report(client.label)?;
+    let sent = Vec::with_capacity(alloc, 1)?;
+    let items = Vec::with_capacity(alloc, 2)?;
+    let transaction = sent_transaction(alloc, client, scope, held, moment, transaction)?;
+    Ok(Prepared {
+        transaction,
+        trace,
+        report,
+        items,
+        sent,
+    })
+}
+
+// The envelope of these items.
+fn envelope_of(event_id: Uuid, trace: DynamicSamplingContext, items: Vec<EnvelopeItem>) -> Envelope
+    ensures { result ≡ record {
+      header = record { event_id = Some event_id; trace = Some trace };
+      items = items.items;
+    } }
+{
+    Envelope {
+        header: EnvelopeHeaders {
+            event_id: Some(event_id),
+            trace: Some(trace),
+        },
+        items: Items::from_vec(items),
+    }
+}
+
+// The same with a report as its last item, if there is one, for which there is room.
+fn reported_envelope(
+    event_id: Uuid,
+    trace: DynamicSamplingContext,
+    mut items: Vec<EnvelopeItem>,
+    report: Option<ClientReport>,
+) -> Envelope
+    requires { vec_len items < vec_capacity items }
+    ensures { result ≡ with_report report (record {
+      header = record { event_id = Some event_id; trace = Some trace };
+      items = items.items;
+    }) }
+{
+    match report {
+        None => envelope_of(event_id, trace, items),
+        Some(report) => {
+            items.push_reserved(EnvelopeItem::ClientReport(report));
+            envelope_of(event_id, trace, items)
+        }
+    }
+}
+
+// What leaves a client that sends a transaction with these spans. It takes no memory.
+fn send_prepared(prepared: Prepared, key: ClientKey, spans: Items<Span>) -> Sent
+    requires { HasRoom prepared }
+    ensures { result ≡ for_client key prepared.report (prepared_envelope prepared spans ∷ []) }
+{
+    let Prepared {
+        mut transaction,
+        trace,
+        report,
+        mut items,
+        mut sent,
+    } = prepared;
+    transaction.get_mut().spans = spans;
+    let event_id = transaction.get().event_id;
+    items.push_reserved(EnvelopeItem::Transaction(transaction));
+    let envelope = reported_envelope(event_id, trace, items, report);
+    sent.push_reserved((key, envelope));
+    Items::from_vec(sent)
 }
 
 /// Finishes a transaction at a moment, under the top scope of a hub. One that was sampled is sent by its client, with
@@ -286,7 +356,7 @@ pub fn finish_transaction<P: Drop, C: Callbacks>(
     hub: HubKey,
     moment: u64,
 ) -> Result<Out<()>, Refusal>
-    ensures { Does state.old state.new result (call.finish_transaction C.meanings key hub moment) }
+    ensures { Does state.old state.new result (call.finish_transaction key hub moment) }
 {
     let Some(held) = state.transaction_at(key) else {
         return Err(Refusal::Stale);
@@ -301,12 +371,12 @@ pub fn finish_transaction<P: Drop, C: Callbacks>(
     let transaction = &unfinished.transaction;
     match held.tracing {
         TracingState::Disabled(_) => {
-            state.close_transaction(key);
+            drop(state.close_transaction(key));
             Ok(state.out(()))
         }
         TracingState::Enabled { sampled: false, .. } => {
             let losses = unsampled_losses(held, transaction);
-            state.close_transaction(key);
+            drop(state.close_transaction(key));
             record_client_loss(state, name, &losses);
             Ok(state.out(()))
         }
@@ -315,23 +385,18 @@ pub fn finish_transaction<P: Drop, C: Callbacks>(
             rate,
         } => {
             let Some(client) = state.client_at(name) else {
-                state.close_transaction(key);
+                drop(state.close_transaction(key));
                 return Ok(state.out(()));
             };
             let label = client.label;
-            let options = client.options.get();
+            if !client.occupied {
+                drop(state.close_transaction(key));
+                return Ok(state.out(()));
+            }
             let scope = &under.stack.top.scope;
-            let envelopes = finished_envelope(
-                state.alloc,
-                options,
-                scope,
-                held,
-                transaction,
-                rate,
-                moment,
-            )?;
-            let sent = envelopes_from(state, client.occupied, name, label, envelopes)?;
-            state.close_transaction(key);
+            let prepared = prepare(state, client, scope, held, transaction, rate, moment)?;
+            let spans = state.close_transaction(key);
+            let sent = send_prepared(prepared, name, spans);
             mark_sent(state, label, &sent);
             Ok(Out { reply: (), sent })
         }

@@ -1,6 +1,8 @@
-//! How transactions and spans start and finish, as functions over a state, and which traces are sampled.
+//! How transactions and spans start, finish and end, as functions over a state, and which traces are sampled.
 #![tactic(auto)]
 
+pub mod ends;
 pub mod finishes;
+mod prepared;
 pub mod sampling;
 pub mod starts;

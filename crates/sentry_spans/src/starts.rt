@@ -3,8 +3,8 @@ ghost use Rattle.std.specs.Prelude.{◌≡◌, ◌<◌, ◌-◌, ◌^◌, IfOk};
 ghost use Rattle.std.specs.Bool.{OnTrue};
 ghost use Rattle.std.specs.Option.{option_and_then};
 ghost use Rattle.sentry_base.specs.Spans.{new_transaction};
-ghost use Rattle.sentry_span_table.specs.SpanLists.{plain_transaction};
-ghost use Rattle.sentry_state.specs.Outcomes.{Does, plain_client_at};
+ghost use Rattle.sentry_span_table.specs.SpanLists.{stored_transaction};
+ghost use Rattle.sentry_state.specs.Outcomes.{Does, stored_client_at};
 ghost use Rattle.sentry_state.specs.Worlds.{World, Stands};
 ghost use Rattle.sentry_spans.specs.Spans.{trace_context, clientless_transaction, client_transaction, started_transaction};
 ghost use Rattle.sentry_spans.specs.Spans.{child_of, context_from, description_of, is_transaction_number_left, is_span_number_left};
@@ -16,7 +16,7 @@ use sentry_base::protocol::{
     TransactionKey, TransactionOrSpanKey,
 };
 use sentry_options::clientoptions::{Callbacks, ClientOptions};
-use sentry_plain::{Items, Text, ValueMap};
+use sentry_plain::{Boxed, Items, Text, ValueMap};
 use sentry_span_table::table::{
     SpanPlace, SpanRecord, TracingState, TransactionRecord, Unfinished,
 };
@@ -46,7 +46,7 @@ fn clientless_transaction(
     alloc: Global,
     context: &TransactionContext,
 ) -> Result<TransactionRecord, AllocError>
-    ensures { IfOk result (λ made. made ≡ plain_transaction (clientless_transaction context.now)) }
+    ensures { IfOk result (λ made. made ≡ stored_transaction (clientless_transaction context.now)) }
 {
     let place = trace_context(alloc, context)?;
     Ok(TransactionRecord {
@@ -88,7 +88,7 @@ fn client_transaction<C: Callbacks>(
     start: u64,
     fresh: Fresh,
 ) -> Result<TransactionRecord, AllocError>
-    ensures { IfOk result (λ made. made ≡ plain_transaction
+    ensures { IfOk result (λ made. made ≡ stored_transaction
         (client_transaction C.meanings client options.now context.old start fresh)) }
 {
     accept_context(&options.plain, fresh.trace_id, context);
@@ -112,8 +112,8 @@ fn started_transaction<P: Drop, C: Callbacks>(
     start: u64,
     fresh: Fresh,
 ) -> Result<TransactionRecord, AllocError>
-    ensures { IfOk result (λ made. (world : World P C) → Stands state.now world → made ≡ plain_transaction
-        (started_transaction C.meanings client (option_and_then (plain_client_at world) client)
+    ensures { IfOk result (λ made. (world : World P C) → Stands state.now world → made ≡ stored_transaction
+        (started_transaction C.meanings client (option_and_then (stored_client_at world) client)
         context.old start fresh)) }
 {
     let Some(key) = client else {
@@ -167,6 +167,7 @@ pub fn start_transaction_with_timestamp<P: Drop, C: Callbacks>(
         return Err(Refusal::Full);
     }
     let made = started_transaction(state, held.stack.top.client, context, start, fresh)?;
+    let made = Boxed::new(state.alloc, made)?;
     let key = state.hold_transaction(made)?;
     Ok(state.out(key))
 }
@@ -244,6 +245,7 @@ pub fn start_child_with_details<P: Drop, C: Callbacks>(
         return Err(Refusal::Full);
     }
     let child = child_of(state.alloc, place, op, description, id, start)?;
+    let child = Boxed::new(state.alloc, child)?;
     let key = state.hold_span(child)?;
     Ok(state.out(key))
 }

@@ -23,10 +23,10 @@ use Rattle.sentry_state.specs.Clients.{has_session_of}
 use Rattle.sentry_state.specs.Changes.{with_new_session, with_client_entry, with_session, with_log_entry, with_metric_entry}
 use Rattle.sentry_hub_table.specs.declared.hub.Hub.{Hub}
 use Rattle.sentry_sessions.specs.SessionQueues.{QueueEntry, Waiting, queue_of}
-use Rattle.sentry_state.specs.Outcomes.{client_at, plain_client_at}
+use Rattle.sentry_state.specs.Outcomes.{client_at, stored_client_at}
 use Rattle.sentry_state.specs.declared.state.Client.{Client}
 use Rattle.sentry_state.specs.declared.state.State.{State}
-use Rattle.sentry_state.specs.Worlds.{World, ClientState, SessionState, plain_client, plain_session, map_values, Stands}
+use Rattle.sentry_state.specs.Worlds.{World, ClientHistory, SessionHistory, stored_client, stored_session, map_values, Stands}
 use Rattle.sentry_base.specs.declared.protocol.log.Log.{Log}
 use Rattle.sentry_base.specs.declared.protocol.metric.Metric.{Metric}
 use Rattle.sentry_batches.specs.Batches.{BatchEntry, Queue}
@@ -77,8 +77,8 @@ module _ {X Y : Type 0} (f : X → Y) where
 
 module _ {C : Type 0} where
   -- a label is that of a client that the engine keeps where it is that of a client of the world
-  client_of_label_in_world : (test : Label → Bool) (clients : List (ℕ × ClientState C))
-      → list_any (λ entry. test entry.1.label) (map_values plain_client clients) ≡ list_any (λ entry. test entry.1.label) clients
+  client_of_label_in_world : (test : Label → Bool) (clients : List (ℕ × ClientHistory C))
+      → list_any (λ entry. test entry.1.label) (map_values stored_client clients) ≡ list_any (λ entry. test entry.1.label) clients
   client_of_label_in_world test [] = refl
   client_of_label_in_world test (c ∷ cs) = ap (λ b. test c.1.label || b) (client_of_label_in_world test cs)
 
@@ -95,14 +95,14 @@ no_report (Some history) e = cc
 module _ {P C : Type 0} where
   -- the client that the engine finds, in a world that it stands for
   pub found_in_world : (engine : State P C) (world : World P C) → Stands engine world → (n : ℕ)
-      → value_at engine.clients n ≡ option_map plain_client (value_at world.clients n)
-  found_in_world engine world s n = ap (λ cs. value_at cs n) s.clients ∙ value_at-map_values plain_client world.clients n
+      → value_at engine.clients n ≡ option_map stored_client (value_at world.clients n)
+  found_in_world engine world s n = ap (λ cs. value_at cs n) s.clients ∙ value_at-map_values stored_client world.clients n
 
   -- an engine whose client is written stands for the world whose client is written
-  pub stored_in_world : (engine : State P C) (world : World P C) → Stands engine world → (n : ℕ) (client : ClientState C)
-      → put engine.clients n (plain_client client) ≡ map_values plain_client (put world.clients n client)
+  pub stored_in_world : (engine : State P C) (world : World P C) → Stands engine world → (n : ℕ) (client : ClientHistory C)
+      → put engine.clients n (stored_client client) ≡ map_values stored_client (put world.clients n client)
   stored_in_world engine world s n client =
-      ap (λ cs. put cs n (plain_client client)) s.clients ∙ sym (put-map_values plain_client world.clients n client)
+      ap (λ cs. put cs n (stored_client client)) s.clients ∙ sym (put-map_values stored_client world.clients n client)
 
   -- the book that the engine finds
   pub book_in_world : (engine : State P C) (world : World P C) → Stands engine world → (n : ℕ)
@@ -243,101 +243,115 @@ module _ {P C : Type 0} where
       ∙ ap (λ books. replace_at books n (book_of (entry ∷ history))) s.books
       ∙ sym (replace_at-map_values book_of world.books n (entry ∷ history))
 
+module _ {P C : Type 0} where
+  -- an engine stands for the world with an entry that leaves each book as it is
+  pub nothing_absorbed : (engine : State P C) (world : World P C) → Stands engine world → (n : ℕ) (entry : LossEntry)
+      → ((history : List LossEntry) → book_of (entry ∷ history) ≡ book_of history)
+      → engine.books ≡ map_values book_of (replace_at world.books n (entry ∷ unwrap_or (value_at world.books n) []))
+  nothing_absorbed engine world s n entry same = by_book (value_at engine.books n) refl
+    where
+      by_book : (o : Option Book) → value_at engine.books n ≡ o
+          → engine.books ≡ map_values book_of (replace_at world.books n (entry ∷ unwrap_or (value_at world.books n) []))
+      by_book None e = entry_absent engine world s n entry e
+      by_book (Some book) e =
+          sym (changed_same engine.books n book e)
+          ∙ entry_present engine world s n book book entry e (λ history is. is ∙ sym (same history))
+
 -- ---- sessions
 
 module _ {P C : Type 0} where
   -- the session that the engine finds
   pub session_in_world : (engine : State P C) (world : World P C) → Stands engine world → (n : ℕ)
-      → value_at engine.sessions n ≡ option_map plain_session (value_at world.sessions n)
+      → value_at engine.sessions n ≡ option_map stored_session (value_at world.sessions n)
   session_in_world engine world s n =
-      ap (λ sessions. value_at sessions n) s.sessions ∙ value_at-map_values plain_session world.sessions n
+      ap (λ sessions. value_at sessions n) s.sessions ∙ value_at-map_values stored_session world.sessions n
 
   -- a session stands under a number in the engine where it does in the world
   pub has_session_in_world : (engine : State P C) (world : World P C) → Stands engine world → (n : ℕ)
       → is_some (value_at engine.sessions n) ≡ is_some (value_at world.sessions n)
   has_session_in_world engine world s n =
-      ap is_some (session_in_world engine world s n) ∙ is_some-option_map plain_session (value_at world.sessions n)
+      ap is_some (session_in_world engine world s n) ∙ is_some-option_map stored_session (value_at world.sessions n)
 
 -- ---- clients whose queues change
 
 module _ {C : Type 0} where
-  in_table-at : (b : Bool) (found : Option (ClientState C)) (kept : Client C) → Some kept ≡ option_map plain_client (cond b found None)
-      → (client : ClientState C) × (found ≡ Some client) × (cond b found None ≡ Some client) × (kept ≡ plain_client client)
-  in_table-at true (Some client) kept e = let is : kept ≡ plain_client client = cc in (client, refl, refl, is)
+  in_table-at : (b : Bool) (found : Option (ClientHistory C)) (kept : Client C) → Some kept ≡ option_map stored_client (cond b found None)
+      → (client : ClientHistory C) × (found ≡ Some client) × (cond b found None ≡ Some client) × (kept ≡ stored_client client)
+  in_table-at true (Some client) kept e = let is : kept ≡ stored_client client = cc in (client, refl, refl, is)
   in_table-at true None kept e = absurd cc
   in_table-at false found kept e = absurd cc
 
 module _ {P C : Type 0} where
   -- an engine whose client is replaced stands for the world whose client is replaced
-  pub client_replaced : (engine : State P C) (world : World P C) → Stands engine world → (n : ℕ) (client : ClientState C) (kept : Client C)
-      → kept ≡ plain_client client → replace_at engine.clients n kept ≡ map_values plain_client (replace_at world.clients n client)
+  pub client_replaced : (engine : State P C) (world : World P C) → Stands engine world → (n : ℕ) (client : ClientHistory C) (kept : Client C)
+      → kept ≡ stored_client client → replace_at engine.clients n kept ≡ map_values stored_client (replace_at world.clients n client)
   client_replaced engine world s n client kept is =
       ap (replace_at engine.clients n) is
-      ∙ (ap (λ clients. replace_at clients n (plain_client client)) s.clients ∙ sym (replace_at-map_values plain_client world.clients n client))
+      ∙ (ap (λ clients. replace_at clients n (stored_client client)) s.clients ∙ sym (replace_at-map_values stored_client world.clients n client))
 
   -- the client of the world of which the engine found what it keeps
   pub client_state : (engine : State P C) (world : World P C) → Stands engine world → (key : ClientKey) (kept : Client C)
-      → Some kept ≡ plain_client_at world key
-      → (client : ClientState C) × (value_at engine.clients key.number ≡ Some (plain_client client))
-      × (client_at world key ≡ Some client) × (kept ≡ plain_client client)
+      → Some kept ≡ stored_client_at world key
+      → (client : ClientHistory C) × (value_at engine.clients key.number ≡ Some (stored_client client))
+      × (client_at world key ≡ Some client) × (kept ≡ stored_client client)
   client_state engine world s key kept e =
       let found = in_table-at (key.tag == world.tag) (value_at world.clients key.number) kept e in
-      let there : value_at engine.clients key.number ≡ Some (plain_client found.0) =
+      let there : value_at engine.clients key.number ≡ Some (stored_client found.0) =
       ap (λ clients. value_at clients key.number) s.clients
-      ∙ (value_at-map_values plain_client world.clients key.number ∙ ap (option_map plain_client) found.1) in
+      ∙ (value_at-map_values stored_client world.clients key.number ∙ ap (option_map stored_client) found.1) in
       (found.0, there, found.2, found.3)
 
 module _ {C : Type 0} where
   -- what is kept of a client to whose queue of ended sessions something came
-  pub queue_changed : (client : ClientState C) (kept : Client C) (entry : QueueEntry) (queue : Waiting) → kept ≡ plain_client client
+  pub queue_changed : (client : ClientHistory C) (kept : Client C) (entry : QueueEntry) (queue : Waiting) → kept ≡ stored_client client
       → queue ≡ queue_of client.options.plain.session_mode (entry ∷ client.queues.sessions)
-      → record kept { queues = record kept.queues { sessions = queue } } ≡ plain_client (with_client_entry entry client)
+      → record kept { queues = record kept.queues { sessions = queue } } ≡ stored_client (with_client_entry entry client)
   queue_changed client kept entry queue is q = λ i. record (is i) { queues = record (is i).queues { sessions = q i } }
 
-no_session : (o : Option SessionState) → None ≡ option_map plain_session o → o ≡ None
+no_session : (o : Option SessionHistory) → None ≡ option_map stored_session o → o ≡ None
 no_session None e = refl
 no_session (Some session) e = absurd cc
 
 module _ {P C : Type 0} where
   -- an engine whose session is replaced stands for the world whose session is replaced
-  pub session_replaced : (engine : State P C) (world : World P C) → Stands engine world → (n : ℕ) (session : SessionState) (kept : Session)
-      → kept ≡ plain_session session → replace_at engine.sessions n kept ≡ map_values plain_session (replace_at world.sessions n session)
+  pub session_replaced : (engine : State P C) (world : World P C) → Stands engine world → (n : ℕ) (session : SessionHistory) (kept : Session)
+      → kept ≡ stored_session session → replace_at engine.sessions n kept ≡ map_values stored_session (replace_at world.sessions n session)
   session_replaced engine world s n session kept is =
       ap (replace_at engine.sessions n) is
-      ∙ (ap (λ sessions. replace_at sessions n (plain_session session)) s.sessions
-      ∙ sym (replace_at-map_values plain_session world.sessions n session))
+      ∙ (ap (λ sessions. replace_at sessions n (stored_session session)) s.sessions
+      ∙ sym (replace_at-map_values stored_session world.sessions n session))
 
   -- nothing is replaced where the engine has no session
-  pub session_absent : (engine : State P C) (world : World P C) → Stands engine world → (n : ℕ) (session : SessionState)
-      → None ≡ value_at engine.sessions n → engine.sessions ≡ map_values plain_session (replace_at world.sessions n session)
+  pub session_absent : (engine : State P C) (world : World P C) → Stands engine world → (n : ℕ) (session : SessionHistory)
+      → None ≡ value_at engine.sessions n → engine.sessions ≡ map_values stored_session (replace_at world.sessions n session)
   session_absent engine world s n session h =
       let none : value_at world.sessions n ≡ None = no_session (value_at world.sessions n) (h ∙ session_in_world engine world s n) in
-      s.sessions ∙ ap (map_values plain_session) (sym (replace_absent world.sessions n session none))
+      s.sessions ∙ ap (map_values stored_session) (sym (replace_absent world.sessions n session none))
 
 module _ {P C : Type 0} where
   -- what the engine found of a client of the world
   pub same_client : (engine : State P C) (world : World P C) → Stands engine world → (key : ClientKey) (kept : Client C)
-      → (client : ClientState C) → Some kept ≡ plain_client_at world key → client_at world key ≡ Some client
-      → (value_at engine.clients key.number ≡ Some (plain_client client)) × (kept ≡ plain_client client)
+      → (client : ClientHistory C) → Some kept ≡ stored_client_at world key → client_at world key ≡ Some client
+      → (value_at engine.clients key.number ≡ Some (stored_client client)) × (kept ≡ stored_client client)
   same_client engine world s key kept client e at =
       let found = client_state engine world s key kept e in
       let same : Some found.0 ≡ Some client = sym found.2 ∙ at in
       let is : found.0 ≡ client = cc in
-      (found.1 ∙ ap (λ state. Some (plain_client state)) is, found.3 ∙ ap plain_client is)
+      (found.1 ∙ ap (λ state. Some (stored_client state)) is, found.3 ∙ ap stored_client is)
 
 -- the session of the world of which the engine found what it keeps
-pub session_state : (o : Option SessionState) (kept : Session) → Some kept ≡ option_map plain_session o
-    → (session : SessionState) × (o ≡ Some session) × (kept ≡ plain_session session)
+pub session_state : (o : Option SessionHistory) (kept : Session) → Some kept ≡ option_map stored_session o
+    → (session : SessionHistory) × (o ≡ Some session) × (kept ≡ stored_session session)
 session_state None kept e = absurd cc
-session_state (Some session) kept e = let is : kept ≡ plain_session session = cc in (session, refl, is)
+session_state (Some session) kept e = let is : kept ≡ stored_session session = cc in (session, refl, is)
 
 module _ {P C : Type 0} where
   -- an engine with one more session stands for the world with it
   pub session_stored : (engine : State P C) (world : World P C) → Stands engine world → (start : SessionStart) (kept : Session)
-      → kept ≡ session_of start [] → put engine.sessions engine.next.session kept ≡ map_values plain_session (with_new_session start world).sessions
+      → kept ≡ session_of start [] → put engine.sessions engine.next.session kept ≡ map_values stored_session (with_new_session start world).sessions
   session_stored engine world s start kept is =
       (λ i. put (s.sessions i) (s.next i).session (is i))
-      ∙ sym (put-map_values plain_session world.sessions world.next.session (record { start = start; history = [] }))
+      ∙ sym (put-map_values stored_session world.sessions world.next.session (record { start = start; history = [] }))
 
 popped_same-by : {P : Type 0} (below : List (StackLayer P)) (a b : Stack P) → nat_lt 0 (length below) ≡ true → stack_of_any below a ≡ stack_of_any below b
 popped_same-by [] a b h = absurd cc
@@ -348,15 +362,9 @@ pub popped_same : {P : Type 0} (hub : Hub P) → nat_lt 0 (depth hub.stack) ≡ 
 unfolding pop
 popped_same hub h = popped_same-by hub.stack.below _ _ h
 
--- the start of a session that was made of one
-pub session_start : (o : Option SessionStart) (kept : Session) → Some kept ≡ option_map (λ start. session_of start []) o
-    → (start : SessionStart) × (o ≡ Some start) × (kept ≡ session_of start [])
-session_start None kept e = absurd cc
-session_start (Some start) kept e = let is : kept ≡ session_of start [] = cc in (start, refl, is)
-
 module _ (key : ClientKey) where
-  session_of_client : (sessions : List (ℕ × SessionState))
-      → list_any (λ (entry : ℕ × Session). is_client key (Some entry.1.start.client)) (map_values plain_session sessions)
+  session_of_client : (sessions : List (ℕ × SessionHistory))
+      → list_any (λ (entry : ℕ × Session). is_client key (Some entry.1.start.client)) (map_values stored_session sessions)
       ≡ has_session_of key sessions
   unfolding session_of
   session_of_client [] = refl
@@ -370,13 +378,13 @@ module _ (key : ClientKey) where
 
 module _ {C : Type 0} where
   -- what is kept of a client to whose logs something came
-  pub logs_changed : (client : ClientState C) (kept : Client C) (entry : BatchEntry Log) (queue : Queue Log) → kept ≡ plain_client client
+  pub logs_changed : (client : ClientHistory C) (kept : Client C) (entry : BatchEntry Log) (queue : Queue Log) → kept ≡ stored_client client
       → queue ≡ batch.queue_of client.options.plain.max_batch_items (entry ∷ client.queues.logs) client.queues.log_tick
-      → record kept { queues = record kept.queues { logs = queue } } ≡ plain_client (with_log_entry entry client)
+      → record kept { queues = record kept.queues { logs = queue } } ≡ stored_client (with_log_entry entry client)
   logs_changed client kept entry queue is q = λ i. record (is i) { queues = record (is i).queues { logs = q i } }
 
   -- the same of metrics
-  pub metrics_changed : (client : ClientState C) (kept : Client C) (entry : BatchEntry Metric) (queue : Queue Metric) → kept ≡ plain_client client
+  pub metrics_changed : (client : ClientHistory C) (kept : Client C) (entry : BatchEntry Metric) (queue : Queue Metric) → kept ≡ stored_client client
       → queue ≡ batch.queue_of client.options.plain.max_batch_items (entry ∷ client.queues.metrics) client.queues.metric_tick
-      → record kept { queues = record kept.queues { metrics = queue } } ≡ plain_client (with_metric_entry entry client)
+      → record kept { queues = record kept.queues { metrics = queue } } ≡ stored_client (with_metric_entry entry client)
   metrics_changed client kept entry queue is q = λ i. record (is i) { queues = record (is i).queues { metrics = q i } }

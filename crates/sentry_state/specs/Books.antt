@@ -6,7 +6,7 @@ use Rattle.sentry_plain.specs.Tables.{value_at, put, replace_at, without}
 use Rattle.sentry_base.specs.declared.protocol.client_report.ClientReport.{ClientReport}
 use Rattle.sentry_base.specs.declared.protocol.keys.Label.{Label}
 use Rattle.sentry_client_reports.specs.LossBooks.{LossEntry, pending_losses, report_items, report_of}
-use Rattle.sentry_state.specs.Worlds.{World, ClientState}
+use Rattle.sentry_state.specs.Worlds.{World, ClientHistory}
 
 -- the books with one under a label's number: as they are where there is one, and else with a new one
 abbrev pub with_book : List (ℕ × List LossEntry) → ℕ → List (ℕ × List LossEntry)
@@ -16,7 +16,7 @@ abbrev pub is_label : Label → Label → Bool
 is_label label other = (other.tag == label.tag) && (other.number == label.number)
 
 -- a client has the label
-abbrev pub has_client_of : {C : Type 0} → Label → List (ℕ × ClientState C) → Bool
+abbrev pub has_client_of : {C : Type 0} → Label → List (ℕ × ClientHistory C) → Bool
 has_client_of label clients = list_any (λ entry. is_label label entry.1.label) clients
 
 module _ {P C : Type 0} where

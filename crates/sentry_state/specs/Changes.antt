@@ -1,5 +1,5 @@
 -- A world after one change.
-use Rattle.std.specs.Prelude.{◌≡◌, ℕ, Bool, Option, None, List, ◌∷◌, nat_lt, ◌+◌, ◌-◌, ◌^◌, ◌&&◌, not, is_some, Some, []}
+use Rattle.std.specs.Prelude.{◌≡◌, ℕ, Bool, Option, None, List, ◌∷◌, nat_lt, ◌+◌, ◌-◌, ◌^◌, Some, []}
 use Rattle.sentry_plain.specs.Tables.{replace_at, value_at, put}
 use Rattle.sentry_base.specs.declared.protocol.keys.ClientKey.{ClientKey}
 use Rattle.sentry_base.specs.declared.protocol.keys.SessionKey.{SessionKey}
@@ -7,7 +7,7 @@ use Rattle.sentry_sessions.specs.SessionQueues.{QueueEntry}
 use Rattle.sentry_sessions.specs.Sessions.{SessionEntry}
 use Rattle.sentry_hub_table.specs.declared.hub.Hub.{Hub}
 use Rattle.sentry_state.specs.declared.state.State.{State}
-use Rattle.sentry_state.specs.Worlds.{World, ClientState, QueueHistories, SessionState, Stands, plain_client}
+use Rattle.sentry_state.specs.Worlds.{World, ClientHistory, QueueHistories, SessionHistory, Stands, stored_client}
 use Rattle.sentry_base.specs.declared.protocol.keys.HubKey.{HubKey}
 use Rattle.sentry_sessions.specs.declared.session.record.SessionStart.{SessionStart}
 use Rattle.sentry_base.specs.declared.protocol.breadcrumb.Breadcrumb.{Breadcrumb}
@@ -17,7 +17,6 @@ use Rattle.sentry_state.specs.Outcomes.{with_scope}
 use Rattle.sentry_base.specs.declared.protocol.log.Log.{Log}
 use Rattle.sentry_base.specs.declared.protocol.metric.Metric.{Metric}
 use Rattle.sentry_batches.specs.Batches.{BatchEntry}
-use Rattle.std.specs.Option.{is_some}
 
 -- ---- sessions
 
@@ -26,7 +25,7 @@ abbrev pub with_session : {P : Type 0} → Hub P → Option SessionKey → Hub P
 with_session hub session = record hub { stack = record hub.stack { top = record hub.stack.top { session = session } } }
 
 -- the session with one more entry in its history
-abbrev pub with_session_entry : SessionEntry → SessionState → SessionState
+abbrev pub with_session_entry : SessionEntry → SessionHistory → SessionHistory
 with_session_entry entry session = record session { history = entry ∷ session.history }
 
 -- the queues with one more entry in the history of ended sessions
@@ -34,18 +33,18 @@ abbrev pub with_queue_entry : QueueEntry → QueueHistories → QueueHistories
 with_queue_entry entry queues = record queues { sessions = entry ∷ queues.sessions }
 
 -- the client with one more entry in the history of its ended sessions
-abbrev pub with_client_entry : {C : Type 0} → QueueEntry → ClientState C → ClientState C
+abbrev pub with_client_entry : {C : Type 0} → QueueEntry → ClientHistory C → ClientHistory C
 with_client_entry entry client = record client { queues = with_queue_entry entry client.queues }
 
 -- ---- logs and metrics
 
 -- the client with one more entry in the history of its logs
-abbrev pub with_log_entry : {C : Type 0} → BatchEntry Log → ClientState C → ClientState C
+abbrev pub with_log_entry : {C : Type 0} → BatchEntry Log → ClientHistory C → ClientHistory C
 with_log_entry entry client =
     record client { queues = record client.queues { logs = entry ∷ client.queues.logs } }
 
 -- the client with one more entry in the history of its metrics
-abbrev pub with_metric_entry : {C : Type 0} → BatchEntry Metric → ClientState C → ClientState C
+abbrev pub with_metric_entry : {C : Type 0} → BatchEntry Metric → ClientHistory C → ClientHistory C
 with_metric_entry entry client =
     record client { queues = record client.queues { metrics = entry ∷ client.queues.metrics } }
 
@@ -66,15 +65,15 @@ module _ {P C : Type 0} where
       → Stands new (record world { hubs = replace_at world.hubs number (f hub) })
 
   -- at a number that has a client, what the function makes of that client stands, and nothing else changed
-  abbrev pub ChangesClient : State P C → State P C → ℕ → (ClientState C → ClientState C) → Type 0
+  abbrev pub ChangesClient : State P C → State P C → ℕ → (ClientHistory C → ClientHistory C) → Type 0
   ChangesClient old new number f =
-      (world : World P C) (client : ClientState C) → Stands old world
-      → value_at old.clients number ≡ Some (plain_client client)
+      (world : World P C) (client : ClientHistory C) → Stands old world
+      → value_at old.clients number ≡ Some (stored_client client)
       → Stands new (record world { clients = replace_at world.clients number (f client) })
 
   -- the world with another client under a key that it has
-  abbrev pub with_client_state : World P C → ClientKey → ClientState C → World P C
-  with_client_state world key client = record world { clients = replace_at world.clients key.number client }
+  abbrev pub with_client_history : World P C → ClientKey → ClientHistory C → World P C
+  with_client_history world key client = record world { clients = replace_at world.clients key.number client }
 
   -- the key of the next hub
   abbrev pub next_hub_key : World P C → HubKey
@@ -87,10 +86,9 @@ module _ {P C : Type 0} where
     hubs = put world.hubs world.next.hub (record { stack = stack; last_event_id = None });
   }
 
-  -- a number is left for a session, and nothing stands under it
+  -- a number is left for a session
   abbrev pub is_session_number_left : World P C → Bool
-  is_session_number_left world =
-      nat_lt world.next.session (2 ^ 64 - 1) && not (is_some (value_at world.sessions world.next.session))
+  is_session_number_left world = nat_lt world.next.session (2 ^ 64 - 1)
 
   -- the world with one more session, which started so, under the next number
   abbrev pub with_new_session : SessionStart → World P C → World P C

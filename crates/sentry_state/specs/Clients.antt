@@ -2,13 +2,14 @@
 use Rattle.std.specs.Prelude.{ℕ, Bool, List, ◌&&◌, is_some, Some, [], false}
 use Rattle.std.specs.List.{list_any}
 use Rattle.sentry_base.specs.declared.protocol.keys.ClientKey.{ClientKey}
-use Rattle.sentry_state.specs.Worlds.{ClientState, QueueHistories, SessionState}
+use Rattle.sentry_state.specs.Worlds.{ClientHistory, QueueHistories, SessionHistory}
 use Rattle.sentry_options.specs.Meanings.{Meanings}
 use Rattle.sentry_options.specs.Options.{set_up}
 use Rattle.sentry_base.specs.declared.protocol.keys.Label.{Label}
 use Rattle.sentry_options.specs.declared.clientoptions.ClientOptions.{ClientOptions}
 use Rattle.sentry_scope.specs.Stacks.{is_client}
 use Rattle.sentry_pipeline.specs.OsAttributes.{os_attributes}
+use Rattle.sentry_pipeline.specs.Pipeline.{sdk_info}
 use Rattle.std.specs.Option.{is_some}
 use Rattle.sentry_state.specs.declared.state.Client.{Client}
 pub use Rattle.sentry_hub_table.specs.Hubs.{is_client_named}
@@ -18,7 +19,7 @@ abbrev pub is_enabled_client : {C : Type 0} → Client C → Bool
 is_enabled_client client = is_some client.options.plain.dsn && client.occupied
 
 -- a session that goes on was started under the client
-abbrev pub has_session_of : ClientKey → List (ℕ × SessionState) → Bool
+abbrev pub has_session_of : ClientKey → List (ℕ × SessionHistory) → Bool
 has_session_of key sessions = list_any (λ entry. is_client key (Some entry.1.start.client)) sessions
 
 -- the queues of a client that is made at this moment
@@ -32,18 +33,19 @@ queues_from now = record {
   metric_tick = now;
 }
 
--- a client after the `setup` of its integrations, with what they then say of the operating system; its slot is occupied
--- where it had a DSN before that, and has a transport
-unfoldable pub new_client : {C : Type 0} → (C → Meanings) → ClientOptions C → Bool → Label → ℕ → ClientState C
+-- a client after the `setup` of its integrations, with what they then say of the operating system, and with what is said
+-- of the SDK, which names them; its slot is occupied where it had a DSN before that, and has a transport
+unfoldable pub new_client : {C : Type 0} → (C → Meanings) → ClientOptions C → Bool → Label → ℕ → ClientHistory C
 new_client meanings options transport label now = record {
   options = set_up meanings options;
   label = label;
   occupied = is_some options.plain.dsn && transport;
   os = os_attributes meanings (set_up meanings options) now;
+  sdk = sdk_info (meanings (set_up meanings options).callbacks);
   closed = false;
   queues = queues_from now;
 }
 
 -- a clone of a client that is made at this moment: nothing waits in its queues, and nothing has closed it
-abbrev pub clone_from : {C : Type 0} → ℕ → ClientState C → ClientState C
+abbrev pub clone_from : {C : Type 0} → ℕ → ClientHistory C → ClientHistory C
 clone_from now client = record client { closed = false; queues = queues_from now }

@@ -13,11 +13,11 @@ use Rattle.sentry_state.specs.declared.state.Client.{Client}
 use Rattle.sentry_hub_table.specs.declared.hub.Hub.{Hub}
 use Rattle.sentry_state.specs.declared.state.Out.{Out}
 use Rattle.sentry_state.specs.declared.state.State.{State}
-use Rattle.sentry_state.specs.Worlds.{World, ClientState, Stands, plain_client, SessionState}
+use Rattle.sentry_state.specs.Worlds.{World, ClientHistory, Stands, stored_client, SessionHistory}
 use Rattle.sentry_base.specs.declared.protocol.keys.SessionKey.{SessionKey}
 use Rattle.sentry_base.specs.declared.protocol.keys.SpanKey.{SpanKey}
 use Rattle.sentry_base.specs.declared.protocol.keys.TransactionKey.{TransactionKey}
-use Rattle.sentry_span_table.specs.SpanLists.{TransactionState, plain_transaction}
+use Rattle.sentry_span_table.specs.SpanLists.{TransactionHistory, stored_transaction}
 use Rattle.sentry_span_table.specs.declared.table.records.SpanRecord.{SpanRecord}
 use Rattle.sentry_span_table.specs.declared.table.records.TransactionRecord.{TransactionRecord}
 
@@ -90,12 +90,12 @@ abbrev pub with_client : {P : Type 0} → Hub P → Option ClientKey → Hub P
 with_client hub client = record hub { stack = record hub.stack { top = record hub.stack.top { client = client } } }
 
 module _ {P C : Type 0} where
-  abbrev pub client_at : World P C → ClientKey → Option (ClientState C)
+  abbrev pub client_at : World P C → ClientKey → Option (ClientHistory C)
   client_at world key = value_under world.tag world.clients key.tag key.number
 
-  -- the same as the engine keeps it
-  abbrev pub plain_client_at : World P C → ClientKey → Option (Client C)
-  plain_client_at world key = option_map plain_client (client_at world key)
+  -- the same as the engine stores it
+  abbrev pub stored_client_at : World P C → ClientKey → Option (Client C)
+  stored_client_at world key = option_map stored_client (client_at world key)
 
   abbrev pub hub_at : World P C → HubKey → Option (Hub P)
   hub_at world key = value_under world.tag world.hubs key.tag key.number
@@ -109,19 +109,19 @@ module _ {P C : Type 0} where
   is_held_or_none world None = true
   is_held_or_none world (Some key) = is_some (client_at world key)
 
-  abbrev pub session_at : World P C → SessionKey → Option SessionState
+  abbrev pub session_at : World P C → SessionKey → Option SessionHistory
   session_at world key = value_under world.tag world.sessions key.tag key.number
 
   -- the session that a layer names, if it still goes on
-  abbrev pub named_session : World P C → Option SessionKey → Option SessionState
+  abbrev pub named_session : World P C → Option SessionKey → Option SessionHistory
   named_session world name = option_and_then (session_at world) name
 
-  abbrev pub transaction_at : World P C → TransactionKey → Option TransactionState
+  abbrev pub transaction_at : World P C → TransactionKey → Option TransactionHistory
   transaction_at world key = value_under world.tag world.transactions key.tag key.number
 
-  -- the same as the engine keeps it
-  abbrev pub plain_transaction_at : World P C → TransactionKey → Option TransactionRecord
-  plain_transaction_at world key = option_map plain_transaction (transaction_at world key)
+  -- the same as the engine stores it
+  abbrev pub stored_transaction_at : World P C → TransactionKey → Option TransactionRecord
+  stored_transaction_at world key = option_map stored_transaction (transaction_at world key)
 
   abbrev pub span_at : World P C → SpanKey → Option SpanRecord
   span_at world key = value_under world.tag world.spans key.tag key.number

@@ -3,14 +3,14 @@ use Rattle.std.specs.Prelude.{ℕ, Option, Some, None, ◌+◌}
 use Rattle.sentry_plain.specs.Tables.{put, replace_at}
 use Rattle.sentry_base.specs.declared.protocol.keys.SpanKey.{SpanKey}
 use Rattle.sentry_base.specs.declared.protocol.keys.TransactionKey.{TransactionKey}
-use Rattle.sentry_span_table.specs.SpanLists.{TransactionState}
+use Rattle.sentry_span_table.specs.SpanLists.{TransactionHistory}
 use Rattle.sentry_span_table.specs.declared.table.records.SpanRecord.{SpanRecord}
 use Rattle.sentry_state.specs.Outcomes.{transaction_at}
 use Rattle.sentry_state.specs.Worlds.{World}
 
 -- the transaction once it is finished
-abbrev pub closed_transaction : TransactionState → TransactionState
-closed_transaction state = record state { unfinished = None }
+abbrev pub finished_transaction : TransactionHistory → TransactionHistory
+finished_transaction state = record state { unfinished = None }
 
 -- the span once it finished at this moment
 abbrev pub finished_span : ℕ → SpanRecord → SpanRecord
@@ -24,7 +24,7 @@ module _ {P C : Type 0} where
   next_span_key world = record { tag = world.tag; number = world.next.span }
 
   -- the world with one more transaction, under the next number
-  abbrev pub with_new_transaction : TransactionState → World P C → World P C
+  abbrev pub with_new_transaction : TransactionHistory → World P C → World P C
   with_new_transaction state world = record world {
     next = record world.next { transaction = world.next.transaction + 1 };
     transactions = put world.transactions world.next.transaction state;
@@ -38,7 +38,7 @@ module _ {P C : Type 0} where
   }
 
   -- the world with another transaction under a number that it has
-  abbrev pub with_transaction : ℕ → TransactionState → World P C → World P C
+  abbrev pub with_transaction : ℕ → TransactionHistory → World P C → World P C
   with_transaction number state world =
       record world { transactions = replace_at world.transactions number state }
 
@@ -47,10 +47,10 @@ module _ {P C : Type 0} where
   with_span number held world = record world { spans = replace_at world.spans number held }
 
   -- the world in which a transaction that was found is finished
-  abbrev pub with_closed_state : ℕ → Option TransactionState → World P C → World P C
-  with_closed_state number None world = world
-  with_closed_state number (Some state) world = with_transaction number (closed_transaction state) world
+  abbrev pub with_found_finished : ℕ → Option TransactionHistory → World P C → World P C
+  with_found_finished number None world = world
+  with_found_finished number (Some state) world = with_transaction number (finished_transaction state) world
 
   -- the world in which a transaction is finished, if it is held
-  abbrev pub with_closed : TransactionKey → World P C → World P C
-  with_closed key world = with_closed_state key.number (transaction_at world key) world
+  abbrev pub with_transaction_finished : TransactionKey → World P C → World P C
+  with_transaction_finished key world = with_found_finished key.number (transaction_at world key) world

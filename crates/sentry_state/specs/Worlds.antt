@@ -3,17 +3,19 @@ use Rattle.std.specs.Prelude.{◌≡◌, ℕ, Bool, List, [], map}
 use Rattle.sentry_base.specs.declared.protocol.keys.Label.{Label}
 use Rattle.sentry_base.specs.declared.protocol.log.Log.{Log}
 use Rattle.sentry_base.specs.declared.protocol.metric.Metric.{Metric}
+use Rattle.sentry_base.specs.declared.protocol.sdk.ClientSdkInfo.{ClientSdkInfo}
 use Rattle.sentry_options.specs.declared.clientoptions.ClientOptions.{ClientOptions}
 use Rattle.sentry_options.specs.declared.clientoptions.plain.PlainOptions.{PlainOptions}
 use Rattle.sentry_batches.specs.Batches.{BatchEntry}
 use Rattle.sentry_batches.specs.Batches as batch
 use Rattle.sentry_client_reports.specs.LossBooks.{LossEntry, book_of}
 use Rattle.sentry_sessions.specs.SessionQueues.{QueueEntry, queue_of}
-use Rattle.sentry_sessions.specs.Sessions.{SessionEntry, session_of}
+use Rattle.sentry_sessions.specs.Sessions.{SessionEntry, session_of, session_attributes}
+use Rattle.sentry_pipeline.specs.DefaultAttributes.{default_log_attributes, default_metric_attributes}
 use Rattle.sentry_pipeline.specs.declared.os_attributes.OsAttributes.{OsAttributes}
 use Rattle.sentry_sessions.specs.declared.session.record.Session.{Session}
 use Rattle.sentry_sessions.specs.declared.session.record.SessionStart.{SessionStart}
-use Rattle.sentry_span_table.specs.SpanLists.{TransactionState, plain_transaction}
+use Rattle.sentry_span_table.specs.SpanLists.{TransactionHistory, stored_transaction}
 use Rattle.sentry_span_table.specs.declared.table.records.SpanRecord.{SpanRecord}
 use Rattle.sentry_span_table.specs.declared.table.records.SpanTable.{SpanTable}
 use Rattle.sentry_state.specs.declared.state.Client.{Client}
@@ -31,17 +33,19 @@ pub record QueueHistories : Type 0 where
   pub metrics : List (BatchEntry Metric)
   pub metric_tick : ℕ
 
--- a client; nothing comes to its queues once it is closed
-pub record ClientState (C : Type 0) : Type 0 where
+-- a client, with what its integrations say of the operating system, and what is said of the SDK; nothing comes to its
+-- queues once it is closed
+pub record ClientHistory (C : Type 0) : Type 0 where
   pub options : ClientOptions C
   pub label : Label
   pub occupied : Bool
   pub os : OsAttributes
+  pub sdk : ClientSdkInfo
   pub closed : Bool
   pub queues : QueueHistories
 
 -- how a session started, and all that came to it
-pub record SessionState : Type 0 where
+pub record SessionHistory : Type 0 where
   pub start : SessionStart
   pub history : List SessionEntry
 
@@ -50,40 +54,44 @@ pub record SessionState : Type 0 where
 pub record World (P C : Type 0) : Type 0 where
   pub tag : ℕ
   pub next : NextNumbers
-  pub clients : List (ℕ × ClientState C)
+  pub clients : List (ℕ × ClientHistory C)
   pub hubs : List (ℕ × Hub P)
-  pub sessions : List (ℕ × SessionState)
+  pub sessions : List (ℕ × SessionHistory)
   pub books : List (ℕ × List LossEntry)
-  pub transactions : List (ℕ × TransactionState)
+  pub transactions : List (ℕ × TransactionHistory)
   pub spans : List (ℕ × SpanRecord)
 
 -- the table with f of each value
 abbrev pub map_values : {X Y : Type 0} → (X → Y) → List (ℕ × X) → List (ℕ × Y)
 map_values f entries = map (λ entry. (entry.0, f entry.1)) entries
 
--- what an engine keeps of the queues of a client
-abbrev pub plain_queues : PlainOptions → QueueHistories → Queues
-plain_queues options queues = record {
+-- what an engine stores of the queues of a client
+abbrev pub stored_queues : PlainOptions → QueueHistories → Queues
+stored_queues options queues = record {
   sessions = queue_of options.session_mode queues.sessions;
   session_tick = record { 0 = queues.session_tick };
   logs = batch.queue_of options.max_batch_items queues.logs queues.log_tick;
   metrics = batch.queue_of options.max_batch_items queues.metrics queues.metric_tick;
 }
 
--- what an engine keeps of a session
-abbrev pub plain_session : SessionState → Session
-plain_session session = session_of session.start session.history
+-- what an engine stores of a session
+abbrev pub stored_session : SessionHistory → Session
+stored_session session = session_of session.start session.history
 
 module _ {C : Type 0} where
-  -- what an engine keeps of a client
-  abbrev pub plain_client : ClientState C → Client C
-  plain_client client = record {
+  -- what an engine stores of a client; what its logs, metrics and sessions have is made of its options, and of what is
+  -- said of the operating system
+  abbrev pub stored_client : ClientHistory C → Client C
+  stored_client client = record {
     options = client.options;
     label = client.label;
     occupied = client.occupied;
-    os = client.os;
+    sdk = client.sdk;
+    log_attributes = default_log_attributes client.options.plain client.os;
+    metric_attributes = default_metric_attributes client.options.plain;
+    session_attributes = session_attributes client.options.plain;
     closed = client.closed;
-    queues = plain_queues client.options.plain client.queues;
+    queues = stored_queues client.options.plain client.queues;
   }
 
 module _ {P C : Type 0} where
@@ -91,17 +99,17 @@ module _ {P C : Type 0} where
   abbrev pub span_table : World P C → SpanTable
   span_table world = record {
     tag = world.tag;
-    transactions = map_values plain_transaction world.transactions;
+    transactions = map_values stored_transaction world.transactions;
     spans = world.spans;
   }
 
--- the engine has all of the world, but of its clients, sessions, books and transactions only what is kept
+-- the engine has all of the world, but of its clients, sessions, books and transactions only what is stored
 pub record Stands {P C : Type 0} (engine : State P C) (world : World P C) : Type 0 where
   pub tag : engine.tag ≡ world.tag
   pub next : engine.next ≡ world.next
-  pub clients : engine.clients ≡ map_values plain_client world.clients
+  pub clients : engine.clients ≡ map_values stored_client world.clients
   pub hubs : engine.hubs ≡ world.hubs
-  pub sessions : engine.sessions ≡ map_values plain_session world.sessions
+  pub sessions : engine.sessions ≡ map_values stored_session world.sessions
   pub books : engine.books ≡ map_values book_of world.books
   pub spans : engine.spans ≡ span_table world
 

@@ -2,8 +2,8 @@
 ghost use Rattle.std.specs.Prelude.{◌≡◌, [], Some, true, is_some, OnSome, option_copied};
 ghost use Rattle.sentry_plain.specs.Tables.{value_at};
 ghost use Rattle.std.specs.Option.{option_map};
-ghost use Rattle.sentry_state.specs.Worlds.{World, Stands, starting_world, plain_session};
-ghost use Rattle.sentry_state.specs.Outcomes.{hub_at, plain_client_at, is_held_or_none, named_session};
+ghost use Rattle.sentry_state.specs.Worlds.{World, Stands, starting_world, stored_session};
+ghost use Rattle.sentry_state.specs.Outcomes.{hub_at, stored_client_at, is_held_or_none, named_session};
 
 mod books;
 mod client_queues;
@@ -12,15 +12,17 @@ mod hubs;
 mod sessions;
 mod spans;
 
-use sentry_base::protocol::{ClientKey, Envelope, HubKey, Label, Log, Metric, SessionKey};
+use sentry_base::protocol::{
+    ClientKey, ClientSdkInfo, Envelope, HubKey, Label, Log, LogAttribute, Metric,
+    SessionAttributes, SessionKey,
+};
 use sentry_batches::batcher::Batch;
 use sentry_batches::tick::LastTick;
 use sentry_client_reports::client_reports::LossBook;
 pub use sentry_hub_table::hub::Hub;
 use sentry_hub_table::hub_table::HubTable;
 use sentry_options::clientoptions::{Callbacks, ClientOptions};
-use sentry_pipeline::os_attributes::OsAttributes;
-use sentry_plain::{Items, Shared, Table};
+use sentry_plain::{Items, Shared, Table, TextMap};
 use sentry_sessions::session::{Session, SessionQueue};
 use sentry_span_table::table::SpanTable;
 use std::alloc::{AllocError, Global};
@@ -62,8 +64,14 @@ pub struct Client<C> {
     pub label: Label,
     /// Whether its transport slot is occupied: it had a DSN when it was added, and it has a transport.
     pub occupied: bool,
-    /// What its logs say of the operating system by default.
-    pub os: OsAttributes,
+    /// What its events and transactions say of the SDK.
+    pub sdk: Shared<ClientSdkInfo>,
+    /// What its logs have by default.
+    pub log_attributes: TextMap<LogAttribute>,
+    /// What its metrics have by default.
+    pub metric_attributes: TextMap<LogAttribute>,
+    /// What its sessions have. Without a release it has no sessions.
+    pub session_attributes: Option<Shared<SessionAttributes>>,
     /// Whether nothing comes to the queues any more.
     pub closed: bool,
     pub queues: Queues,
@@ -75,7 +83,10 @@ impl<C: Drop> Drop for Client<C> {
             options: _,
             label: _,
             occupied: _,
-            os: _,
+            sdk: _,
+            log_attributes: _,
+            metric_attributes: _,
+            session_attributes: _,
             closed: _,
             queues: _,
         } = self;
@@ -164,7 +175,9 @@ impl<P: Drop, C: Callbacks> State<P, C> {
     /// The client of a key, or `None` if it isn't held.
     #[tactic(auto, using(crate::proofs::Keeping::found_in_world))]
     pub fn client_at(&self, key: ClientKey) -> Option<&Client<C>>
-        ensures in_world { (world : World P C) → Stands self.now world → option_copied result ≡ plain_client_at world key }
+        ensures in_world { (world : World P C) → Stands self.now world → option_copied result ≡ stored_client_at world key }
+        ensures in_table { (client : Client C) → option_copied result ≡ Some client →
+            value_at self.now.clients key.number ≡ Some client }
         ensures held { OnSome result (is_some (value_at self.now.clients key.number) ≡ true) }
     {
         if key.tag != self.tag {
@@ -177,7 +190,7 @@ impl<P: Drop, C: Callbacks> State<P, C> {
     #[tactic(auto, using(crate::proofs::Keeping::session_in_world))]
     pub fn named_session(&self, name: Option<SessionKey>) -> Option<&Session>
         ensures { (world : World P C) → Stands self.now world →
-            option_copied result ≡ option_map plain_session (named_session world name) }
+            option_copied result ≡ option_map stored_session (named_session world name) }
     {
         let key = name?;
         if key.tag != self.tag {

@@ -1,11 +1,13 @@
 //! The hubs of a thread, and what its calls are handed anew.
 ghost use Rattle.std.specs.Prelude.{◌≡◌, ⊤, IfOk};
+ghost use Rattle.rand_core.specs.Stream.{fill_bytes};
+ghost use Rattle.uuid.specs.Parts.{v4_of_fill};
 ghost use Rattle.sentry_thread_hub.specs.Draws.{draw_fresh, draw_sample};
 
 use rand::RngExt;
 use rand_core::{Rng, SeedableRng};
+use sentry_base::clock::Clock;
 use sentry_base::protocol::{Draw, Fresh, Refusal, SampleRate, SpanId, TraceId, Uuid};
-use sentry_clock::Clock;
 use std::alloc::AllocError;
 
 /// A hub from which another one can be made.
@@ -100,6 +102,23 @@ impl<H, K: Clock, G: Rng> ThreadHub<H, K, G> {
             trace_id: TraceId(trace_id.to_be_bytes()),
             span_id: SpanId(span_id.to_be_bytes()),
             draw,
+        }
+    }
+
+    /// The moment and a version 4 UUID, for a call that needs no other value: the generator draws the UUID alone.
+    pub fn fresh_uuid(&mut self) -> Fresh
+        ensures drawn { (result.uuid, G.stream self.new.generator) ≡ v4_of_fill (fill_bytes 16 (G.stream self.old.generator)) }
+        ensures main { self.new.main ≡ self.old.main }
+        ensures current { self.new.current ≡ self.old.current }
+    {
+        let now = self.clock.now();
+        let uuid = Uuid::new_v4(&mut self.generator);
+        Fresh {
+            now,
+            uuid,
+            trace_id: TraceId([0; 16]),
+            span_id: SpanId([0; 8]),
+            draw: Draw::new(0).unwrap(),
         }
     }
 }

@@ -1,1 +1,7 @@
 mod WritingLemmas
+mod DigitLemmas
+mod EndLemmas
+mod NameLemmas
+mod PutLemmas
+mod UsageLemmas
+mod WholeLemmas

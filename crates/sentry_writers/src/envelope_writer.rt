@@ -3,13 +3,13 @@ ghost use Rattle.std.specs.Prelude.{◌≡◌, Some, IfOk, OnOk, OnErr};
 ghost use Rattle.std.specs.Io.KnownBytes.{Appends};
 ghost use Rattle.sentry_client_reports.specs.declared.client_reports.reason.TransportLossReason.TheVariants.{InternalError};
 ghost use Rattle.sentry_framing.specs.Sending.{AppendsFront};
-ghost use Rattle.sentry_spool.specs.Sending.{recorder_after};
+ghost use Rattle.sentry_writers.specs.Sending.{recorder_after};
 ghost use Rattle.sentry_writers.specs.Writing.{IsWritten};
 
+use crate::losses::after_sending;
 use sentry_base::protocol::Envelope;
 use sentry_client_reports::client_reports::{Recorder, TransportLossReason};
 use sentry_framing::sending::write_bytes;
-use sentry_spool::losses::after_sending;
 use std::alloc::AllocError;
 use std::io;
 use std::io::Write;

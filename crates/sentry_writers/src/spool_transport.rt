@@ -1,11 +1,11 @@
 //! A transport that puts envelopes into a folder.
+use crate::folder::{Folder, Usage};
+use crate::spool::Spool;
+use sentry_base::clock::Clock;
 use sentry_base::protocol::Envelope;
 use sentry_client_reports::client_reports::Recorder;
-use sentry_clock::Clock;
 use sentry_envelope::to_vec;
-use sentry_lock::transport::Transport;
-use sentry_spool::folder::{Folder, Usage};
-use sentry_spool::spool::Spool;
+use sentry_transport::transport::Transport;
 use std::alloc::Global;
 use std::sync::{Mutex, Wait};
 

@@ -3,7 +3,7 @@ use crate::envelope_writer::EnvelopeWriter;
 use sentry_base::protocol::Envelope;
 use sentry_client_reports::client_reports::Recorder;
 use sentry_envelope::to_vec;
-use sentry_lock::transport::Transport;
+use sentry_transport::transport::Transport;
 use std::alloc::Global;
 use std::io::Write;
 use std::sync::{Mutex, Wait};

@@ -133,6 +133,10 @@ def init(
     max_breadcrumbs=None,
     enable_logs=True,
     enable_metrics=True,
+    drop_events=None,
+    drop_breadcrumbs=None,
+    drop_logs=None,
+    drop_metrics=None,
     auto_session_tracking=False,
     report_uncaught=True,
     shutdown_timeout=2.0,
@@ -141,8 +145,10 @@ def init(
 ):
     """Begins to report, in place of what an earlier call began.
 
-    Without a DSN nothing is sent. `post` is called with the bytes of each envelope in place of a request by urllib, and
-    answers a status and headers. `library` is the path of libdochirwa.so. Timeouts are in seconds. Raises `Fault`.
+    Without a DSN nothing is sent. `drop_events` and its like drop what begins with their text: events and breadcrumbs by
+    their message, logs by their body, metrics by their name. `post` is called with the bytes of each envelope in place of
+    a request by urllib, and answers a status and headers. `library` is the path of libdochirwa.so. Timeouts are in
+    seconds. Raises `Fault`, and ValueError where an option has more than one line.
     """
     global current
     dsn = dsn if dsn is not None else os.environ.get("SENTRY_DSN")
@@ -157,7 +163,14 @@ def init(
         "crumbs": None if max_breadcrumbs is None else str(int(max_breadcrumbs)),
         "logs": str(int(bool(enable_logs))),
         "metrics": str(int(bool(enable_metrics))),
+        "drop_events": drop_events,
+        "drop_breadcrumbs": drop_breadcrumbs,
+        "drop_logs": drop_logs,
+        "drop_metrics": drop_metrics,
     }
+    for name, value in lines.items():
+        if "\n" in (value or ""):
+            raise ValueError(f"the option {name} has more than one line")
     text = "".join(f"{name}={value}\n" for name, value in lines.items() if value)
     made = Client(text, dsn, shutdown_timeout, post, library)
     close()

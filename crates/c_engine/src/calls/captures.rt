@@ -1,10 +1,11 @@
 //! The calls that capture events.
 ghost use Rattle.std.specs.Prelude.{◌≡◌};
 ghost use Rattle.sentry_calls.specs.Hubs as call;
-ghost use Rattle.sentry_captures.specs.Captures.{capture_event};
+ghost use Rattle.sentry_events.specs.Captures.{capture_event};
 ghost use Rattle.c_base.specs.Numbers.{id_of, id_or_nil, level_of};
 ghost use Rattle.c_engine.specs.Calls.{Calls, anything};
-ghost use Rattle.c_engine.specs.Engines.{same_event, no_callbacks};
+ghost use Rattle.c_engine.specs.Engines.{same_event};
+ghost use Rattle.c_records.specs.Filters.{filter_meanings};
 ghost use Rattle.c_engine.specs.Keys.{hub_key};
 ghost use Rattle.c_engine.specs.Moments.{fresh_of};
 
@@ -26,7 +27,7 @@ impl OutboxEngine {
         id: &mut Id,
     ) -> Result<(), CallFault>
         ensures { Calls self.old self.new result (λ reply. id.new ≡ id_of reply)
-            (capture_event same_event no_callbacks (hub_key hub) event (fresh_of fresh.entry.now)) }
+            (capture_event same_event filter_meanings (hub_key hub) event (fresh_of fresh.entry.now)) }
     {
         let fresh = fresh_of(fresh)?;
         self.outbox.make_room()?;
@@ -47,7 +48,7 @@ impl OutboxEngine {
         id: &mut Id,
     ) -> Result<(), CallFault>
         ensures { Calls self.old self.new result (λ reply. id.new ≡ id_of reply)
-            (call.capture_message same_event no_callbacks (hub_key hub) message.now (level_of number)
+            (call.capture_message same_event filter_meanings (hub_key hub) message.now (level_of number)
             (fresh_of fresh.entry.now)) }
     {
         let level = level(number)?;

@@ -2,12 +2,12 @@
 ghost use Rattle.std.specs.Prelude.{◌≡◌, true, if◌then◌else◌};
 ghost use Rattle.sentry_calls.specs.Clients as call;
 ghost use Rattle.c_engine.specs.Calls.{Calls, anything};
-ghost use Rattle.c_engine.specs.Engines.{no_callbacks};
+ghost use Rattle.c_records.specs.Filters.{filter_meanings};
 ghost use Rattle.c_engine.specs.Keys.{client_key, label};
 
-use crate::callbacks::NoCallbacks;
 use crate::outbox_engine::{OutboxEngine, client_key, label};
 use c_base::fault::CallFault;
+use c_records::filters::Filters;
 use sentry_options::clientoptions::ClientOptions;
 
 impl OutboxEngine {
@@ -15,14 +15,14 @@ impl OutboxEngine {
     #[tactic(auto, using(crate::proofs::Calling::called, crate::proofs::Calling::refused, crate::proofs::Calling::unasked))]
     pub fn add(
         &mut self,
-        options: ClientOptions<NoCallbacks>,
+        options: ClientOptions<Filters>,
         has_transport: bool,
         number: u64,
         now: u64,
         client: &mut u64,
     ) -> Result<(), CallFault>
         ensures { Calls self.old self.new result (λ key. client.new ≡ key.number)
-            (call.add_client no_callbacks options has_transport (label number) now) }
+            (call.add_client filter_meanings options has_transport (label number) now) }
     {
         self.outbox.make_room()?;
         let out = self

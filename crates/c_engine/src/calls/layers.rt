@@ -4,7 +4,8 @@ ghost use Rattle.sentry_calls.specs.Steps.{step};
 ghost use Rattle.sentry_calls.specs.declared.call.Call.TheVariants.{Hub};
 ghost use Rattle.sentry_calls.specs.declared.call.hubs.HubCall.TheVariants.{PopScope};
 ghost use Rattle.c_engine.specs.Calls.{Calls, anything};
-ghost use Rattle.c_engine.specs.Engines.{same_event, no_callbacks};
+ghost use Rattle.c_engine.specs.Engines.{same_event};
+ghost use Rattle.c_records.specs.Filters.{filter_meanings};
 ghost use Rattle.c_engine.specs.Keys.{hub_key};
 
 use crate::outbox_engine::{OutboxEngine, hub_key};
@@ -16,7 +17,7 @@ impl OutboxEngine {
     #[tactic(auto, using(crate::proofs::Calling::called, crate::proofs::Calling::refused, crate::proofs::Calling::unasked))]
     pub fn pop_scope(&mut self, hub: u64, depth: usize, now: u64) -> Result<(), CallFault>
         ensures { Calls self.old self.new result anything
-            (step same_event no_callbacks (Hub (PopScope (hub_key hub) depth now))) }
+            (step same_event filter_meanings (Hub (PopScope (hub_key hub) depth now))) }
     {
         self.outbox.make_room()?;
         let call = Call::Hub(HubCall::PopScope {

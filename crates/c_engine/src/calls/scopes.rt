@@ -4,7 +4,7 @@ ghost use Rattle.sentry_calls.specs.Hubs as call;
 ghost use Rattle.sentry_state.specs.Breadcrumbs.{add_breadcrumbs};
 ghost use Rattle.sentry_scope.specs.declared.scope.edit.ScopeEdit.TheVariants.{SetTag, SetSpan, Clear, ClearBreadcrumbs, ClearAttachments, AddAttachment};
 ghost use Rattle.c_engine.specs.Calls.{Calls, SomeCalls, anything};
-ghost use Rattle.c_engine.specs.Engines.{no_callbacks};
+ghost use Rattle.c_records.specs.Filters.{filter_meanings};
 ghost use Rattle.c_engine.specs.Keys.{hub_key, either_key};
 ghost use Rattle.c_engine.specs.Moments.{fresh_of};
 
@@ -165,7 +165,7 @@ impl OutboxEngine {
         breadcrumbs: Vec<Breadcrumb>,
     ) -> Result<(), CallFault>
         ensures { Calls self.old self.new result anything
-            (add_breadcrumbs no_callbacks (hub_key hub) breadcrumbs.items) }
+            (add_breadcrumbs filter_meanings (hub_key hub) breadcrumbs.items) }
     {
         self.outbox.make_room()?;
         let out = self.engine.add_breadcrumbs(hub_key(hub), breadcrumbs)?;

@@ -4,7 +4,7 @@ ghost use Rattle.sentry_span_edits.specs.Discards as discards;
 ghost use Rattle.sentry_spans.specs.Spans as call;
 ghost use Rattle.sentry_trace.specs.Contexts.{new_context};
 ghost use Rattle.c_engine.specs.Calls.{Calls, SomeCalls, anything};
-ghost use Rattle.c_engine.specs.Engines.{no_callbacks};
+ghost use Rattle.c_records.specs.Filters.{filter_meanings};
 ghost use Rattle.c_engine.specs.Keys.{hub_key, span_key, transaction_key, either_key};
 ghost use Rattle.c_engine.specs.Moments.{fresh_of};
 
@@ -49,7 +49,7 @@ impl OutboxEngine {
         transaction: &mut u64,
     ) -> Result<(), CallFault>
         ensures { Calls self.old self.new result (λ key. transaction.new ≡ key.number)
-            (call.start_transaction no_callbacks (hub_key hub) context (fresh_of fresh.entry.now)) }
+            (call.start_transaction filter_meanings (hub_key hub) context (fresh_of fresh.entry.now)) }
     {
         let fresh = fresh_of(fresh)?;
         self.outbox.make_room()?;
@@ -72,7 +72,7 @@ impl OutboxEngine {
         transaction: &mut u64,
     ) -> Result<(), CallFault>
         ensures { SomeCalls self.old self.new result (λ key. transaction.new ≡ key.number)
-            (λ context. call.start_transaction no_callbacks (hub_key hub) context (fresh_of fresh.entry.now)) }
+            (λ context. call.start_transaction filter_meanings (hub_key hub) context (fresh_of fresh.entry.now)) }
     {
         let context = continued(self.alloc, name, op, sentry_trace, baggage, fresh)?;
         self.start_of(hub, context, fresh, transaction)
@@ -89,7 +89,7 @@ impl OutboxEngine {
         transaction: &mut u64,
     ) -> Result<(), CallFault>
         ensures { Calls self.old self.new result (λ key. transaction.new ≡ key.number)
-            (call.start_transaction no_callbacks (hub_key hub)
+            (call.start_transaction filter_meanings (hub_key hub)
             (new_context name.now op.now (fresh_of fresh.entry.now).trace_id (fresh_of fresh.entry.now).span_id)
             (fresh_of fresh.entry.now)) }
     {
@@ -148,7 +148,7 @@ impl OutboxEngine {
         now: u64,
     ) -> Result<(), CallFault>
         ensures { Calls self.old self.new result anything
-            (call.finish_transaction no_callbacks (transaction_key transaction) (hub_key hub) now) }
+            (call.finish_transaction (transaction_key transaction) (hub_key hub) now) }
     {
         self.outbox.make_room()?;
         let out = self

@@ -1,7 +1,7 @@
 //! The calls on logs and metrics.
 ghost use Rattle.sentry_calls.specs.Telemetry as call;
 ghost use Rattle.c_engine.specs.Calls.{Calls, anything};
-ghost use Rattle.c_engine.specs.Engines.{no_callbacks};
+ghost use Rattle.c_records.specs.Filters.{filter_meanings};
 ghost use Rattle.c_engine.specs.Keys.{hub_key};
 
 use crate::outbox_engine::{OutboxEngine, hub_key};
@@ -12,7 +12,7 @@ impl OutboxEngine {
     /// Captures a log.
     #[tactic(auto, using(crate::proofs::Calling::called, crate::proofs::Calling::refused, crate::proofs::Calling::unasked))]
     pub fn send_log(&mut self, hub: u64, log: Log) -> Result<(), CallFault>
-        ensures { Calls self.old self.new result anything (call.capture_log no_callbacks (hub_key hub) log) }
+        ensures { Calls self.old self.new result anything (call.capture_log filter_meanings (hub_key hub) log) }
     {
         self.outbox.make_room()?;
         let out = self.engine.capture_log(hub_key(hub), log)?;
@@ -24,7 +24,7 @@ impl OutboxEngine {
     #[tactic(auto, using(crate::proofs::Calling::called, crate::proofs::Calling::refused, crate::proofs::Calling::unasked))]
     pub fn send_metric(&mut self, hub: u64, draft: MetricDraft, now: u64) -> Result<(), CallFault>
         ensures { Calls self.old self.new result anything
-            (call.capture_metric no_callbacks (hub_key hub) draft now) }
+            (call.capture_metric filter_meanings (hub_key hub) draft now) }
     {
         self.outbox.make_room()?;
         let out = self.engine.capture_metric(hub_key(hub), draft, now)?;

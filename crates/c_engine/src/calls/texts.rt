@@ -3,15 +3,15 @@ ghost use Rattle.std.specs.Prelude.{◌≡◌, true};
 ghost use Rattle.sentry_calls.specs.Clients as clients;
 ghost use Rattle.sentry_calls.specs.Hubs as hubs;
 ghost use Rattle.sentry_calls.specs.Telemetry as telemetry;
-ghost use Rattle.sentry_captures.specs.Captures.{capture_event};
+ghost use Rattle.sentry_events.specs.Captures.{capture_event};
 ghost use Rattle.sentry_state.specs.Breadcrumbs.{add_breadcrumbs};
 ghost use Rattle.c_base.specs.Numbers.{id_of};
 ghost use Rattle.c_engine.specs.Calls.{SomeCalls, anything};
-ghost use Rattle.c_engine.specs.Engines.{same_event, no_callbacks};
+ghost use Rattle.c_engine.specs.Engines.{same_event};
+ghost use Rattle.c_records.specs.Filters.{filter_meanings};
 ghost use Rattle.c_engine.specs.Keys.{hub_key, label};
 ghost use Rattle.c_engine.specs.Moments.{fresh_of};
 
-use crate::callbacks::NoCallbacks;
 use crate::outbox_engine::OutboxEngine;
 use c_base::fault::CallFault;
 use c_base::ids::{FreshNumbers, Id};
@@ -87,9 +87,9 @@ impl OutboxEngine {
         client: &mut u64,
     ) -> Result<(), CallFault>
         ensures { SomeCalls self.old self.new result (λ key. client.new ≡ key.number)
-            (λ options. clients.add_client no_callbacks options true (label number) now) }
+            (λ options. clients.add_client filter_meanings options true (label number) now) }
     {
-        let options = read_options(self.alloc, NoCallbacks, text(options)?)?;
+        let options = read_options(self.alloc, text(options)?)?;
         self.add(options, true, number, now, client)
     }
 
@@ -103,7 +103,7 @@ impl OutboxEngine {
         id: &mut Id,
     ) -> Result<(), CallFault>
         ensures { SomeCalls self.old self.new result (λ reply. id.new ≡ id_of reply)
-            (λ event. capture_event same_event no_callbacks (hub_key hub) event (fresh_of fresh.entry.now)) }
+            (λ event. capture_event same_event filter_meanings (hub_key hub) event (fresh_of fresh.entry.now)) }
     {
         let event = event_of_text(self.alloc, event, fresh.now)?;
         self.send_event(hub, event, fresh, id)
@@ -123,7 +123,7 @@ impl OutboxEngine {
     #[tactic(auto, using(crate::proofs::Calling::some))]
     pub fn add_breadcrumb(&mut self, hub: u64, breadcrumb: &[u8], now: u64) -> Result<(), CallFault>
         ensures { SomeCalls self.old self.new result anything
-            (λ breadcrumbs. add_breadcrumbs no_callbacks (hub_key hub) breadcrumbs) }
+            (λ breadcrumbs. add_breadcrumbs filter_meanings (hub_key hub) breadcrumbs) }
     {
         let breadcrumbs = breadcrumbs_of_text(self.alloc, breadcrumb, now)?;
         self.add_breadcrumbs(hub, breadcrumbs)
@@ -140,7 +140,7 @@ impl OutboxEngine {
         now: u64,
     ) -> Result<(), CallFault>
         ensures { SomeCalls self.old self.new result anything
-            (λ log. telemetry.capture_log no_callbacks (hub_key hub) log) }
+            (λ log. telemetry.capture_log filter_meanings (hub_key hub) log) }
     {
         let log = log_of(self.alloc, level, body, attributes, now)?;
         self.send_log(hub, log)
@@ -159,7 +159,7 @@ impl OutboxEngine {
         now: u64,
     ) -> Result<(), CallFault>
         ensures { SomeCalls self.old self.new result anything
-            (λ draft. telemetry.capture_metric no_callbacks (hub_key hub) draft now) }
+            (λ draft. telemetry.capture_metric filter_meanings (hub_key hub) draft now) }
     {
         let draft = draft_of(self.alloc, kind, name, value, unit, attributes)?;
         self.send_metric(hub, draft, now)

@@ -3,7 +3,6 @@
 ghost use Rattle.std.specs.Prelude.{◌≡◌, option_copied};
 ghost use Rattle.sentry_calls.specs.Clients as clients;
 ghost use Rattle.sentry_calls.specs.Hubs as hubs;
-ghost use Rattle.sentry_captures.specs.Captures.{capture_event};
 ghost use Rattle.sentry_state.specs.Outcomes.{Does};
 
 use crate::engine::{Engine, Out};
@@ -76,17 +75,5 @@ impl<P: EventCallback + Drop, C: Callbacks> Engine<P, C> {
             (clients.client_capture_event P.gives C.meanings client event scope.now fresh) }
     {
         self.client_capture_event(client, event.into_inner(), lent_scope(scope), fresh)
-    }
-
-    // The same as `capture_event`, of an event in a box.
-    pub(super) fn capture_boxed_event(
-        &mut self,
-        hub: HubKey,
-        event: Boxed<Event>,
-        fresh: Fresh,
-    ) -> Result<Out<Uuid>, Refusal>
-        ensures { Does self.old self.new result (capture_event P.gives C.meanings hub event fresh) }
-    {
-        self.capture_event(hub, event.into_inner(), fresh)
     }
 }

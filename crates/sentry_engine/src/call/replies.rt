@@ -1,15 +1,14 @@
 //! The replies of calls, put into the one type of replies: each function names the one that it gives.
 ghost use Rattle.std.specs.Prelude.{◌≡◌};
 ghost use Rattle.sentry_calls.specs.declared.call.Reply.TheVariants as reply;
-ghost use Rattle.sentry_span_calls.specs.Replies.{map_answer};
+ghost use Rattle.sentry_calls.specs.Replies.{map_answer};
 
 use crate::engine::{Out, ScopeGuard};
 use sentry_base::protocol::{ClientKey, ClientReport, Event, HubKey, Refusal, Uuid};
-use sentry_calls::call::{Answer, Reply};
+use sentry_calls::call::{Answer, Reply, SpanReply};
 use sentry_options::clientoptions::ClientOptions;
 use sentry_plain::{Boxed, Shared};
 use sentry_scope::scope::Scope;
-use sentry_span_calls::call::SpanReply;
 use sentry_texts::dsn::Dsn;
 
 /// Nothing but that the call is done.

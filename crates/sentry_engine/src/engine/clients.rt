@@ -11,15 +11,15 @@ use sentry_base::callbacks::EventCallback;
 use sentry_base::protocol::{
     ClientKey, Draw, Envelope, Event, Fresh, Label, Refusal, SampleRate, Uuid,
 };
-use sentry_captures::captures::{
+use sentry_events::captures::{
     capture, captured_envelopes, captured_id, drop_unsent, note_capture, record_lost_event,
 };
 use sentry_options::clientoptions::{Callbacks, ClientOptions};
 use sentry_pipeline::pipeline::prepare_event;
 use sentry_plain::{Boxed, Items, Shared};
-use sentry_queues::flushes::{Flush, flush_queues};
 use sentry_scope::scope::Scope;
 use sentry_state::state::clients::{clone_of, new_client};
+use sentry_telemetry::flushes::{Flush, flush_queues};
 use sentry_texts::dsn::Dsn;
 use std::alloc::Global;
 
@@ -227,7 +227,7 @@ impl<P: EventCallback + Drop, C: Callbacks> Engine<P, C> {
             return Err(Refusal::Stale);
         }
         let label = held.label;
-        let mut event = Some(event);
+        let mut event = Some(Boxed::new(self.state.alloc, event)?);
         let spans = self.state.span_table();
         let preparation = capture(self.state.alloc, held, spans, scope, fresh, &mut event)?;
         drop_unsent(&preparation, &mut event);
@@ -259,20 +259,18 @@ impl<P: EventCallback + Drop, C: Callbacks> Engine<P, C> {
             return Err(Refusal::Stale);
         }
         let label = held.label;
-        let mut event = Some(event);
+        let mut event = Some(Boxed::new(self.state.alloc, event)?);
         let preparation = prepare_event(
             self.state.alloc,
             held.options.get(),
+            &held.sdk,
             self.state.span_table(),
             scope,
             fresh,
             &mut event,
         )?;
         match preparation.loss_reason() {
-            None => {
-                let event = Boxed::from_option(self.state.alloc, event)?;
-                Ok(self.state.out(event))
-            }
+            None => Ok(self.state.out(event)),
             Some(reason) => {
                 record_lost_event(&mut self.state, label, reason);
                 Ok(self.state.out(None))

@@ -1,6 +1,7 @@
 //! What a caller that keeps something beside an engine has to know of it.
-ghost use Rattle.std.specs.Prelude.{◌≡◌, Some, None, if◌then◌else◌};
+ghost use Rattle.std.specs.Prelude.{◌≡◌, Some, None, if◌then◌else◌, length};
 ghost use Rattle.std.specs.Option.{option_map, option_and_then};
+ghost use Rattle.sentry_hub_table.specs.Names.{all_layers};
 ghost use Rattle.sentry_state.specs.Books.{has_book};
 ghost use Rattle.sentry_state.specs.Outcomes.{client_at};
 ghost use Rattle.sentry_state.specs.Worlds.{World, Stands};
@@ -9,7 +10,37 @@ use crate::engine::Engine;
 use sentry_base::protocol::{ClientKey, Label};
 use sentry_options::clientoptions::Callbacks;
 
+/// How many clients, hubs, layers of all hubs, transactions, spans, and sessions that go on an engine holds.
+#[derive(Clone, Copy, Debug, PartialEq, Eq)]
+pub struct Held {
+    pub clients: usize,
+    pub hubs: usize,
+    pub layers: usize,
+    pub transactions: usize,
+    pub spans: usize,
+    pub sessions: usize,
+}
+
 impl<P: Drop, C: Callbacks> Engine<P, C> {
+    /// How many it holds of each kind. It looks at none of them.
+    pub fn held(&self) -> Held
+        ensures clients { result.clients ≡ length self.now.clients }
+        ensures hubs { result.hubs ≡ length self.now.hubs }
+        ensures layers { result.layers ≡ all_layers self.now.hubs }
+        ensures transactions { result.transactions ≡ length self.now.spans.transactions }
+        ensures spans { result.spans ≡ length self.now.spans.spans }
+        ensures sessions { result.sessions ≡ length self.now.sessions }
+    {
+        Held {
+            clients: self.state.clients.len(),
+            hubs: self.state.hubs.len(),
+            layers: self.state.hubs.layers(),
+            transactions: self.state.spans.transaction_count(),
+            spans: self.state.spans.span_count(),
+            sessions: self.state.sessions.len(),
+        }
+    }
+
     /// The number of the next client. The number 2^64-1 is never given.
     pub fn next_client(&self) -> u64
         ensures { (world : World P C) → Stands self.now world → result ≡ world.next.client }

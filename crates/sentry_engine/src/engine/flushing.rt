@@ -5,7 +5,7 @@ ghost use Rattle.sentry_calls.specs.Clients as call;
 use crate::engine::{Engine, Out};
 use sentry_base::protocol::{ClientKey, Refusal};
 use sentry_options::clientoptions::Callbacks;
-use sentry_queues::flushes::{Flush, flush_queues};
+use sentry_telemetry::flushes::{Flush, flush_queues};
 
 impl<P: Drop, C: Callbacks> Engine<P, C> {
     /// Sends what waits in the queues of a client: the ended sessions, then the logs, then the metrics. Without a

@@ -4,8 +4,9 @@ ghost use Rattle.std.specs.List.{list_any};
 ghost use Rattle.sentry_state.specs.Worlds.{World, Stands};
 ghost use Rattle.sentry_state.specs.Breadcrumbs.{add_breadcrumbs};
 ghost use Rattle.sentry_state.specs.Outcomes.{Does, DoesWithoutMemory, hub_at};
-ghost use Rattle.sentry_captures.specs.Captures.{capture_event, message_event};
+ghost use Rattle.sentry_events.specs.Captures.{capture_event, message_event};
 ghost use Rattle.sentry_calls.specs.Hubs.{is_clear};
+ghost use Rattle.sentry_texts.specs.ErrorEvents.{error_event};
 ghost use Rattle.sentry_calls.specs.Hubs as call;
 
 use crate::engine::names::rename_all;
@@ -14,7 +15,7 @@ use sentry_base::callbacks::EventCallback;
 use sentry_base::protocol::{
     Breadcrumb, ClientKey, ErrorLink, Event, Fresh, HubKey, Level, Refusal, Uuid,
 };
-use sentry_captures::captures::capture_on_hub;
+use sentry_events::captures::capture_on_hub;
 use sentry_options::clientoptions::Callbacks;
 use sentry_plain::{Boxed, Text};
 use sentry_scope::scope::{EditedScope, Scope, ScopeEdit, Stack, all_name_held_spans};
@@ -22,20 +23,32 @@ use sentry_sending::session_ends::release_session;
 use sentry_texts::utils::event_from_error;
 use std::alloc::{AllocError, Global};
 
-// The event of a message, as an event that is to be captured.
+// The event of a message, in a box.
 fn message_event(
     alloc: Global,
     message: Text,
     level: Level,
     id: Uuid,
     now: u64,
-) -> Result<Option<Event>, AllocError>
-    ensures { IfOk result (λ event. event ≡ Some (message_event message level id now)) }
+) -> Result<Boxed<Event>, AllocError>
+    ensures { IfOk result (λ event. event ≡ message_event message level id now) }
 {
     let mut event = Event::new(alloc, id, now)?;
     event.message = Some(message);
     event.level = level;
-    Ok(Some(event))
+    Boxed::new(alloc, event)
+}
+
+// The event of an error, in a box.
+fn error_event(
+    alloc: Global,
+    links: &[ErrorLink],
+    id: Uuid,
+    now: u64,
+) -> Result<Boxed<Event>, AllocError>
+    ensures { IfOk result (λ event. event ≡ error_event links.now id now) }
+{
+    Boxed::new(alloc, event_from_error(alloc, links, id, now)?)
 }
 
 // Whether an edit clears the scope.
@@ -267,6 +280,7 @@ impl<P: EventCallback + Drop, C: Callbacks> Engine<P, C> {
     /// id if it was dropped, or if the layer has no client, or the client no transport.
     ///
     /// `Stale`: the hub isn't held. `OutOfMemory`.
+    #[tactic(auto, unfolding(sentry_events::specs::Captures::capture_event))]
     pub fn capture_event(
         &mut self,
         hub: HubKey,
@@ -275,11 +289,26 @@ impl<P: EventCallback + Drop, C: Callbacks> Engine<P, C> {
     ) -> Result<Out<Uuid>, Refusal>
         ensures { Does self.old self.new result (capture_event P.gives C.meanings hub event fresh) }
     {
+        match Boxed::new(self.state.alloc, event) {
+            Ok(event) => self.capture_boxed_event(hub, event, fresh),
+            Err(_) => Err(self.hub_refusal(hub)),
+        }
+    }
+
+    // The same, of an event in a box.
+    pub(crate) fn capture_boxed_event(
+        &mut self,
+        hub: HubKey,
+        event: Boxed<Event>,
+        fresh: Fresh,
+    ) -> Result<Out<Uuid>, Refusal>
+        ensures { Does self.old self.new result (capture_event P.gives C.meanings hub event fresh) }
+    {
         capture_on_hub(&mut self.state, hub, &mut Some(event), fresh)
     }
 
     // The same as `capture_message`, of a text that needs no copy.
-    #[tactic(auto, unfolding(sentry_calls::specs::Hubs::capture_message, sentry_captures::specs::Captures::capture_event))]
+    #[tactic(auto, unfolding(sentry_calls::specs::Hubs::capture_message, sentry_events::specs::Captures::capture_event))]
     pub(crate) fn capture_text(
         &mut self,
         hub: HubKey,
@@ -290,7 +319,7 @@ impl<P: EventCallback + Drop, C: Callbacks> Engine<P, C> {
         ensures { Does self.old self.new result (call.capture_message P.gives C.meanings hub message level fresh) }
     {
         match message_event(self.state.alloc, message, level, fresh.uuid, fresh.now) {
-            Ok(mut event) => capture_on_hub(&mut self.state, hub, &mut event, fresh),
+            Ok(event) => self.capture_boxed_event(hub, event, fresh),
             Err(_) => Err(self.hub_refusal(hub)),
         }
     }
@@ -298,7 +327,7 @@ impl<P: EventCallback + Drop, C: Callbacks> Engine<P, C> {
     /// Captures an event of a message and a level on a hub, as `capture_event` does.
     ///
     /// `Stale`: the hub isn't held. `OutOfMemory`.
-    #[tactic(auto, unfolding(sentry_calls::specs::Hubs::capture_message, sentry_captures::specs::Captures::capture_event))]
+    #[tactic(auto, unfolding(sentry_calls::specs::Hubs::capture_message, sentry_events::specs::Captures::capture_event))]
     pub fn capture_message(
         &mut self,
         hub: HubKey,
@@ -318,7 +347,7 @@ impl<P: EventCallback + Drop, C: Callbacks> Engine<P, C> {
     /// are given outermost first.
     ///
     /// `Stale`: the hub isn't held. `OutOfMemory`.
-    #[tactic(auto, unfolding(sentry_calls::specs::Hubs::capture_error, sentry_captures::specs::Captures::capture_event))]
+    #[tactic(auto, unfolding(sentry_calls::specs::Hubs::capture_error, sentry_events::specs::Captures::capture_event))]
     pub fn capture_error(
         &mut self,
         hub: HubKey,
@@ -327,8 +356,8 @@ impl<P: EventCallback + Drop, C: Callbacks> Engine<P, C> {
     ) -> Result<Out<Uuid>, Refusal>
         ensures { Does self.old self.new result (call.capture_error P.gives C.meanings hub links.now fresh) }
     {
-        match event_from_error(self.state.alloc, links, fresh.uuid, fresh.now) {
-            Ok(event) => capture_on_hub(&mut self.state, hub, &mut Some(event), fresh),
+        match error_event(self.state.alloc, links, fresh.uuid, fresh.now) {
+            Ok(event) => self.capture_boxed_event(hub, event, fresh),
             Err(_) => Err(self.hub_refusal(hub)),
         }
     }

@@ -1,5 +1,6 @@
 //! The calls on sessions.
 ghost use Rattle.sentry_state.specs.Outcomes.{Does};
+ghost use Rattle.sentry_calls.specs.Active.{if_active};
 ghost use Rattle.sentry_calls.specs.Sessions as call;
 
 use crate::engine::{Engine, Out};
@@ -29,25 +30,46 @@ impl<P: Drop, C: Callbacks> Engine<P, C> {
         let Some(client) = self.state.client_at(key) else {
             return Ok(self.state.out(()));
         };
-        let options = &client.options.get().plain;
-        if options.release.is_none() {
+        let Some(attributes) = &client.session_attributes else {
             return Ok(self.state.out(()));
-        }
+        };
         if !self.state.has_session_number() {
             return Err(Refusal::Full);
         }
         let user = held.stack.top.scope.user();
-        let Some(session) = Session::from_stack(
-            self.state.alloc,
-            key,
-            options,
-            user,
-            fresh.uuid,
-            now,
-        )?
-        else {
+        let session = Session::from_stack(key, attributes, user, fresh.uuid, now)?;
+        let sent = replace_session(&mut self.state, hub.number, session, now)?;
+        Ok(Out { reply: (), sent })
+    }
+
+    /// The same, if the client of the top layer is enabled; else nothing changes.
+    ///
+    /// `Stale`: the hub isn't held. `Full`: the numbers are used up. `OutOfMemory`.
+    #[tactic(auto, unfolding(sentry_calls::specs::Sessions::start_session))]
+    pub fn start_active_session(&mut self, hub: HubKey, fresh: Fresh) -> Result<Out<()>, Refusal>
+        ensures { Does self.old self.new result (if_active hub (call.start_session hub fresh)) }
+    {
+        let now = fresh.now;
+        let Some(held) = self.state.hub_at(hub) else {
+            return Err(Refusal::Stale);
+        };
+        let Some(key) = held.stack.top.client else {
             return Ok(self.state.out(()));
         };
+        let Some(client) = self.state.client_at(key) else {
+            return Ok(self.state.out(()));
+        };
+        if !client.is_enabled() {
+            return Ok(self.state.out(()));
+        }
+        let Some(attributes) = &client.session_attributes else {
+            return Ok(self.state.out(()));
+        };
+        if !self.state.has_session_number() {
+            return Err(Refusal::Full);
+        }
+        let user = held.stack.top.scope.user();
+        let session = Session::from_stack(key, attributes, user, fresh.uuid, now)?;
         let sent = replace_session(&mut self.state, hub.number, session, now)?;
         Ok(Out { reply: (), sent })
     }
@@ -69,6 +91,38 @@ impl<P: Drop, C: Callbacks> Engine<P, C> {
         let Some(held) = self.state.hub_at(hub) else {
             return Err(Refusal::Stale);
         };
+        let Some(session) = held.stack.top.session else {
+            return Ok(self.state.out(()));
+        };
+        let sent = end_session(&mut self.state, session, Some(status), now)?;
+        Ok(Out { reply: (), sent })
+    }
+
+    /// The same, if the client of the top layer is enabled; else nothing changes.
+    ///
+    /// `Stale`: the hub isn't held. `OutOfMemory`.
+    #[tactic(auto, unfolding(sentry_calls::specs::Sessions::end_session_with_status))]
+    pub fn end_active_session(
+        &mut self,
+        hub: HubKey,
+        status: SessionStatus,
+        now: u64,
+    ) -> Result<Out<()>, Refusal>
+        ensures { Does self.old self.new result (if_active hub (call.end_session_with_status hub status now)) }
+    {
+        let Some(held) = self.state.hub_at(hub) else {
+            return Err(Refusal::Stale);
+        };
+        let Some(key) = held.stack.top.client else {
+            return Ok(self.state.out(()));
+        };
+        let Some(client) = self.state.client_at(key) else {
+            return Ok(self.state.out(()));
+        };
+        let enabled = client.is_enabled();
+        if !enabled {
+            return Ok(self.state.out(()));
+        }
         let Some(session) = held.stack.top.session else {
             return Ok(self.state.out(()));
         };

@@ -1,9 +1,10 @@
 //! The calls on transactions and spans.
 ghost use Rattle.std.specs.Prelude.{◌≡◌};
-ghost use Rattle.sentry_span_calls.specs.Calls.{span_step, takes_no_memory};
+ghost use Rattle.sentry_calls.specs.SpanCalls.{span_step, takes_no_memory};
 ghost use Rattle.sentry_span_edits.specs.Discards as discards;
 ghost use Rattle.sentry_span_edits.specs.Reads as reads;
 ghost use Rattle.sentry_span_edits.specs.Setters as setters;
+ghost use Rattle.sentry_spans.specs.Ends as ends;
 ghost use Rattle.sentry_spans.specs.Spans as spans;
 ghost use Rattle.sentry_state.specs.Outcomes.{Does, DoesWith, DoesWithoutMemory};
 ghost use Rattle.sentry_state.specs.Worlds.{World, Stands, span_table};
@@ -13,12 +14,12 @@ use sentry_base::protocol::{
     Fresh, HubKey, Refusal, Request, SpanId, SpanKey, SpanStatus, TraceContext, TransactionKey,
     TransactionOrSpanKey,
 };
+use sentry_calls::call::{SpanCall, SpanReply, apply_span_call};
 use sentry_options::clientoptions::Callbacks;
 use sentry_plain::{Value, ValueMap};
-use sentry_span_calls::call::{SpanCall, SpanReply, apply_span_call};
 use sentry_span_edits::{discards, reads, setters};
 use sentry_span_table::table::SpanTable;
-use sentry_spans::{finishes, starts};
+use sentry_spans::{ends, finishes, starts};
 use sentry_trace::headers::TraceHeadersIter;
 use sentry_trace::performance::TransactionContext;
 
@@ -109,13 +110,13 @@ impl<P: Drop, C: Callbacks> Engine<P, C> {
     /// `Stale`: it isn't held. `OutOfMemory`.
     pub fn set_data(
         &mut self,
-        name: TransactionOrSpanKey,
+        span: TransactionOrSpanKey,
         key: &str,
         value: Value,
     ) -> Result<Out<()>, Refusal>
-        ensures { Does self.old self.new result (setters.set_data name key.now value) }
+        ensures { Does self.old self.new result (setters.set_data span key.now value) }
     {
-        setters::set_data(&mut self.state, name, key, value)
+        setters::set_data(&mut self.state, span, key, value)
     }
 
     /// Sets a tag of a span, or of a transaction while it is unfinished.
@@ -123,13 +124,13 @@ impl<P: Drop, C: Callbacks> Engine<P, C> {
     /// `Stale`: it isn't held. `OutOfMemory`.
     pub fn set_tag(
         &mut self,
-        name: TransactionOrSpanKey,
+        span: TransactionOrSpanKey,
         key: &str,
         value: &str,
     ) -> Result<Out<()>, Refusal>
-        ensures { Does self.old self.new result (setters.set_tag name key.now value.now) }
+        ensures { Does self.old self.new result (setters.set_tag span key.now value.now) }
     {
-        setters::set_tag(&mut self.state, name, key, value)
+        setters::set_tag(&mut self.state, span, key, value)
     }
 
     /// Sets extra data of a transaction, while it is unfinished.
@@ -151,30 +152,30 @@ impl<P: Drop, C: Callbacks> Engine<P, C> {
     /// `Stale`: it isn't held. `OutOfMemory`.
     pub fn set_status(
         &mut self,
-        name: TransactionOrSpanKey,
+        span: TransactionOrSpanKey,
         status: SpanStatus,
     ) -> Result<Out<()>, Refusal>
-        ensures { Does self.old self.new result (setters.set_status name status) }
+        ensures { Does self.old self.new result (setters.set_status span status) }
     {
-        setters::set_status(&mut self.state, name, status)
+        setters::set_status(&mut self.state, span, status)
     }
 
     /// Sets the operation of a transaction or a span, also of one that is finished.
     ///
     /// `Stale`: it isn't held. `OutOfMemory`.
-    pub fn set_op(&mut self, name: TransactionOrSpanKey, op: &str) -> Result<Out<()>, Refusal>
-        ensures { Does self.old self.new result (setters.set_op name op.now) }
+    pub fn set_op(&mut self, span: TransactionOrSpanKey, op: &str) -> Result<Out<()>, Refusal>
+        ensures { Does self.old self.new result (setters.set_op span op.now) }
     {
-        setters::set_op(&mut self.state, name, op)
+        setters::set_op(&mut self.state, span, op)
     }
 
     /// Sets the name of a transaction while it is unfinished, or the description of a span, which may be empty.
     ///
     /// `Stale`: it isn't held. `OutOfMemory`.
-    pub fn set_name(&mut self, name: TransactionOrSpanKey, text: &str) -> Result<Out<()>, Refusal>
-        ensures { Does self.old self.new result (setters.set_name name text.now) }
+    pub fn set_name(&mut self, span: TransactionOrSpanKey, name: &str) -> Result<Out<()>, Refusal>
+        ensures { Does self.old self.new result (setters.set_name span name.now) }
     {
-        setters::set_name(&mut self.state, name, text)
+        setters::set_name(&mut self.state, span, name)
     }
 
     /// Sets the request of a transaction while it is unfinished, or the data that a span has of a request: a body that is
@@ -183,12 +184,12 @@ impl<P: Drop, C: Callbacks> Engine<P, C> {
     /// `Stale`: it isn't held. `OutOfMemory`.
     pub fn set_request(
         &mut self,
-        name: TransactionOrSpanKey,
+        span: TransactionOrSpanKey,
         request: Request,
     ) -> Result<Out<()>, Refusal>
-        ensures { Does self.old self.new result (setters.set_request name request) }
+        ensures { Does self.old self.new result (setters.set_request span request) }
     {
-        setters::set_request(&mut self.state, name, request)
+        setters::set_request(&mut self.state, span, request)
     }
 
     /// Sets what created a transaction, also of one that is finished.
@@ -207,10 +208,10 @@ impl<P: Drop, C: Callbacks> Engine<P, C> {
     /// The status of a transaction or a span, if it has one. It takes no memory.
     ///
     /// `Stale`: it isn't held.
-    pub fn get_status(&self, name: TransactionOrSpanKey) -> Result<Out<Option<SpanStatus>>, Refusal>
-        ensures { DoesWithoutMemory self.now self.now result (reads.get_status name) }
+    pub fn get_status(&self, span: TransactionOrSpanKey) -> Result<Out<Option<SpanStatus>>, Refusal>
+        ensures { DoesWithoutMemory self.now self.now result (reads.get_status span) }
     {
-        reads::get_status(&self.state, name)
+        reads::get_status(&self.state, span)
     }
 
     /// The place of a transaction in its trace, with its operation, status, origin and data. That of a span is its
@@ -219,11 +220,11 @@ impl<P: Drop, C: Callbacks> Engine<P, C> {
     /// `Stale`: it isn't held. `OutOfMemory`.
     pub fn get_trace_context(
         &self,
-        name: TransactionOrSpanKey,
+        span: TransactionOrSpanKey,
     ) -> Result<Out<TraceContext>, Refusal>
-        ensures { Does self.now self.now result (reads.get_trace_context name) }
+        ensures { Does self.now self.now result (reads.get_trace_context span) }
     {
-        reads::get_trace_context(&self.state, name)
+        reads::get_trace_context(&self.state, span)
     }
 
     /// The id of a span. It takes no memory.
@@ -238,29 +239,29 @@ impl<P: Drop, C: Callbacks> Engine<P, C> {
     /// A copy of the data of a transaction or a span. A transaction has none once it is finished.
     ///
     /// `Stale`: it isn't held. `OutOfMemory`.
-    pub fn data(&self, name: TransactionOrSpanKey) -> Result<Out<ValueMap>, Refusal>
-        ensures { Does self.now self.now result (reads.read_data name) }
+    pub fn data(&self, span: TransactionOrSpanKey) -> Result<Out<ValueMap>, Refusal>
+        ensures { Does self.now self.now result (reads.read_data span) }
     {
-        reads::data(&self.state, name)
+        reads::data(&self.state, span)
     }
 
     /// The headers that pass the trace on to the next service, from a transaction or a span.
     ///
     /// `Stale`: it isn't held. `OutOfMemory`.
-    pub fn iter_headers(&self, name: TransactionOrSpanKey) -> Result<Out<TraceHeadersIter>, Refusal>
-        ensures { Does self.now self.now result (reads.iter_headers name) }
+    pub fn iter_headers(&self, span: TransactionOrSpanKey) -> Result<Out<TraceHeadersIter>, Refusal>
+        ensures { Does self.now self.now result (reads.iter_headers span) }
     {
-        reads::iter_headers(&self.state, name)
+        reads::iter_headers(&self.state, span)
     }
 
     /// Whether a transaction or a span is sampled: tracing was enabled when the transaction started, and it was
     /// sampled. It takes no memory.
     ///
     /// `Stale`: it isn't held.
-    pub fn is_sampled(&self, name: TransactionOrSpanKey) -> Result<Out<bool>, Refusal>
-        ensures { DoesWithoutMemory self.now self.now result (reads.is_sampled name) }
+    pub fn is_sampled(&self, span: TransactionOrSpanKey) -> Result<Out<bool>, Refusal>
+        ensures { DoesWithoutMemory self.now self.now result (reads.is_sampled span) }
     {
-        reads::is_sampled(&self.state, name)
+        reads::is_sampled(&self.state, span)
     }
 
     /// Finishes a transaction at a moment in nanoseconds since the epoch, under the top scope of a hub. One that was
@@ -274,7 +275,7 @@ impl<P: Drop, C: Callbacks> Engine<P, C> {
         hub: HubKey,
         moment: u64,
     ) -> Result<Out<()>, Refusal>
-        ensures { Does self.old self.new result (spans.finish_transaction C.meanings transaction hub moment) }
+        ensures { Does self.old self.new result (spans.finish_transaction transaction hub moment) }
     {
         finishes::finish_transaction(&mut self.state, transaction, hub, moment)
     }
@@ -293,10 +294,40 @@ impl<P: Drop, C: Callbacks> Engine<P, C> {
     ///
     /// `Stale`: it isn't held. `StillNamed`: a layer of a hub names it, or a span that is held belongs to the
     /// transaction.
-    pub fn discard(&mut self, name: TransactionOrSpanKey) -> Result<Out<()>, Refusal>
-        ensures { DoesWithoutMemory self.old self.new result (discards.discard name) }
+    pub fn discard(&mut self, span: TransactionOrSpanKey) -> Result<Out<()>, Refusal>
+        ensures { DoesWithoutMemory self.old self.new result (discards.discard span) }
     {
-        discards::discard(&mut self.state, name)
+        discards::discard(&mut self.state, span)
+    }
+
+    /// Finishes a transaction, as `finish_transaction` does, and then forgets it, as `discard` does. The reply is the answer
+    /// of the discard: `StillNamed`, if a layer of a hub names the transaction, or a span of it is held. It is finished
+    /// then, and stays.
+    ///
+    /// `Stale`: the transaction isn't held, or the hub isn't. `OutOfMemory`.
+    pub fn end_transaction(
+        &mut self,
+        transaction: TransactionKey,
+        hub: HubKey,
+        moment: u64,
+    ) -> Result<Out<Result<(), Refusal>>, Refusal>
+        ensures { Does self.old self.new result (ends.end_transaction transaction hub moment) }
+    {
+        ends::end_transaction(&mut self.state, transaction, hub, moment)
+    }
+
+    /// Finishes a span, as `finish_span` does, and then forgets it, as `discard` does. The reply is the answer of the
+    /// discard: `StillNamed`, if a layer of a hub names the span, which is finished then, and stays.
+    ///
+    /// `Stale`: the span isn't held. `OutOfMemory`.
+    pub fn end_span(
+        &mut self,
+        span: SpanKey,
+        moment: u64,
+    ) -> Result<Out<Result<(), Refusal>>, Refusal>
+        ensures { Does self.old self.new result (ends.end_span span moment) }
+    {
+        ends::end_span(&mut self.state, span, moment)
     }
 
     /// Makes one call on transactions and spans, by the method of its name.

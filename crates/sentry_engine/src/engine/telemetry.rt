@@ -5,8 +5,8 @@ ghost use Rattle.sentry_calls.specs.Telemetry as call;
 use crate::engine::{Engine, Out};
 use sentry_base::protocol::{ClientKey, HubKey, Log, MetricDraft, Refusal};
 use sentry_options::clientoptions::Callbacks;
-use sentry_queues::telemetry::{client_log, client_metric, keep_log, keep_metric};
 use sentry_scope::scope::Scope;
+use sentry_telemetry::telemetry::{client_log, client_metric, keep_log, keep_metric};
 
 impl<P: Drop, C: Callbacks> Engine<P, C> {
     /// Captures a log of a client, under a scope: it gets what the scope and the client fill in, goes through
@@ -32,7 +32,7 @@ impl<P: Drop, C: Callbacks> Engine<P, C> {
             return Err(Refusal::Stale);
         }
         let label = held.label;
-        let made = client_log(self.state.alloc, held, self.state.span_table(), scope, log)?;
+        let made = client_log(held, self.state.span_table(), scope, log)?;
         let sent = keep_log(&mut self.state, client, label, made)?;
         Ok(Out { reply: (), sent })
     }
@@ -59,7 +59,7 @@ impl<P: Drop, C: Callbacks> Engine<P, C> {
         }
         let label = held.label;
         let spans = self.state.span_table();
-        let made = client_metric(self.state.alloc, held, spans, scope, now, draft)?;
+        let made = client_metric(held, spans, scope, now, draft)?;
         let sent = keep_metric(&mut self.state, client, label, made)?;
         Ok(Out { reply: (), sent })
     }
@@ -83,7 +83,7 @@ impl<P: Drop, C: Callbacks> Engine<P, C> {
         };
         let label = client.label;
         let (spans, scope) = (self.state.span_table(), &held.stack.top.scope);
-        let made = client_log(self.state.alloc, client, spans, scope, log)?;
+        let made = client_log(client, spans, scope, log)?;
         let sent = keep_log(&mut self.state, key, label, made)?;
         Ok(Out { reply: (), sent })
     }
@@ -112,7 +112,7 @@ impl<P: Drop, C: Callbacks> Engine<P, C> {
         };
         let label = client.label;
         let (spans, scope) = (self.state.span_table(), &held.stack.top.scope);
-        let made = client_metric(self.state.alloc, client, spans, scope, now, draft)?;
+        let made = client_metric(client, spans, scope, now, draft)?;
         let sent = keep_metric(&mut self.state, key, label, made)?;
         Ok(Out { reply: (), sent })
     }

@@ -54,7 +54,9 @@ impl<L: CoreLock> Hub<L> {
         self.lock().capture_metric(draft, now)
     }
 
-    /// Starts a transaction under the client of the top layer. Without a client it is finished from the start.
+    /// Starts a transaction under the client of the top layer. Without a client it is finished from the start. A program
+    /// that forgets to discard it leaves it in the core for as long as that lasts, also once it is finished:
+    /// `in_transaction` discards it.
     ///
     /// `Stale`: the hub isn't held. `Full`: the numbers are used up. `OutOfMemory`.
     pub fn start_transaction(

@@ -121,7 +121,8 @@ impl Display for PopScopeError {
 impl Error for PopScopeError {}
 
 impl<L: CoreLock> Hub<L> {
-    /// Pushes a copy of the top layer. The guard stands for the new layer.
+    /// Pushes a copy of the top layer. The guard stands for the new layer. A program that forgets to pop the layer leaves
+    /// it on the hub, which then can't be released: `with_scope` and `in_scope` pop it.
     ///
     /// `Stale`: the hub isn't held. `OutOfMemory`.
     pub fn push_scope(&self) -> Result<ScopeGuard, Refusal> {

@@ -3,8 +3,8 @@ ghost use Rattle.std.specs.Prelude.{◌≡◌, ◌⊎◌, IfOk, IfSome, OnErr};
 ghost use Rattle.sentry_thread_hub.specs.Lends.{AnswersLent};
 
 use crate::hub::Hub;
+use sentry_base::clock::Clock;
 use sentry_base::protocol::Refusal;
-use sentry_clock::Clock;
 use sentry_lock::core_lock::CoreLock;
 use sentry_thread_hub::hub_switch_guard::run_with;
 use sentry_thread_hub::thread_hub::ThreadHub;

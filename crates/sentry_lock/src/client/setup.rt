@@ -3,10 +3,10 @@
 ghost use Rattle.std.specs.Prelude.{◌≡◌};
 ghost use Rattle.sentry_base.specs.Losses.{no_losses};
 
-use crate::transport::TransportOptions;
 use sentry_base::protocol::{Label, Refusal};
 use sentry_client_reports::client_reports::{CountedDrainer, LossWords, Recorder};
 use sentry_options::clientoptions::ClientOptions;
+use sentry_transport::transport::TransportOptions;
 use std::alloc::Global;
 
 /// What a client is made of: its options, its label, and the words of its losses, from which nothing was drained.

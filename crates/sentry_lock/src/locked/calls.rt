@@ -5,10 +5,10 @@ ghost use Rattle.sentry_calls.specs.Steps.{step, takes_no_memory};
 ghost use Rattle.sentry_state.specs.Outcomes.{DoesWith};
 ghost use Rattle.sentry_state.specs.declared.state.State.{State};
 ghost use Rattle.sentry_lock.specs.Locked.{DrainsFor, ForgetsDropped};
-ghost use Rattle.sentry_lock.specs.Plain.{is_plain_call, can_hand_out, client_call_can_hand_out, hub_call_can_hand_out};
+ghost use Rattle.sentry_lock.specs.ValueCalls.{is_ordinary_call, can_hand_out, client_call_can_hand_out, hub_call_can_hand_out};
 ghost use Rattle.sentry_lock.specs.Words.{Drainers};
 
-use crate::handed::{Handed, Transports};
+use crate::handed::{Handed, Routes, Transports};
 use crate::locked::Core;
 use sentry_base::callbacks::EventCallback;
 use sentry_base::protocol::Refusal;
@@ -66,12 +66,12 @@ impl<P: EventCallback + Drop, C: Callbacks, T: Drop> Core<P, C, T> {
         if !can_hand_out(call) {
             return Ok(None);
         }
-        Ok(Some(self.transports.clone()?))
+        Ok(Some(self.routes.transports.clone()?))
     }
 
     // Makes one call of the engine.
     fn apply_call(&mut self, call: Call<P, C>) -> Answer<P, C>
-        requires { is_plain_call call ≡ true }
+        requires { is_ordinary_call call ≡ true }
         ensures does { DoesWith (takes_no_memory call) self.old.engine self.new.engine result (step P.gives C.meanings call) }
         ensures silent { IfOk result (λ out. can_hand_out call ≡ false → out.sent ≡ []) }
         ensures drainers { self.new.drainers ≡ self.old.drainers }
@@ -81,7 +81,7 @@ impl<P: EventCallback + Drop, C: Callbacks, T: Drop> Core<P, C, T> {
 
     // Makes one call, which isn't made by a method of its own, and before which the losses were drained.
     fn apply(&mut self, call: Call<P, C>) -> Result<Handed<Reply<P, C>, T>, Refusal>
-        requires { is_plain_call call ≡ true }
+        requires { is_ordinary_call call ≡ true }
         ensures done { IfOk result (λ handed. DoesWith (takes_no_memory call) self.old.engine self.new.engine
             (Ok handed.out) (step P.gives C.meanings call)) }
         ensures silent { IfOk result (λ handed. can_hand_out call ≡ false → handed.out.sent ≡ []) }
@@ -95,7 +95,7 @@ impl<P: EventCallback + Drop, C: Callbacks, T: Drop> Core<P, C, T> {
         let dropped = self.dropped_label(&call);
         let out = self.apply_call(call)?;
         if let Some(after) = after {
-            self.transports = after;
+            self.routes = Routes::by(after);
         }
         self.forget_dropped(dropped);
         Ok(Handed { out, transports })
@@ -118,7 +118,7 @@ impl<P: EventCallback + Drop, C: Callbacks, T: Drop> Core<P, C, T> {
         &mut self,
         call: Call<P, C>,
     ) -> Result<Handed<Reply<P, C>, T>, Refusal>
-        requires { is_plain_call call ≡ true }
+        requires { is_ordinary_call call ≡ true }
         ensures done { IfOk result (λ handed. (between : State P C) × (drained : Drainers)
             × DrainsFor (can_hand_out call) self.old.tag self.old.engine between self.old.drainers drained
             × DoesWith (takes_no_memory call) between self.new.engine (Ok handed.out) (step P.gives C.meanings call)

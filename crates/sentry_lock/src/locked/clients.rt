@@ -10,11 +10,11 @@ ghost use Rattle.sentry_plain.specs.Tables.{value_at, put, replace_at};
 ghost use Rattle.sentry_state.specs.Books.{has_book};
 ghost use Rattle.sentry_state.specs.Outcomes.{Does};
 ghost use Rattle.sentry_state.specs.Worlds.{World, Stands};
-ghost use Rattle.sentry_lock.specs.Plain.{dropped_label};
+ghost use Rattle.sentry_lock.specs.ValueCalls.{dropped_label};
 ghost use Rattle.sentry_lock.specs.Words.{AddsDrainer};
 
 use crate::client::ClientSetup;
-use crate::handed::Transports;
+use crate::handed::{Routes, Transports};
 use crate::locked::Core;
 use sentry_base::callbacks::EventCallback;
 use sentry_base::protocol::{ClientKey, Label, Refusal};
@@ -94,13 +94,13 @@ impl<P: EventCallback + Drop, C: Callbacks, T: Drop> Core<P, C, T> {
         };
         match call {
             ClientCall::CloneClient { client, now: _ } => {
-                let share = share_at(&self.transports, client.number)?;
+                let share = share_at(&self.routes.transports, client.number)?;
                 let number = self.engine.next_client();
-                Ok(Some(with_transport(self.alloc, &self.transports, number, share)?))
+                Ok(Some(with_transport(self.alloc, &self.routes.transports, number, share)?))
             }
             ClientCall::DropClient(client) => Ok(Some(without_transport(
                 self.alloc,
-                &self.transports,
+                &self.routes.transports,
                 client.number,
             )?)),
             _ => Ok(None),
@@ -192,10 +192,10 @@ impl<P: EventCallback + Drop, C: Callbacks, T: Drop> Core<P, C, T> {
         if number == u64::MAX {
             return Err(Refusal::Full);
         }
-        let transports = with_transport(self.alloc, &self.transports, number, share)?;
+        let transports = with_transport(self.alloc, &self.routes.transports, number, share)?;
         self.make_place(label.number)?;
         let out = self.add_at_place(options, has_transport, label, drainer, now)?;
-        self.transports = transports;
+        self.routes = Routes::by(transports);
         Ok(out)
     }
 

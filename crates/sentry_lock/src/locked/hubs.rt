@@ -1,11 +1,12 @@
 //! Calls on hubs that are made by methods of their own: no value of a call or of a reply is made for them.
 
 ghost use Rattle.std.specs.Prelude.{◌≡◌, Ok, IfOk, IfErr};
+ghost use Rattle.sentry_calls.specs.Active.{if_active};
 ghost use Rattle.sentry_calls.specs.Hubs as hubs;
 ghost use Rattle.sentry_calls.specs.Layers as layers;
 ghost use Rattle.sentry_calls.specs.Sessions as sessions;
 ghost use Rattle.sentry_calls.specs.Telemetry as telemetry;
-ghost use Rattle.sentry_captures.specs.Captures as captures;
+ghost use Rattle.sentry_events.specs.Captures as captures;
 ghost use Rattle.sentry_state.specs.Breadcrumbs.{add_breadcrumbs};
 ghost use Rattle.sentry_lock.specs.Locked.{DrainsAll, DrainsAndDoes, Replies, RepliesWithoutMemory};
 
@@ -147,12 +148,27 @@ impl<P: EventCallback + Drop, C: Callbacks, T: Drop> Core<P, C, T> {
         ensures refused { IfErr result (λ _.
             DrainsAll self.old.tag self.old.engine self.new.engine self.old.drainers self.new.drainers) }
     {
-        let transports = self.drained()?;
+        self.drain_and_make_ready()?;
         let out = self.engine.start_session(hub, fresh)?;
-        Ok(Handed {
-            out,
-            transports: Some(transports),
-        })
+        let transports = self.routes.take_for(&out.sent);
+        Ok(Handed { out, transports })
+    }
+
+    /// The same, if the hub is active.
+    pub(crate) fn start_active_session(
+        &mut self,
+        hub: HubKey,
+        fresh: Fresh,
+    ) -> Result<Handed<(), T>, Refusal>
+        ensures done { IfOk result (λ handed. DrainsAndDoes self.old.tag self.old.engine self.new.engine
+            self.old.drainers self.new.drainers (Ok handed.out) (if_active hub (sessions.start_session hub fresh))) }
+        ensures refused { IfErr result (λ _.
+            DrainsAll self.old.tag self.old.engine self.new.engine self.old.drainers self.new.drainers) }
+    {
+        self.drain_and_make_ready()?;
+        let out = self.engine.start_active_session(hub, fresh)?;
+        let transports = self.routes.take_for(&out.sent);
+        Ok(Handed { out, transports })
     }
 
     /// Ends the session of a hub with a status.
@@ -167,12 +183,28 @@ impl<P: EventCallback + Drop, C: Callbacks, T: Drop> Core<P, C, T> {
         ensures refused { IfErr result (λ _.
             DrainsAll self.old.tag self.old.engine self.new.engine self.old.drainers self.new.drainers) }
     {
-        let transports = self.drained()?;
+        self.drain_and_make_ready()?;
         let out = self.engine.end_session_with_status(hub, status, now)?;
-        Ok(Handed {
-            out,
-            transports: Some(transports),
-        })
+        let transports = self.routes.take_for(&out.sent);
+        Ok(Handed { out, transports })
+    }
+
+    /// The same, if the hub is active.
+    pub(crate) fn end_active_session(
+        &mut self,
+        hub: HubKey,
+        status: SessionStatus,
+        now: u64,
+    ) -> Result<Handed<(), T>, Refusal>
+        ensures done { IfOk result (λ handed. DrainsAndDoes self.old.tag self.old.engine self.new.engine
+            self.old.drainers self.new.drainers (Ok handed.out) (if_active hub (sessions.end_session_with_status hub status now))) }
+        ensures refused { IfErr result (λ _.
+            DrainsAll self.old.tag self.old.engine self.new.engine self.old.drainers self.new.drainers) }
+    {
+        self.drain_and_make_ready()?;
+        let out = self.engine.end_active_session(hub, status, now)?;
+        let transports = self.routes.take_for(&out.sent);
+        Ok(Handed { out, transports })
     }
 
     /// Gives a hub back.

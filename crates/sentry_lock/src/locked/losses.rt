@@ -6,12 +6,12 @@ ghost use Rattle.sentry_base.specs.declared.protocol.keys.ClientKey.{ClientKey};
 ghost use Rattle.sentry_calls.specs.Losses.{take_report};
 ghost use Rattle.sentry_state.specs.Outcomes.{Does};
 ghost use Rattle.sentry_state.specs.Worlds.{World, Stands};
-ghost use Rattle.sentry_lock.specs.Locked.{Absorbs, DrainsAll, DrainsAndAbsorbs, DrainsEach, DrainsNext, EndsAndAbsorbs, FindsNoWords, ForgetsUnused, IsHeld};
+ghost use Rattle.sentry_lock.specs.Locked.{Absorbs, DrainsAll, DrainsAndAbsorbs, DrainsEach, DrainsIfOpen, DrainsNext, EndsAndAbsorbs, FindsNoWords, ForgetsUnused, IsHeld};
 ghost use Rattle.sentry_lock.specs.Words.{AreZero, HasOpenWords};
 
 use crate::handed::Transports;
 use crate::locked::Core;
-use crate::words::{StillHeld, drain_words, end_words};
+use crate::words::{StillHeld, drain_words, drain_words_into, end_words};
 use sentry_base::callbacks::EventCallback;
 use sentry_base::protocol::{ClientReport, LOSS_QUANTITIES, Label, Losses, Refusal};
 use sentry_engine::engine::Engine;
@@ -66,6 +66,22 @@ impl<P: EventCallback + Drop, C: Callbacks, T: Drop> Core<P, C, T> {
         Ok(Some(drained))
     }
 
+    // The same, where nothing waits to know what was drained: if nothing was, no losses are looked at.
+    fn drain_label(&mut self, label: Label)
+        ensures drained { DrainsIfOpen label self.old.engine self.new.engine self.old.drainers self.new.drainers }
+        ensures tag { self.new.tag ≡ self.old.tag }
+    {
+        if !self.engine.has_book(label) {
+            return;
+        }
+        let Some(up) = drain_words_into(&mut self.drainers, label.number, &mut self.drained) else {
+            return;
+        };
+        if up {
+            absorb_held(&mut self.engine, label, &self.drained);
+        }
+    }
+
     // Drains and absorbs for the label of the least number above another, or of the least of all, and answers that number;
     // `None` if there is no more.
     fn drain_next(&mut self, last: Option<u64>) -> Option<u64>
@@ -79,10 +95,10 @@ impl<P: EventCallback + Drop, C: Callbacks, T: Drop> Core<P, C, T> {
         let Some(number) = self.drainers.next_number(last) else {
             return None;
         };
-        drop(self.drain_and_absorb(Label {
+        self.drain_label(Label {
             tag: self.tag,
             number,
-        }));
+        });
         Some(number)
     }
 
@@ -100,14 +116,22 @@ impl<P: EventCallback + Drop, C: Callbacks, T: Drop> Core<P, C, T> {
         }
     }
 
-    /// Drains the words of all labels, and takes a share of the transports: what a call that can hand out envelopes does
-    /// before the engine's call, after which nothing may fail.
+    /// Drains the words of all labels, and sees to it that a share of the transports lies ready: what a call that can hand
+    /// out envelopes does before the engine's call, after which nothing may fail.
     #[tactic(auto, unfolding(crate::specs::Locked::DrainsAll))]
-    pub(super) fn drained(&mut self) -> Result<Transports<T>, AllocError>
+    pub(super) fn drain_and_make_ready(&mut self) -> Result<(), AllocError>
         ensures { DrainsAll self.old.tag self.old.engine self.new.engine self.old.drainers self.new.drainers }
     {
         self.drain_all();
-        let transports = self.transports.clone()?;
+        self.routes.make_ready()
+    }
+
+    /// The same, with a share of the transports for a call that mostly hands out envelopes.
+    pub(super) fn drained(&mut self) -> Result<Transports<T>, AllocError>
+        ensures { DrainsAll self.old.tag self.old.engine self.new.engine self.old.drainers self.new.drainers }
+    {
+        self.drain_and_make_ready()?;
+        let transports = self.routes.transports.clone()?;
         Ok(transports)
     }
 

@@ -3,6 +3,7 @@
 ghost use Rattle.std.specs.Prelude.{◌≡◌, Ok, IfOk, IfErr};
 ghost use Rattle.sentry_span_edits.specs.Discards as discards;
 ghost use Rattle.sentry_span_edits.specs.Setters as setters;
+ghost use Rattle.sentry_spans.specs.Ends as ends;
 ghost use Rattle.sentry_spans.specs.Spans as spans;
 ghost use Rattle.sentry_lock.specs.Locked.{DrainsAll, DrainsAndDoes, Replies, RepliesWithoutMemory};
 
@@ -109,7 +110,7 @@ impl<P: EventCallback + Drop, C: Callbacks, T: Drop> Core<P, C, T> {
         moment: u64,
     ) -> Result<Handed<(), T>, Refusal>
         ensures done { IfOk result (λ handed. DrainsAndDoes self.old.tag self.old.engine self.new.engine
-            self.old.drainers self.new.drainers (Ok handed.out) (spans.finish_transaction C.meanings transaction hub moment)) }
+            self.old.drainers self.new.drainers (Ok handed.out) (spans.finish_transaction transaction hub moment)) }
         ensures refused { IfErr result (λ _.
             DrainsAll self.old.tag self.old.engine self.new.engine self.old.drainers self.new.drainers) }
     {
@@ -122,45 +123,80 @@ impl<P: EventCallback + Drop, C: Callbacks, T: Drop> Core<P, C, T> {
     }
 
     /// Forgets a transaction or a span.
-    pub(crate) fn discard(&mut self, name: TransactionOrSpanKey) -> Result<(), Refusal>
+    pub(crate) fn discard(&mut self, span: TransactionOrSpanKey) -> Result<(), Refusal>
         ensures done { IfOk result (λ reply. RepliesWithoutMemory self.old.engine self.new.engine reply
-            (discards.discard name)) }
+            (discards.discard span)) }
         ensures refused { IfErr result (λ _. self.new.engine ≡ self.old.engine) }
         ensures drainers { self.new.drainers ≡ self.old.drainers }
     {
-        let out = self.engine.discard(name)?;
+        let out = self.engine.discard(span)?;
         Ok(out.reply)
+    }
+
+    /// Finishes a span, and then forgets it.
+    pub(crate) fn end_span(
+        &mut self,
+        span: SpanKey,
+        moment: u64,
+    ) -> Result<Result<(), Refusal>, Refusal>
+        ensures done { IfOk result (λ reply. Replies self.old.engine self.new.engine reply
+            (ends.end_span span moment)) }
+        ensures refused { IfErr result (λ _. self.new.engine ≡ self.old.engine) }
+        ensures drainers { self.new.drainers ≡ self.old.drainers }
+    {
+        let out = self.engine.end_span(span, moment)?;
+        Ok(out.reply)
+    }
+
+    /// Finishes a transaction under the top scope of a hub, and then forgets it.
+    pub(crate) fn end_transaction(
+        &mut self,
+        transaction: TransactionKey,
+        hub: HubKey,
+        moment: u64,
+    ) -> Result<Handed<Result<(), Refusal>, T>, Refusal>
+        ensures done { IfOk result (λ handed. DrainsAndDoes self.old.tag self.old.engine self.new.engine
+            self.old.drainers self.new.drainers (Ok handed.out) (ends.end_transaction transaction hub moment)) }
+        ensures refused { IfErr result (λ _.
+            DrainsAll self.old.tag self.old.engine self.new.engine self.old.drainers self.new.drainers) }
+    {
+        let transports = self.drained()?;
+        let out = self.engine.end_transaction(transaction, hub, moment)?;
+        Ok(Handed {
+            out,
+            transports: Some(transports),
+        })
     }
 
     /// Sets data of a transaction or a span.
     pub(crate) fn set_data(
         &mut self,
-        name: TransactionOrSpanKey,
+        span: TransactionOrSpanKey,
         key: &str,
         value: Value,
     ) -> Result<(), Refusal>
         ensures done { IfOk result (λ reply. Replies self.old.engine self.new.engine reply
-            (setters.set_data name key.now value)) }
+            (setters.set_data span key.now value)) }
         ensures refused { IfErr result (λ _. self.new.engine ≡ self.old.engine) }
         ensures drainers { self.new.drainers ≡ self.old.drainers }
     {
-        let out = self.engine.set_data(name, key, value)?;
+        let out = self.engine.set_data(span, key, value)?;
         Ok(out.reply)
     }
 
     /// Sets a tag of a transaction or a span.
     pub(crate) fn set_tag(
         &mut self,
-        name: TransactionOrSpanKey,
+        span: TransactionOrSpanKey,
         key: &str,
         value: &str,
     ) -> Result<(), Refusal>
         ensures done { IfOk result (λ reply. Replies self.old.engine self.new.engine reply
-            (setters.set_tag name key.now value.now)) }
+            (setters.set_tag span key.now value.now)) }
         ensures refused { IfErr result (λ _. self.new.engine ≡ self.old.engine) }
         ensures drainers { self.new.drainers ≡ self.old.drainers }
     {
-        let out = self.engine.set_tag(name, key, value)?;
+        let out = self.engine.set_tag(span, key, value)?;
         Ok(out.reply)
     }
 
@@ -183,52 +219,52 @@ impl<P: EventCallback + Drop, C: Callbacks, T: Drop> Core<P, C, T> {
     /// Sets the status of a transaction or a span.
     pub(crate) fn set_status(
         &mut self,
-        name: TransactionOrSpanKey,
+        span: TransactionOrSpanKey,
         status: SpanStatus,
     ) -> Result<(), Refusal>
         ensures done { IfOk result (λ reply. Replies self.old.engine self.new.engine reply
-            (setters.set_status name status)) }
+            (setters.set_status span status)) }
         ensures refused { IfErr result (λ _. self.new.engine ≡ self.old.engine) }
         ensures drainers { self.new.drainers ≡ self.old.drainers }
     {
-        let out = self.engine.set_status(name, status)?;
+        let out = self.engine.set_status(span, status)?;
         Ok(out.reply)
     }
 
     /// Sets the operation of a transaction or a span.
-    pub(crate) fn set_op(&mut self, name: TransactionOrSpanKey, op: &str) -> Result<(), Refusal>
+    pub(crate) fn set_op(&mut self, span: TransactionOrSpanKey, op: &str) -> Result<(), Refusal>
         ensures done { IfOk result (λ reply. Replies self.old.engine self.new.engine reply
-            (setters.set_op name op.now)) }
+            (setters.set_op span op.now)) }
         ensures refused { IfErr result (λ _. self.new.engine ≡ self.old.engine) }
         ensures drainers { self.new.drainers ≡ self.old.drainers }
     {
-        let out = self.engine.set_op(name, op)?;
+        let out = self.engine.set_op(span, op)?;
         Ok(out.reply)
     }
 
     /// Sets the name of a transaction, or the description of a span.
-    pub(crate) fn set_name(&mut self, name: TransactionOrSpanKey, text: &str) -> Result<(), Refusal>
+    pub(crate) fn set_name(&mut self, span: TransactionOrSpanKey, name: &str) -> Result<(), Refusal>
         ensures done { IfOk result (λ reply. Replies self.old.engine self.new.engine reply
-            (setters.set_name name text.now)) }
+            (setters.set_name span name.now)) }
         ensures refused { IfErr result (λ _. self.new.engine ≡ self.old.engine) }
         ensures drainers { self.new.drainers ≡ self.old.drainers }
     {
-        let out = self.engine.set_name(name, text)?;
+        let out = self.engine.set_name(span, name)?;
         Ok(out.reply)
     }
 
     /// Sets the request of a transaction, or the data that a span has of one.
     pub(crate) fn set_request(
         &mut self,
-        name: TransactionOrSpanKey,
+        span: TransactionOrSpanKey,
         request: Request,
     ) -> Result<(), Refusal>
         ensures done { IfOk result (λ reply. Replies self.old.engine self.new.engine reply
-            (setters.set_request name request)) }
+            (setters.set_request span request)) }
         ensures refused { IfErr result (λ _. self.new.engine ≡ self.old.engine) }
         ensures drainers { self.new.drainers ≡ self.old.drainers }
     {
-        let out = self.engine.set_request(name, request)?;
+        let out = self.engine.set_request(span, request)?;
         Ok(out.reply)
     }
 

@@ -3,7 +3,7 @@ ghost use Rattle.std.specs.Prelude.{◌≡◌, ◌∷◌, List, IfOk, OnOk, OnEr
 ghost use Rattle.std.specs.Option.{option_or};
 ghost use Rattle.sentry_sessions.specs.declared.session.record.SessionStart.{SessionStart};
 ghost use Rattle.sentry_sessions.specs.Sessions.{SessionEntry, event_reached, handed_out, closed};
-ghost use Rattle.sentry_sessions.specs.Sessions.{session_of, new_session, update_of, pending_update, hand_out, start_of};
+ghost use Rattle.sentry_sessions.specs.Sessions.{session_of, new_session, update_of, pending_update, hand_out, start_of, session_attributes};
 ghost use Rattle.sentry_sessions.specs.Sessions.{closing_status, distinct_id_of};
 ghost use Rattle.sentry_sessions.specs.SessionSteps as steps;
 
@@ -54,61 +54,69 @@ fn closing_status(status: Option<SessionStatus>) -> SessionStatus
     }
 }
 
+/// What the sessions of a client with these options have, or `None` if the options have no release.
+pub fn session_attributes(
+    alloc: Global,
+    options: &PlainOptions,
+) -> Result<Option<Shared<SessionAttributes>>, AllocError>
+    ensures { IfOk result (λ attributes. attributes ≡ session_attributes options.now) }
+{
+    let Some(release) = &options.release else {
+        return Ok(None);
+    };
+    let attributes = SessionAttributes {
+        release: release.clone()?,
+        environment: options.environment.clone()?,
+    };
+    let share = Shared::new(alloc, attributes)?;
+    Ok(Some(share))
+}
+
 impl SessionStart {
-    // The start of a session under a client with this release.
+    // The start of a session, which shares the attributes.
     fn new(
         client: ClientKey,
-        options: &PlainOptions,
+        attributes: &Shared<SessionAttributes>,
         user: Option<&User>,
         session_id: Uuid,
         now: u64,
-    ) -> Result<Option<SessionStart>, AllocError>
+    ) -> Result<SessionStart, AllocError>
         ensures { IfOk result (λ start.
-            start ≡ start_of client options.now (option_copied user.entry) session_id now) }
+            start ≡ start_of client attributes.now (option_copied user.entry) session_id now) }
     {
-        let Some(release) = &options.release else {
-            return Ok(None);
-        };
-        let attributes = SessionAttributes {
-            release: release.clone()?,
-            environment: options.environment.clone()?,
-        };
-        Ok(Some(SessionStart {
+        Ok(SessionStart {
             client,
             session_id,
             distinct_id: distinct_id_of(user)?,
             started: now,
-            attributes,
-        }))
+            attributes: attributes.clone()?,
+        })
     }
 }
 
 impl Session {
-    /// Starts a session at a moment, in nanoseconds since the epoch, under a client with these options. Its distinct id
-    /// is the user's id, or else the email, or else the name. Returns `None` if the options have no release.
+    /// Starts a session at a moment, in nanoseconds since the epoch, under a client whose sessions have these
+    /// attributes, which it shares. Its distinct id is the user's id, or else the email, or else the name.
     #[tactic(auto, unfolding(crate::specs::Sessions::session_of))]
     pub fn from_stack(
-        alloc: Global,
         client: ClientKey,
-        options: &PlainOptions,
+        attributes: &Shared<SessionAttributes>,
         user: Option<&User>,
         session_id: Uuid,
         now: u64,
-    ) -> Result<Option<Session>, AllocError>
+    ) -> Result<Session, AllocError>
         ensures { IfOk result (λ session.
-            session ≡ new_session client options.now (option_copied user.entry) session_id now) }
+            session ≡ new_session client attributes.now (option_copied user.entry) session_id now) }
     {
-        let Some(start) = SessionStart::new(client, options, user, session_id, now)? else {
-            return Ok(None);
-        };
-        Ok(Some(Session {
-            start: Shared::new(alloc, start)?,
+        let start = SessionStart::new(client, attributes, user, session_id, now)?;
+        Ok(Session {
+            start,
             status: SessionStatus::Ok,
             errors: 0,
             duration: None,
             init: true,
             dirty: true,
-        }))
+        })
     }
 
     // Whether the session was closed or has crashed.
@@ -170,7 +178,7 @@ impl Session {
     pub fn update(&self) -> Result<SessionUpdate, AllocError>
         ensures { IfOk result (λ update. update ≡ update_of self.now) }
     {
-        let start = self.start.get();
+        let start = &self.start;
         Ok(SessionUpdate {
             session_id: start.session_id,
             started: start.started,
@@ -181,6 +189,57 @@ impl Session {
             distinct_id: start.distinct_id.clone()?,
             attributes: start.attributes.clone()?,
         })
+    }
+
+    // The update, if the server doesn't know all.
+    fn pending_update(&self) -> Result<Option<SessionUpdate>, AllocError>
+        ensures { IfOk result (λ update. update ≡ pending_update self.now) }
+    {
+        if !self.dirty {
+            return Ok(None);
+        }
+        let update = self.update()?;
+        Ok(Some(update))
+    }
+
+    // The update of a session that goes on, once it is closed.
+    fn update_at_end(
+        &self,
+        status: Option<SessionStatus>,
+        now: u64,
+    ) -> Result<SessionUpdate, AllocError>
+        ensures { IfOk result (λ update. update ≡ update_of (steps.end_at status now self.now)) }
+    {
+        let start = &self.start;
+        Ok(SessionUpdate {
+            session_id: start.session_id,
+            started: start.started,
+            init: self.init,
+            duration: Some(now.saturating_sub(start.started)),
+            status: closing_status(status),
+            errors: self.errors,
+            distinct_id: start.distinct_id.clone()?,
+            attributes: start.attributes.clone()?,
+        })
+    }
+
+    /// The update that is to be handed out once the session is closed at a moment, in nanoseconds since the epoch, or
+    /// `None` if the server then knows all. The session stays as it is.
+    pub fn closing_update(
+        &self,
+        status: Option<SessionStatus>,
+        now: u64,
+    ) -> Result<Option<SessionUpdate>, AllocError>
+        ensures { IfOk result (λ update. (start : SessionStart) (history : List SessionEntry)
+            → self.now ≡ session_of start history
+            → update ≡ pending_update (session_of start (closed status now ∷ history))) }
+    {
+        if self.has_ended() {
+            let pending = self.pending_update()?;
+            return Ok(pending);
+        }
+        let update = self.update_at_end(status, now)?;
+        Ok(Some(update))
     }
 
     /// Marks the update as handed out.

@@ -1,22 +1,26 @@
 //! The ended sessions of a client that wait to be sent.
-ghost use Rattle.std.specs.Prelude.{◌≡◌, ◌∷◌, ◌++◌, [], List, IfOk, OnOk, OnErr, option_map};
+ghost use Rattle.std.specs.Prelude.{◌≡◌, ◌<◌, ◌≤◌, ◌+◌, ◌∷◌, ◌++◌, [], true, false, List, IfOk, OnOk, OnErr, length, map, option_map, vec_len, vec_capacity};
 ghost use Rattle.sentry_base.specs.declared.protocol.envelope.EnvelopeItem.{EnvelopeItem};
+ghost use Rattle.sentry_base.specs.declared.protocol.envelope.EnvelopeItem.TheVariants as item;
 ghost use Rattle.sentry_options.specs.declared.clientoptions.choices.SessionMode.{SessionMode};
 ghost use Rattle.sentry_sessions.specs.SessionQueues.{Waiting, QueueEntry, enqueued, flushed, queue_of, is_aggregated};
 ghost use Rattle.sentry_sessions.specs.SessionQueues.{aggregates_of, aggregates_items, envelope_if_any};
 ghost use Rattle.sentry_sessions.specs.SessionQueues.{envelopes_of, envelopes_on};
 ghost use Rattle.sentry_sessions.specs.QueueSteps as steps;
+ghost use Rattle.sentry_sessions.specs.TakenSessions.{taken_envelopes, HasRoom};
 
 use crate::session::aggregates::{AggregateCounts, AggregateKey, MAX_INDIVIDUAL};
 use crate::session::counting::{aggregate_items, count};
+use crate::session::taken::TakenSessions;
 use sentry_base::protocol::{
     Envelope, EnvelopeItem, SessionAggregates, SessionAttributes, SessionUpdate,
 };
 use sentry_options::clientoptions::SessionMode;
-use sentry_plain::Items;
+use sentry_plain::{Items, Shared};
 use std::alloc::{AllocError, Global};
 use std::collections::BTreeMap;
 use std::marker::Model;
+use std::mem;
 
 /// The ended sessions of a client that wait to be sent. In the mode `Request` a session of which nothing was sent is
 /// counted, and all counts are sent together; any other update is sent as it is. The hundredth of these sends all that
@@ -25,8 +29,8 @@ pub struct SessionQueue {
     mode: SessionMode,
     counts: BTreeMap<AggregateKey, AggregateCounts>,
     // Those of the first session that is counted.
-    attributes: Option<SessionAttributes>,
-    individual: Items<EnvelopeItem>,
+    attributes: Option<Shared<SessionAttributes>>,
+    individual: Items<SessionUpdate>,
 }
 
 impl Drop for SessionQueue {
@@ -42,6 +46,8 @@ impl Drop for SessionQueue {
 
 impl Model for SessionQueue {
     ghost use Rattle.std.specs.Coded.{codes};
+    ghost use Rattle.std.specs.Prelude.{map};
+    ghost use Rattle.sentry_base.specs.declared.protocol.envelope.EnvelopeItem.TheVariants as item;
     ghost use Rattle.sentry_plain.specs.Values.{data_code};
     ghost use Rattle.sentry_sessions.specs.SessionQueues.{Waiting};
 
@@ -53,8 +59,31 @@ impl Model for SessionQueue {
       mode = a.mode;
       counts = a.counts.entries;
       attributes = a.attributes;
-      individual = a.individual;
+      individual = map item.SessionUpdate a.individual;
     } };
+}
+
+// Puts updates into items, for which there is room.
+fn fill_items(updates: Vec<SessionUpdate>, items: &mut Vec<EnvelopeItem>)
+    requires { vec_len items.old + length updates.items ≤ vec_capacity items.old }
+    ensures items { items.new.items ≡ items.old.items ++ map item.SessionUpdate updates.items }
+    ensures len { vec_len items.new ≡ vec_len items.old + length updates.items }
+    ensures capacity { vec_capacity items.new ≡ vec_capacity items.old }
+{
+    for update in updates {
+        items.push_reserved(EnvelopeItem::SessionUpdate(update));
+    }
+}
+
+// Copies of updates as items, with room for one more.
+fn copied_items(alloc: Global, updates: &[SessionUpdate]) -> Result<Vec<EnvelopeItem>, AllocError>
+    ensures items { IfOk result (λ items. items.items ≡ map item.SessionUpdate updates.now) }
+{
+    let mut items = Vec::with_capacity(alloc, updates.len() + 1)?;
+    for update in updates {
+        items.push(EnvelopeItem::SessionUpdate(update.clone()?))?;
+    }
+    Ok(items)
 }
 
 // An envelope of the items, or no envelope without any.
@@ -118,8 +147,8 @@ impl SessionQueue {
     }
 
     // Whether the next individual update is the one that sends all.
-    fn is_last(&self) -> bool
-        ensures { result ≡ steps.is_last self.now }
+    fn lacks_one(&self) -> bool
+        ensures { result ≡ steps.lacks_one self.now }
     {
         self.individual.len() >= MAX_INDIVIDUAL - 1
     }
@@ -152,6 +181,14 @@ impl SessionQueue {
         }))
     }
 
+    // Copies of the individual updates, as items.
+    fn individual_items(&self) -> Result<Items<EnvelopeItem>, AllocError>
+        ensures { IfOk result (λ items. items ≡ self.now.individual) }
+    {
+        let items = copied_items(self.individual.allocator(), self.individual.as_slice())?;
+        Ok(Items::from_vec(items))
+    }
+
     // The envelopes of what is counted and of these individual updates.
     fn envelopes_with(&self, individual: Items<EnvelopeItem>) -> Result<Items<Envelope>, AllocError>
         ensures { IfOk result (λ envelopes. envelopes
@@ -171,10 +208,59 @@ impl SessionQueue {
     fn envelopes_with_last(&self, update: &SessionUpdate) -> Result<Items<Envelope>, AllocError>
         ensures { IfOk result (λ envelopes. envelopes ≡ envelopes_of (steps.append update.now self.now)) }
     {
-        let mut individual = self.individual.clone()?;
+        let mut individual = self.individual_items()?;
         individual.push(EnvelopeItem::SessionUpdate(update.clone()?))?;
         let envelopes = self.envelopes_with(individual)?;
         Ok(envelopes)
+    }
+
+    // Whether this update is the hundredth that is sent as it is.
+    fn is_hundredth(&self, update: &SessionUpdate) -> bool
+        ensures { result ≡ steps.fills_queue update.now self.now }
+    {
+        !self.is_aggregated(update) && self.lacks_one()
+    }
+
+    // The item that sends the counts, if there are any, with room for one more.
+    fn counted_items(&self) -> Result<Vec<EnvelopeItem>, AllocError>
+        ensures items { IfOk result (λ items. items.items ≡ aggregates_items (aggregates_of self.now)) }
+        ensures room { IfOk result (λ items. vec_len items < vec_capacity items) }
+    {
+        let aggregates = self.aggregates()?;
+        let mut items = aggregates_items(self.individual.allocator(), aggregates)?.into_vec();
+        items.reserve(1)?;
+        Ok(items)
+    }
+
+    // Takes out the individual updates, with room for two more items. If out of memory, nothing has changed.
+    fn take_individual(&mut self) -> Result<Vec<EnvelopeItem>, AllocError>
+        ensures items { IfOk result (λ items. items.items ≡ self.old.individual) }
+        ensures room { IfOk result (λ items. vec_len items + 2 ≤ vec_capacity items) }
+        ensures after { OnOk result (self.new ≡ record self.old { individual = [] }) }
+        ensures err { OnErr result (self.new ≡ self.old) }
+    {
+        let alloc = self.individual.allocator();
+        let mut items = Vec::with_capacity(alloc, self.individual.as_slice().len() + 2)?;
+        let updates = mem::replace(&mut self.individual, Items::new(alloc));
+        fill_items(updates.into_vec(), &mut items);
+        Ok(items)
+    }
+
+    // Takes out all that waits and one more individual update.
+    fn take_with(&mut self, update: SessionUpdate) -> Result<TakenSessions, AllocError>
+        ensures sent { IfOk result (λ taken. taken_envelopes taken ≡ envelopes_of (steps.append update self.old)) }
+        ensures room { IfOk result HasRoom }
+        ensures after { OnOk result (self.new ≡ steps.clear self.old) }
+        ensures unchanged { OnErr result (self.new ≡ self.old) }
+    {
+        let counted = self.counted_items()?;
+        let mut individual = self.take_individual()?;
+        individual.push_reserved(EnvelopeItem::SessionUpdate(update));
+        self.clear();
+        Ok(TakenSessions {
+            counted,
+            individual,
+        })
     }
 
     // The envelopes that this update sends.
@@ -184,7 +270,7 @@ impl SessionQueue {
         if self.is_aggregated(update) {
             return Ok(Items::new(self.individual.allocator()));
         }
-        if !self.is_last() {
+        if !self.lacks_one() {
             return Ok(Items::new(self.individual.allocator()));
         }
         let envelopes = self.envelopes_with_last(update)?;
@@ -199,11 +285,11 @@ impl SessionQueue {
         if self.is_aggregated(&update) {
             return self.aggregate(&update);
         }
-        if self.is_last() {
+        if self.lacks_one() {
             self.clear();
             return Ok(());
         }
-        self.individual.push(EnvelopeItem::SessionUpdate(update))
+        self.individual.push(update)
     }
 
     /// Returns the envelopes that are to be sent when a session ends with this update, at most two: none, unless it is
@@ -227,6 +313,31 @@ impl SessionQueue {
         Ok(())
     }
 
+    /// Whether a session that ends with this update sends all that waits: it is the hundredth individual update since the
+    /// last flush.
+    pub fn fills_queue(&self, update: &SessionUpdate) -> bool
+        ensures test { result ≡ steps.fills_queue update.now self.now }
+        ensures none { (mode : SessionMode) (history : List QueueEntry) → self.now ≡ queue_of mode history
+            → result ≡ false → envelopes_on mode update.now history ≡ [] }
+    {
+        let sends = self.is_hundredth(update);
+        sends
+    }
+
+    /// Takes out all that waits and this update, which sends it. If out of memory, the queue stays as it was.
+    pub fn take_on(&mut self, update: SessionUpdate) -> Result<TakenSessions, AllocError>
+        requires { steps.fills_queue update self.old ≡ true }
+        ensures sent { IfOk result (λ taken. (mode : SessionMode) (history : List QueueEntry)
+            → self.old ≡ queue_of mode history → taken_envelopes taken ≡ envelopes_on mode update history) }
+        ensures room { IfOk result HasRoom }
+        ensures after { OnOk result ((mode : SessionMode) (history : List QueueEntry)
+            → self.old ≡ queue_of mode history → self.new ≡ queue_of mode (enqueued update ∷ history)) }
+        ensures unchanged { OnErr result (self.new ≡ self.old) }
+    {
+        let taken = self.take_with(update)?;
+        Ok(taken)
+    }
+
     /// Adds the last update of a session that ended. Returns the envelopes that are to be sent, as `envelopes_on` does.
     /// If out of memory, the queue stays as it was.
     pub fn enqueue(&mut self, update: SessionUpdate) -> Result<Items<Envelope>, AllocError>
@@ -246,7 +357,7 @@ impl SessionQueue {
     pub fn envelopes(&self) -> Result<Items<Envelope>, AllocError>
         ensures { IfOk result (λ envelopes. envelopes ≡ envelopes_of self.now) }
     {
-        self.envelopes_with(self.individual.clone()?)
+        self.envelopes_with(self.individual_items()?)
     }
 
     // Forgets all that waits.

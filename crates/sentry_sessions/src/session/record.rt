@@ -14,7 +14,7 @@ pub struct SessionStart {
     pub distinct_id: Option<Text>,
     /// When the session started, in nanoseconds since the epoch.
     pub started: u64,
-    pub attributes: SessionAttributes,
+    pub attributes: Shared<SessionAttributes>,
 }
 
 impl Drop for SessionStart {
@@ -29,10 +29,24 @@ impl Drop for SessionStart {
     }
 }
 
-/// What is kept of a session. A clone copies no text, since it shares what the session has from its start on. The
-/// contracts of the methods hold for every history of events, updates and closings that the session may stand for.
+impl Clone for SessionStart {
+    ghost is_clone = { λ old new. new ≡ old };
+
+    fn clone(&self) -> Result<SessionStart, AllocError> {
+        Ok(SessionStart {
+            client: self.client,
+            session_id: self.session_id,
+            distinct_id: self.distinct_id.clone()?,
+            started: self.started,
+            attributes: self.attributes.clone()?,
+        })
+    }
+}
+
+/// What is kept of a session. The contracts of the methods hold for every history of events, updates and closings that
+/// the session may stand for.
 pub struct Session {
-    pub start: Shared<SessionStart>,
+    pub start: SessionStart,
     pub status: SessionStatus,
     pub errors: u64,
     /// In nanoseconds. There is none before the session is closed, nor after a crash.

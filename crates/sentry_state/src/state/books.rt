@@ -1,12 +1,13 @@
 //! The losses of labels.
 ghost use Rattle.std.specs.Prelude.{◌≡◌, IfOk};
+ghost use Rattle.sentry_base.specs.Losses.{no_losses};
 ghost use Rattle.sentry_client_reports.specs.LossBooks.{drained_losses, engine_losses, report_point};
 ghost use Rattle.sentry_state.specs.Worlds.{World, Stands};
 ghost use Rattle.sentry_state.specs.Books.{has_book, pending_report, with_entry};
 
 use crate::state::State;
 use sentry_base::protocol::{ClientReport, Label, Losses};
-use sentry_client_reports::client_reports::LossBook;
+use sentry_client_reports::client_reports::{LossBook, nothing_is_absorbed};
 use sentry_options::clientoptions::Callbacks;
 use std::alloc::AllocError;
 
@@ -61,6 +62,7 @@ impl<P: Drop, C: Callbacks> State<P, C> {
         };
         book.record(losses);
     }
+
     /// Adds losses that were drained.
     #[tactic(auto, using(crate::proofs::Keeping::entry_absent, crate::proofs::Keeping::entry_present))]
     pub fn absorb_drained(&mut self, label: Label, losses: &Losses)
@@ -71,5 +73,13 @@ impl<P: Drop, C: Callbacks> State<P, C> {
             return;
         };
         book.absorb(losses);
+    }
+
+    /// Adding losses that are none changes nothing.
+    pub fn absorb_nothing(&self, label: Label)
+        ensures { (world : World P C) → Stands self.now world →
+            Stands self.now (with_entry world label (drained_losses no_losses)) }
+    {
+        nothing_is_absorbed();
     }
 }

@@ -2,14 +2,18 @@
 ghost use Rattle.std.specs.Prelude.{◌≡◌, ◌&&◌, IfOk, OnOk, OnErr, Some, true, is_some};
 ghost use Rattle.sentry_plain.specs.Tables.{value_at};
 ghost use Rattle.sentry_batches.specs.Batches.{accept, batch_on, hands_out_next};
-ghost use Rattle.sentry_sessions.specs.SessionQueues.{enqueued};
+ghost use Rattle.sentry_sessions.specs.QueueSteps.{fills_queue};
+ghost use Rattle.sentry_sessions.specs.SessionQueues.{enqueued, envelopes_on};
+ghost use Rattle.sentry_sessions.specs.TakenSessions.{taken_envelopes, HasRoom};
+ghost use Rattle.sentry_state.specs.declared.state.Client.{Client};
 ghost use Rattle.sentry_state.specs.Changes.{ChangesClient, with_client_entry, with_log_entry, with_metric_entry};
-ghost use Rattle.sentry_state.specs.Worlds.{ClientState, plain_client};
+ghost use Rattle.sentry_state.specs.Worlds.{ClientHistory, stored_client};
 
 use crate::state::{Client, State};
 use sentry_base::protocol::{Log, Metric, SessionUpdate};
 use sentry_options::clientoptions::Callbacks;
 use sentry_plain::Items;
+use sentry_sessions::session::TakenSessions;
 use std::alloc::AllocError;
 
 impl<C> Client<C> {
@@ -46,14 +50,41 @@ impl<P: Drop, C: Callbacks> State<P, C> {
         Ok(())
     }
 
+    /// Takes out all that waits in the queue of a client that is held, and the last update of a session, which sends it.
+    /// If out of memory, nothing has changed.
+    #[tactic(auto, using(crate::proofs::Keeping::changed_same))]
+    pub fn take_sessions(
+        &mut self,
+        number: u64,
+        update: SessionUpdate,
+    ) -> Result<TakenSessions, AllocError>
+        requires held { is_some (value_at self.old.clients number) ≡ true }
+        requires sends { (client : Client C) → value_at self.old.clients number ≡ Some client →
+            fills_queue update client.queues.sessions ≡ true }
+        ensures in_world { OnOk result (ChangesClient self.old self.new number (with_client_entry (enqueued update))) }
+        ensures sent { IfOk result (λ taken. (client : ClientHistory C) →
+            value_at self.old.clients number ≡ Some (stored_client client) →
+            taken_envelopes taken ≡ envelopes_on client.options.plain.session_mode update client.queues.sessions) }
+        ensures room { IfOk result HasRoom }
+        ensures hubs { self.new.hubs ≡ self.old.hubs }
+        ensures next { self.new.next ≡ self.old.next }
+        ensures err { OnErr result (self.new ≡ self.old) }
+    {
+        let Some(client) = self.clients.get_mut(number) else {
+            unreachable!()
+        };
+        let taken = client.queues.sessions.take_on(update)?;
+        Ok(taken)
+    }
+
     /// Puts a log into the batch of a client that is held. Returns all that are queued, if they are then as
     /// many as the client's limit says. If out of memory, nothing has changed.
     #[tactic(auto, using(crate::proofs::Keeping::changed_same))]
     pub fn enqueue_log(&mut self, number: u64, log: Log) -> Result<Option<Items<Log>>, AllocError>
         requires { is_some (value_at self.old.clients number) ≡ true }
         ensures in_world { OnOk result (ChangesClient self.old self.new number (with_log_entry (accept log))) }
-        ensures batch { IfOk result (λ batch. (client : ClientState C) →
-            value_at self.old.clients number ≡ Some (plain_client client) →
+        ensures batch { IfOk result (λ batch. (client : ClientHistory C) →
+            value_at self.old.clients number ≡ Some (stored_client client) →
             batch ≡ batch_on client.options.plain.max_batch_items (accept log) client.queues.logs) }
         ensures err { OnErr result (self.new ≡ self.old) }
     {
@@ -73,8 +104,8 @@ impl<P: Drop, C: Callbacks> State<P, C> {
     ) -> Result<Option<Items<Metric>>, AllocError>
         requires { is_some (value_at self.old.clients number) ≡ true }
         ensures in_world { OnOk result (ChangesClient self.old self.new number (with_metric_entry (accept metric))) }
-        ensures batch { IfOk result (λ batch. (client : ClientState C) →
-            value_at self.old.clients number ≡ Some (plain_client client) →
+        ensures batch { IfOk result (λ batch. (client : ClientHistory C) →
+            value_at self.old.clients number ≡ Some (stored_client client) →
             batch ≡ batch_on client.options.plain.max_batch_items (accept metric) client.queues.metrics) }
         ensures err { OnErr result (self.new ≡ self.old) }
     {

@@ -3,7 +3,7 @@ ghost use Rattle.std.specs.List.{list_any};
 ghost use Rattle.std.specs.Prelude.{◌≡◌, IfOk, OnOk, OnErr, Some};
 ghost use Rattle.sentry_plain.specs.Tables.{put, without};
 ghost use Rattle.sentry_scope.specs.Stacks.{is_client};
-ghost use Rattle.sentry_state.specs.Worlds.{World, ClientState, Stands, plain_client, plain_queues};
+ghost use Rattle.sentry_state.specs.Worlds.{World, ClientHistory, Stands, stored_client, stored_queues};
 ghost use Rattle.sentry_state.specs.Books.{with_book, is_label, without_unused_book};
 ghost use Rattle.sentry_options.specs.Options.{set_up};
 ghost use Rattle.sentry_state.specs.Clients.{is_enabled_client, has_session_of, new_client, clone_from, queues_from};
@@ -15,8 +15,9 @@ use sentry_batches::tick::LastTick;
 use sentry_client_reports::client_reports::LossBook;
 use sentry_options::clientoptions::{Callbacks, ClientOptions, PlainOptions};
 use sentry_pipeline::os_attributes::os_attributes;
+use sentry_pipeline::pipeline::{default_log_attributes, default_metric_attributes, sdk_info};
 use sentry_plain::{Shared, Table};
-use sentry_sessions::session::{Session, SessionQueue};
+use sentry_sessions::session::{Session, SessionQueue, session_attributes};
 use std::alloc::{AllocError, Global};
 
 // A share of the options, after the `setup` of their integrations.
@@ -32,7 +33,7 @@ fn set_up<C: Callbacks>(
 
 // The queues of a client with these options that is made at a moment.
 fn queues_from(alloc: Global, options: &PlainOptions, now: u64) -> Queues
-    ensures { result ≡ plain_queues options.now (queues_from now) }
+    ensures { result ≡ stored_queues options.now (queues_from now) }
 {
     Queues {
         sessions: SessionQueue::new(alloc, options.session_mode),
@@ -52,18 +53,25 @@ pub fn new_client<C: Callbacks>(
     now: u64,
 ) -> Result<Client<C>, AllocError>
     ensures client { IfOk result (λ client.
-        client ≡ plain_client (new_client C.meanings options transport label now)) }
+        client ≡ stored_client (new_client C.meanings options transport label now)) }
     ensures label { IfOk result (λ client. client.label ≡ label) }
 {
     let occupied = options.plain.dsn.is_some() && transport;
     let options = set_up(alloc, options)?;
     let os = os_attributes(alloc, options.get(), now)?;
+    let sdk = sdk_info(alloc, &options.get().callbacks)?;
+    let log_attributes = default_log_attributes(alloc, &options.get().plain, &os)?;
+    let metric_attributes = default_metric_attributes(alloc, &options.get().plain)?;
+    let session_attributes = session_attributes(alloc, &options.get().plain)?;
     let queues = queues_from(alloc, &options.get().plain, now);
     Ok(Client {
         options,
         label,
         occupied,
-        os,
+        sdk,
+        log_attributes,
+        metric_attributes,
+        session_attributes,
         closed: false,
         queues,
     })
@@ -75,14 +83,17 @@ pub fn clone_of<C: Drop>(
     client: &Client<C>,
     now: u64,
 ) -> Result<Client<C>, AllocError>
-    ensures { IfOk result (λ clone. (state : ClientState C) → client.now ≡ plain_client state →
-        clone ≡ plain_client (clone_from now state)) }
+    ensures { IfOk result (λ clone. (state : ClientHistory C) → client.now ≡ stored_client state →
+        clone ≡ stored_client (clone_from now state)) }
 {
     Ok(Client {
         options: client.options.clone()?,
         label: client.label,
         occupied: client.occupied,
-        os: client.os.clone()?,
+        sdk: client.sdk.clone()?,
+        log_attributes: client.log_attributes.clone()?,
+        metric_attributes: client.metric_attributes.clone()?,
+        session_attributes: client.session_attributes.clone()?,
         closed: false,
         queues: queues_from(alloc, &client.options.get().plain, now),
     })
@@ -125,8 +136,8 @@ impl<P: Drop, C: Callbacks> State<P, C> {
     /// Holds a client under a number.
     #[tactic(auto, using(crate::proofs::Keeping::stored_in_world))]
     pub fn insert_client(&mut self, number: u64, client: Client<C>) -> Result<(), AllocError>
-        ensures in_world { OnOk result ((world : World P C) (state : ClientState C) → Stands self.old world →
-            client ≡ plain_client state → Stands self.new (record world { clients = put world.clients number state })) }
+        ensures in_world { OnOk result ((world : World P C) (state : ClientHistory C) → Stands self.old world →
+            client ≡ stored_client state → Stands self.new (record world { clients = put world.clients number state })) }
         ensures rest { OnOk result ((self.new.tag ≡ self.old.tag) × (self.new.next ≡ self.old.next)
             × (self.new.books ≡ self.old.books)) }
         ensures err { OnErr result (self.new ≡ self.old) }
@@ -143,8 +154,8 @@ impl<P: Drop, C: Callbacks> State<P, C> {
         number: u64,
         client: Client<C>,
     ) -> Result<(), AllocError>
-        ensures in_world { OnOk result ((world : World P C) (state : ClientState C) → Stands self.old world →
-            client ≡ plain_client state → Stands self.new (record world {
+        ensures in_world { OnOk result ((world : World P C) (state : ClientHistory C) → Stands self.old world →
+            client ≡ stored_client state → Stands self.new (record world {
               clients = put world.clients number state;
               books = with_book world.books client.label.number;
             })) }

@@ -1,10 +1,10 @@
 //! How sessions are named and change.
-ghost use Rattle.std.specs.Prelude.{◌≡◌, ◌<◌, ◌+◌, ◌-◌, ◌^◌, Some, None, true, is_some};
+ghost use Rattle.std.specs.Prelude.{◌≡◌, ◌<◌, ◌+◌, ◌-◌, ◌^◌, Some, true, is_some};
 ghost use Rattle.std.specs.Bool.{OnTrue};
 ghost use Rattle.sentry_plain.specs.Tables.{value_at, replace_at, without};
 ghost use Rattle.sentry_hub_table.specs.declared.hub.Hub.{Hub};
 ghost use Rattle.sentry_state.specs.Changes.{ChangesHub, is_session_number_left, with_session};
-ghost use Rattle.sentry_state.specs.Worlds.{World, SessionState, Stands, plain_session};
+ghost use Rattle.sentry_state.specs.Worlds.{World, SessionHistory, Stands, stored_session};
 
 use crate::state::State;
 use sentry_base::protocol::SessionKey;
@@ -13,16 +13,11 @@ use sentry_sessions::session::Session;
 
 impl<P: Drop, C: Callbacks> State<P, C> {
     /// Whether a number is left for a session.
-    #[tactic(auto, using(crate::proofs::Keeping::has_session_in_world))]
     pub fn has_session_number(&self) -> bool
         ensures in_world { (world : World P C) → Stands self.now world → result ≡ is_session_number_left world }
-        ensures free { OnTrue result ((self.now.next.session < 2 ^ 64 - 1)
-            × (value_at self.now.sessions self.now.next.session ≡ None)) }
+        ensures left { OnTrue result (self.now.next.session < 2 ^ 64 - 1) }
     {
-        if self.next.session == u64::MAX {
-            return false;
-        }
-        self.sessions.get(self.next.session).is_none()
+        self.next.session < u64::MAX
     }
 
     /// The top layer of a hub that is held names the session under the next number.
@@ -57,8 +52,8 @@ impl<P: Drop, C: Callbacks> State<P, C> {
 
     /// Writes a session, if there is one under the number.
     pub fn set_session(&mut self, number: u64, after: Session)
-        ensures in_world { (world : World P C) (state : SessionState) → Stands self.old world →
-            after ≡ plain_session state →
+        ensures in_world { (world : World P C) (state : SessionHistory) → Stands self.old world →
+            after ≡ stored_session state →
             Stands self.new (record world { sessions = replace_at world.sessions number state }) }
         ensures hubs { self.new.hubs ≡ self.old.hubs }
     {

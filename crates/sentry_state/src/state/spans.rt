@@ -1,18 +1,20 @@
 //! How transactions and spans are held, found and finished.
 ghost use Rattle.std.specs.Prelude.{◌≡◌, ◌<◌, ◌-◌, ◌^◌, IfOk, OnOk, OnErr, Some, None, true, is_some, [], option_copied};
 ghost use Rattle.sentry_plain.specs.Tables.{value_at, without};
-ghost use Rattle.sentry_span_table.specs.SpanLists.{TransactionState, plain_transaction, fate_of, with_finished};
+ghost use Rattle.sentry_span_table.specs.SpanLists.{TransactionHistory, stored_transaction, fate_of, with_span_finished};
 ghost use Rattle.sentry_span_table.specs.SpanTables.{is_held, span_in, transaction_in};
 ghost use Rattle.sentry_span_table.specs.declared.table.records.SpanFate.TheVariants.{Kept};
 ghost use Rattle.sentry_span_table.specs.declared.table.records.SpanRecord.{SpanRecord};
-ghost use Rattle.sentry_state.specs.Outcomes.{plain_transaction_at, span_at};
+ghost use Rattle.sentry_span_table.specs.declared.table.records.TransactionRecord.{TransactionRecord};
+ghost use Rattle.sentry_state.specs.Outcomes.{stored_transaction_at, span_at};
 ghost use Rattle.sentry_state.specs.SpanChanges.{next_transaction_key, next_span_key, with_new_transaction, with_new_span};
-ghost use Rattle.sentry_state.specs.SpanChanges.{with_transaction, with_span, with_closed, finished_span};
+ghost use Rattle.sentry_state.specs.SpanChanges.{with_transaction, with_span, with_transaction_finished, finished_span};
 ghost use Rattle.sentry_state.specs.Worlds.{World, Stands, span_table};
 
 use crate::state::State;
 use sentry_base::protocol::{Span, SpanKey, TransactionKey, TransactionOrSpanKey};
 use sentry_options::clientoptions::Callbacks;
+use sentry_plain::{Boxed, Items};
 use sentry_span_table::table::{SpanRecord, SpanTable, TransactionRecord};
 use std::alloc::AllocError;
 
@@ -21,7 +23,7 @@ impl<P: Drop, C: Callbacks> State<P, C> {
     #[tactic(auto, using(crate::proofs::SpanKeeping::transaction_in_world))]
     pub fn transaction_at(&self, key: TransactionKey) -> Option<&TransactionRecord>
         ensures in_world { (world : World P C) → Stands self.now world →
-            option_copied result ≡ plain_transaction_at world key }
+            option_copied result ≡ stored_transaction_at world key }
         ensures in_table { option_copied result ≡ transaction_in self.now.spans key }
     {
         self.spans.transaction(key)
@@ -44,20 +46,20 @@ impl<P: Drop, C: Callbacks> State<P, C> {
     }
 
     /// Whether nothing is named, or a transaction or a span that is held.
-    pub fn holds_span(&self, name: Option<TransactionOrSpanKey>) -> bool
-        ensures { (world : World P C) → Stands self.now world → result ≡ is_held (span_table world) name }
+    pub fn holds_span(&self, span: Option<TransactionOrSpanKey>) -> bool
+        ensures { (world : World P C) → Stands self.now world → result ≡ is_held (span_table world) span }
     {
-        self.spans.holds(name)
+        self.spans.holds(span)
     }
 
     /// Holds a transaction under the next number, and returns its key. If out of memory, nothing has changed.
     pub fn hold_transaction(
         &mut self,
-        transaction: TransactionRecord,
+        transaction: Boxed<TransactionRecord>,
     ) -> Result<TransactionKey, AllocError>
         requires { self.old.next.transaction < 2 ^ 64 - 1 }
-        ensures in_world { IfOk result (λ key. (world : World P C) (state : TransactionState) →
-            Stands self.old world → transaction ≡ plain_transaction state →
+        ensures in_world { IfOk result (λ key. (world : World P C) (state : TransactionHistory) →
+            Stands self.old world → transaction ≡ stored_transaction state →
             (key ≡ next_transaction_key world) × Stands self.new (with_new_transaction state world)) }
         ensures err { OnErr result (self.new ≡ self.old) }
     {
@@ -72,7 +74,7 @@ impl<P: Drop, C: Callbacks> State<P, C> {
     }
 
     /// Holds a span under the next number, and returns its key. If out of memory, nothing has changed.
-    pub fn hold_span(&mut self, span: SpanRecord) -> Result<SpanKey, AllocError>
+    pub fn hold_span(&mut self, span: Boxed<SpanRecord>) -> Result<SpanKey, AllocError>
         requires { self.old.next.span < 2 ^ 64 - 1 }
         ensures in_world { IfOk result (λ key. (world : World P C) → Stands self.old world →
             (key ≡ next_span_key world) × Stands self.new (with_new_span span world)) }
@@ -101,9 +103,9 @@ impl<P: Drop, C: Callbacks> State<P, C> {
     /// Gives a transaction that is held a span that it keeps. If out of memory, nothing has changed.
     pub fn push_span(&mut self, number: u64, span: Span) -> Result<(), AllocError>
         requires { is_some (value_at self.old.spans.transactions number) ≡ true }
-        ensures in_world { OnOk result ((world : World P C) (state : TransactionState) → Stands self.old world →
-            value_at self.old.spans.transactions number ≡ Some (plain_transaction state) → fate_of state ≡ Kept →
-            Stands self.new (with_transaction number (with_finished span state) world)) }
+        ensures in_world { OnOk result ((world : World P C) (state : TransactionHistory) → Stands self.old world →
+            value_at self.old.spans.transactions number ≡ Some (stored_transaction state) → fate_of state ≡ Kept →
+            Stands self.new (with_transaction number (with_span_finished span state) world)) }
         ensures spans { OnOk result (self.new.spans.spans ≡ self.old.spans.spans) }
         ensures err { OnErr result (self.new ≡ self.old) }
     {
@@ -111,14 +113,38 @@ impl<P: Drop, C: Callbacks> State<P, C> {
         Ok(())
     }
 
-    /// A transaction is finished, if it is held.
-    pub fn close_transaction(&mut self, key: TransactionKey)
-        ensures { (world : World P C) → Stands self.old world → Stands self.new (with_closed key world) }
+    /// Moves a span that is held, and that finishes at a moment, to those that a transaction keeps, which is held too. If
+    /// out of memory, nothing has changed.
+    pub fn move_span(
+        &mut self,
+        number: u64,
+        transaction: u64,
+        moment: u64,
+    ) -> Result<(), AllocError>
+        requires span { is_some (value_at self.old.spans.spans number) ≡ true }
+        requires transaction { is_some (value_at self.old.spans.transactions transaction) ≡ true }
+        ensures in_world { OnOk result ((world : World P C) (held : SpanRecord) (state : TransactionHistory) →
+            Stands self.old world → value_at self.old.spans.spans number ≡ Some held →
+            value_at self.old.spans.transactions transaction ≡ Some (stored_transaction state) → fate_of state ≡ Kept →
+            Stands self.new (record (with_transaction transaction
+            (with_span_finished (finished_span moment held).span state) world) { spans = without world.spans number })) }
+        ensures err { OnErr result (self.new ≡ self.old) }
+    {
+        self.spans.move_span(number, transaction, moment)?;
+        self.hubs.forget_span(number);
+        Ok(())
+    }
+
+    /// A transaction is finished, if it is held. Returns the spans that it kept. It takes no memory.
+    pub fn close_transaction(&mut self, key: TransactionKey) -> Items<Span>
+        ensures in_world { (world : World P C) → Stands self.old world → Stands self.new (with_transaction_finished key world) }
+        ensures kept { (held : TransactionRecord) → transaction_in self.old.spans key ≡ Some held →
+            result ≡ held.spans }
     {
         let Some(_held) = self.transaction_at(key) else {
-            return;
+            return Items::new(self.alloc);
         };
-        self.spans.close_transaction(key.number);
+        self.spans.close_transaction(key.number)
     }
 
     /// Forgets a transaction. It takes no memory.

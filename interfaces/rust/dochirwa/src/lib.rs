@@ -117,7 +117,7 @@ impl Engine {
         Ok(Engine { raw, _alone: PhantomData })
     }
 
-    /// Adds a client of the options in a text, a line NAME=VALUE each: dsn, release, environment and server are texts; rate (of events) and traces (of transactions) are in millionths, but 1 is all; strict, pii, logs and metrics are 0 or 1; mode is application or request; org, crumbs, maxspans and maxbatch are numbers. Clients of one label count their losses together. Faults: 6, 7 (a rate above 1000000), 9, 11.
+    /// Adds a client of the options in a text, a line NAME=VALUE each: dsn, release, environment and server are texts; rate (of events) and traces (of transactions) are in millionths, but 1 is all; strict, pii, logs and metrics are 0 or 1; mode is application or request; org, crumbs, maxspans and maxbatch are numbers. In place of callbacks, drop_events and drop_breadcrumbs (by their message), drop_logs (by their body) and drop_metrics (by their name) drop what begins with their text, and nothing where it is empty; what is dropped, but for breadcrumbs, is reported as lost. Clients of one label count their losses together. Faults: 6, 7 (a rate above 1000000), 9, 11.
     pub fn add_client(&mut self, options: &str, label: u64, now: u64) -> Result<u64, Fault> {
         let mut client = 0;
         checked(unsafe { dochirwa_add_client(&mut self.raw, options.as_ptr(), options.len(), label, now, &mut client) })?;

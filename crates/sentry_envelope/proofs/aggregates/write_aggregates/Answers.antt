@@ -14,5 +14,6 @@ returns c =
     (ap (λ xs. array (items_of counts_json xs)) c.as_slice.ensures)) in
     made c.in_ok-begin_object.ensures
     (then counts
-    (puts (attributes_json c.args.aggregates.now.attributes) c.in_ok-key-2.ensures c.in_ok-write_attributes.ensures))
+    (puts (attributes_json c.args.aggregates.now.attributes) c.in_ok-key-2.ensures
+    (same_json (attributes_json c.get.result.now) c.in_ok-write_attributes.ensures (ap attributes_json c.get.ensures))))
     c.in_ok-end_object.ensures

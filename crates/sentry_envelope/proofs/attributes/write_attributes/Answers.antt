@@ -1,32 +1,27 @@
-use Rattle.std.proofs.Common.{◌≡◌, List, subst, ◌∙◌, sym, ap, String, Global}
+use Rattle.std.proofs.Common.{◌≡◌, List, subst, ◌∙◌, sym}
 use Rattle.json.specs.Json.{member, no_members}
 use Rattle.json.specs.Tree.{members_tokens}
 use Rattle.sentry_base.specs.declared.protocol.log.LogAttribute.{LogAttribute}
 use Rattle.sentry_framing.specs.Json.{Left, Puts}
 use Rattle.sentry_framing.proofs.Written.{puts}
 use Rattle.sentry_framing.proofs.Lists.{all_left, fewer}
-use Rattle.sentry_plain.specs.Texts.{Bytes, by_bytes}
+use Rattle.sentry_plain.specs.Texts.{Bytes}
 use Rattle.sentry_envelope.specs.Attributes.{attribute_json}
 use Rattle.sentry_envelope.specs.Members.{put_entries}
 use Rattle.sentry_envelope.proofs.attributes.write_attributes.Goals as goal
 
--- entries with their keys as bytes
-abbrev shown : List (String Global × LogAttribute) → List (Bytes × LogAttribute)
-shown es = by_bytes (λ (v : LogAttribute). v) es
-
 pub loop-key-init : goal.loop-key-init
 loop-key-init c =
     let all = members_tokens (put_entries attribute_json c.args.attributes.now no_members) in
-    let is : shown c.into_iter-key-iterator.result ≡ c.args.attributes.now =
-    ap shown c.into_iter-key-iterator.ensures.into_iter_gives ∙ c.iter-key-items.ensures.rest in
+    let is : c.into_iter-key-iterator.result ≡ c.args.attributes.now =
+    c.into_iter-key-iterator.ensures.into_iter_gives ∙ c.iter-key-items.ensures.rest in
     subst (λ (es : List (Bytes × LogAttribute)). Left c.begin_object.new.self c.begin_object.new.self (members_tokens (put_entries attribute_json es no_members)) all)
     (sym is) (all_left _ _)
 
 pub loop-key-preserved : goal.loop-key-preserved
 loop-key-preserved c =
     let all = members_tokens (put_entries attribute_json c.args.attributes.now no_members) in
-    let here = subst (λ (es : List (String Global × LogAttribute)). Left c.begin_object.new.self c.loop-key.out (members_tokens (put_entries attribute_json (shown es) no_members)) all)
+    let here = subst (λ (es : List (Bytes × LogAttribute)). Left c.begin_object.new.self c.loop-key.out (members_tokens (put_entries attribute_json es no_members)) all)
     c.in-Some.ensures.steps c.loop-key.invariant in
-    let put = subst (λ (key : Bytes). Puts c.loop-key.out c.write_attribute.new.out (member key (attribute_json c.in-Some.attribute.now))) c.as_str.ensures.value
-    (puts (attribute_json c.in-Some.attribute.now) c.in_ok-key.ensures c.in_ok-write_attribute.ensures) in
-    fewer (put_entries attribute_json (shown c.next.new.self) no_members) here put
+    let put = puts (attribute_json c.in-Some.attribute.now) c.in_ok-key.ensures c.in_ok-write_attribute.ensures in
+    fewer (put_entries attribute_json c.next.new.self no_members) here put

@@ -1,11 +1,10 @@
 use Rattle.json.specs.Json.{no_members, string}
 use Rattle.json.specs.Tree.{members_tokens}
 use Rattle.sentry_framing.specs.Json.{Left}
-use Rattle.sentry_plain.specs.Texts.{by_bytes}
 use Rattle.sentry_envelope.specs.Members.{put_entries}
 use Rattle.sentry_envelope.proofs.collections.write_text_map.Given as goal
 
 abbrev pub invariant-loop-key : goal.invariant-loop-key
 invariant-loop-key l =
-    Left l.initial.out l.out (members_tokens (put_entries string (by_bytes (λ v. v) l.key-iterator) no_members))
+    Left l.initial.out l.out (members_tokens (put_entries string l.key-iterator no_members))
     (members_tokens (put_entries string l.texts no_members))

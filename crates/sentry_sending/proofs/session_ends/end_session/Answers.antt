@@ -1,5 +1,5 @@
-use Rattle.std.proofs.Common.{sym, ap, subst, ◌≡◌, ◌∙◌, ◌∷◌, true, rules}
-use Rattle.sentry_sessions.specs.Sessions.{closed, session_of, update_of}
+use Rattle.std.proofs.Common.{sym, ap, subst, ◌≡◌, ◌∙◌, ◌∷◌, Some}
+use Rattle.sentry_sessions.specs.Sessions.{closed, session_of, pending_update}
 use Rattle.sentry_sessions.specs.declared.session.record.Session.{Session}
 use Rattle.sentry_sending.specs.Sending.{Sending}
 use Rattle.sentry_sending.specs.SessionEnds.{queue_update}
@@ -16,17 +16,14 @@ returns-clause-in_world g c = λ world s.
     let found = session_state (session_at world c.args.key) c.in-Some.session.now (c.in-Some.ensures world s) in
     let session = found.0 in
     let history = closed c.args.status c.args.now ∷ session.history in
-    let ended : c.close.new.self ≡ session_of session.start history =
-    c.close.ensures session.start session.history (c.in_ok-session.ensures.cases ∙ found.2) in
-    let here : c.close.new.self.dirty ≡ true = search rules in
-    let dirty : (session_of session.start history).dirty ≡ true = sym (ap (λ (kept : Session). kept.dirty) ended) ∙ here in
-    let start = c.deref.ensures ∙ ap (λ (kept : Session). kept.start) ended in
-    let update = c.in_ok-update.ensures ∙ ap update_of ended in
+    let told : pending_update (session_of session.start history) ≡ Some c.in-Some-2.update =
+    sym (c.in_ok-update.ensures session.start session.history found.2) ∙ c.in-Some-2.is in
+    let client = ap (λ (kept : Session). kept.start.client) found.2 in
     let queued = c.in_ok-sent.ensures.in_world world s in
     let removed = c.remove_session-2.ensures.in_world _ queued.1 in
     let expected =
-    (λ i. forget c.args.key (queue_update (start i).client (update i) world))
-    ∙ sym (end_session_is c.args.key c.args.status c.args.now world session found.1 dirty) in (
+    (λ i. forget c.args.key (queue_update (client i) c.in-Some-2.update world))
+    ∙ sym (end_session_is c.args.key c.args.status c.args.now world session c.in-Some-2.update found.1 told) in (
       queued.0 ∙ ap (λ (sending : Sending g.row.P.Denot g.row.C.Denot). sending.sent) expected,
       subst (λ (w : World g.row.P.Denot g.row.C.Denot). Stands c.remove_session-2.new.self w)
           (ap (λ (sending : Sending g.row.P.Denot g.row.C.Denot). sending.after) expected) removed,

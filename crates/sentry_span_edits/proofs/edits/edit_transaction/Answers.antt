@@ -1,5 +1,5 @@
 use Rattle.std.proofs.Common.{◌∙◌, Option, sym, ap, subst}
-use Rattle.sentry_span_table.specs.SpanLists.{TransactionState, plain_transaction}
+use Rattle.sentry_span_table.specs.SpanLists.{TransactionHistory, stored_transaction}
 use Rattle.sentry_state.specs.Outcomes.{transaction_at}
 use Rattle.sentry_state.specs.SpanChanges.{with_transaction}
 use Rattle.sentry_state.specs.Worlds.{World, Stands}
@@ -14,7 +14,7 @@ pub returns-in_default-clause-in_world : goal.returns-in_default-clause-in_world
 returns-in_default-clause-in_world g c = λ world s.
     let none = no_transaction (transaction_at world c.args.key) (c.in_default.ensures.in_world world s) in
     subst (λ (w : World g.row.P.Denot g.row.C.Denot). Stands c.args.state.now w)
-    (sym (ap (λ (o : Option TransactionState). with_found_edited c.args.edit c.args.key.number o world) none)) s
+    (sym (ap (λ (o : Option TransactionHistory). with_found_edited c.args.edit c.args.key.number o world) none)) s
 
 -- the transaction of the world is edited
 pub returns-clause-in_world : goal.returns-clause-in_world
@@ -31,10 +31,10 @@ returns-clause-in_world g c = λ world s.
       sessions = s.sessions;
       books = s.books;
       spans =
-          c.in_ok-edit_transaction_at.ensures.ok (plain_transaction state)
+          c.in_ok-edit_transaction_at.ensures.ok (stored_transaction state)
           (transaction_in_table c.args.state.now world s c.args.key state found.1)
           ∙ transaction_replaced c.args.state.now world s c.args.key.number after
-          (edit_held c.args.edit (plain_transaction state)) (held_edited c.args.edit state);
+          (edit_held c.args.edit (stored_transaction state)) (held_edited c.args.edit state);
     } in
     subst (λ (w : World g.row.P.Denot g.row.C.Denot). Stands (record c.args.state.now { spans = c.edit_transaction_at.new.spans }) w)
-    (sym (ap (λ (o : Option TransactionState). with_found_edited c.args.edit c.args.key.number o world) found.1)) stands
+    (sym (ap (λ (o : Option TransactionHistory). with_found_edited c.args.edit c.args.key.number o world) found.1)) stands

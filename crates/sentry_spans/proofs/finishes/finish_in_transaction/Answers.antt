@@ -1,6 +1,6 @@
 use Rattle.std.proofs.Common.{ap, sym, subst}
 use Rattle.std.specs.Prelude.{Option}
-use Rattle.sentry_span_table.specs.SpanLists.{TransactionState}
+use Rattle.sentry_span_table.specs.SpanLists.{TransactionHistory}
 use Rattle.sentry_span_table.specs.declared.table.records.SpanFate.TheVariants.{Lost, Gone}
 use Rattle.sentry_state.specs.Outcomes.{transaction_at}
 use Rattle.sentry_state.specs.SpanChanges.{finished_span, with_span}
@@ -28,7 +28,7 @@ returns-in_ok-keep_span-in-Kept-clause-in_world g c = λ world held s at.
     let after = with_span c.args.key.number (finished_span c.args.moment held) world in
     let kept = c.in_ok-keep_span-in-Kept.ensures.in_world world held found.0 s at found.1 fate in
     subst (λ (w : World g.row.P.Denot g.row.C.Denot). Stands c.keep_span.new.state w)
-    (sym (ap (λ (o : Option TransactionState). with_span_in c.args.transaction span o after) found.1)) kept
+    (sym (ap (λ (o : Option TransactionHistory). with_span_in c.args.transaction span o after) found.1)) kept
 
 -- it keeps no more
 pub returns-in-Lost-clause-in_world : goal.returns-in-Lost-clause-in_world

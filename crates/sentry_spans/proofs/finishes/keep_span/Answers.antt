@@ -1,7 +1,7 @@
 use Rattle.std.proofs.Common.{◌≡◌, ◌∙◌, ap, sym, subst, ℕ, List}
 use Rattle.std.specs.Prelude.{Some}
 use Rattle.sentry_plain.specs.Tables.{value_at}
-use Rattle.sentry_span_table.specs.SpanLists.{with_finished}
+use Rattle.sentry_span_table.specs.SpanLists.{with_span_finished}
 use Rattle.sentry_span_table.specs.declared.table.records.SpanFate.{SpanFate}
 use Rattle.sentry_span_table.specs.declared.table.records.SpanRecord.{SpanRecord}
 use Rattle.sentry_state.specs.SpanChanges.{finished_span, with_span, with_transaction}
@@ -25,6 +25,6 @@ returns-clause-in_world g c = λ world held kept s at there fate.
     let number = c.args.transaction.number in
     let after = with_span c.args.key.number (finished_span c.args.moment held) world in
     subst (λ (w : World g.row.P.Denot g.row.C.Denot). Stands c.set_span_finished.new.self w)
-    ((λ i. with_transaction number (with_finished (copy i) kept) after)
-    ∙ sym (ap (λ (f : SpanFate). with_fate f (with_transaction number (with_finished (finished_span c.args.moment held).span kept) after)) fate))
+    ((λ i. with_transaction number (with_span_finished (copy i) kept) after)
+    ∙ sym (ap (λ (f : SpanFate). with_fate f (with_transaction number (with_span_finished (finished_span c.args.moment held).span kept) after)) fate))
     done

@@ -2,10 +2,10 @@ use Rattle.std.proofs.Common.{◌≡◌, ◌∙◌, ap, sym, subst, refl, true, 
 use Rattle.std.specs.Prelude.{nat_lt, Ok}
 use Rattle.sentry_plain.specs.Tables.{put}
 use Rattle.sentry_state.specs.Clients.{clone_from}
-use Rattle.sentry_state.specs.Outcomes.{client_at, plain_client_at}
+use Rattle.sentry_state.specs.Outcomes.{client_at, stored_client_at}
 use Rattle.sentry_state.specs.Worlds.{World, Stands}
 use Rattle.sentry_state.specs.declared.state.State.{State}
-use Rattle.sentry_engine.proofs.CallLemmas.{clone_client_is, state_of_plain, with_client}
+use Rattle.sentry_engine.proofs.CallLemmas.{clone_client_is, history_of_stored, with_client}
 use Rattle.sentry_engine.proofs.engine.Engine.clone_client.Goals as goal
 
 -- the clone stands under the next number
@@ -14,8 +14,8 @@ returns g c = λ world here.
     let s = subst (λ (kept : State g.row.P.Denot g.row.C.Denot). Stands kept world) (sym c.self.view_is) here in
     let key = c.args.client in
     let next = s.next in
-    let found : plain_client_at world key ≡ Some c.in-Some.held.now = sym (c.in-Some.ensures.in_world world s) in
-    let state = state_of_plain world key c.in-Some.held.now found in
+    let found : stored_client_at world key ≡ Some c.in-Some.held.now = sym (c.in-Some.ensures.in_world world s) in
+    let state = history_of_stored world key c.in-Some.held.now found in
     let clone = clone_from c.args.now state.0 in
     let left : nat_lt world.next.client (2 ^ 64 - 1) ≡ true = search rules in
     let inserted = c.in_ok-insert_client.ensures.in_world world clone s (c.in_ok-clone.ensures state.0 state.2) in

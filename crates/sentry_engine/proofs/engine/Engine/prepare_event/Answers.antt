@@ -1,17 +1,19 @@
-use Rattle.std.proofs.Common.{rules, refl}
+use Rattle.std.proofs.Common.{rules, ap, Some}
 use Rattle.sentry_calls.specs.Clients.{prepare_event}
 use Rattle.sentry_engine.proofs.engine.Engine.prepare_event.Goals as goal
 
-pub returns-in_ok-event-in-None : goal.returns-in_ok-event-in-None
+pub returns-in-None : goal.returns-in-None
 unfolding prepare_event
-returns-in_ok-event-in-None g c =
-    let preparation = c.prepare_event.ensures.preparation c.args.event refl in
-    let event = c.prepare_event.ensures.event c.args.event refl in
+returns-in-None g c =
+    let boxed = ap Some c.in_ok-new.ensures in
+    let preparation = c.prepare_event.ensures.preparation c.args.event boxed in
+    let event = c.prepare_event.ensures.event c.args.event boxed in
     search rules
 
 pub returns-in-Some-loss_reason : goal.returns-in-Some-loss_reason
 unfolding prepare_event
 returns-in-Some-loss_reason g c =
-    let preparation = c.prepare_event.ensures.preparation c.args.event refl in
-    let event = c.prepare_event.ensures.event c.args.event refl in
+    let boxed = ap Some c.in_ok-new.ensures in
+    let preparation = c.prepare_event.ensures.preparation c.args.event boxed in
+    let event = c.prepare_event.ensures.event c.args.event boxed in
     search rules

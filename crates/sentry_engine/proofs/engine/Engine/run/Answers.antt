@@ -4,8 +4,10 @@ use Rattle.sentry_calls.specs.declared.call.Call.{Call}
 use Rattle.sentry_state.specs.Worlds.{first_world}
 use Rattle.sentry_laws.proofs.Accepted.{accepts_logs, accepts_metrics}
 use Rattle.sentry_laws.proofs.ActiveSpans.{active_spans_held}
+use Rattle.sentry_laws.proofs.CallsAddUp.{calls_add_up}
 use Rattle.sentry_laws.proofs.Isolation.{named_clients_held}
 use Rattle.sentry_laws.proofs.LabelBooks.{books_of_clients}
+use Rattle.sentry_laws.proofs.LossesByCalls.{records_losses}
 use Rattle.sentry_laws.proofs.NamedSessions.{sessions_named}
 use Rattle.sentry_laws.proofs.Numbers.{numbers_are_free}
 use Rattle.sentry_laws.proofs.PushPop.{all_pushes_undone}
@@ -68,6 +70,12 @@ returns-clause-traces g c = λ last run. (
 
 pub returns-clause-reports : goal.returns-clause-reports
 returns-clause-reports g c = reports_add_up g.P.EventCallback.gives g.C.Callbacks.meanings c.args.tag 0 c.args.calls.items c.loop-call.answers.items
+
+pub returns-clause-losses : goal.returns-clause-losses
+returns-clause-losses g c = λ last run. (
+  records_losses g.P.EventCallback.gives g.C.Callbacks.meanings c.args.tag 0 c.args.calls.items c.loop-call.answers.items last run,
+  calls_add_up g.P.EventCallback.gives g.C.Callbacks.meanings c.args.tag 0 c.args.calls.items c.loop-call.answers.items last run,
+)
 
 pub returns-clause-worlds : goal.returns-clause-worlds
 returns-clause-worlds g c = λ last run. (

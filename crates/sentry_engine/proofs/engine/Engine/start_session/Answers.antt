@@ -1,12 +1,10 @@
 use Rattle.sentry_state.specs.declared.state.State.{State}
 use Rattle.sentry_state.specs.Worlds.{Stands}
-use Rattle.std.proofs.Common.{◌≡◌, ◌∙◌, refl, sym, Some, [], true, rules, subst}
-use Rattle.std.specs.Prelude.{option_map}
+use Rattle.std.proofs.Common.{◌≡◌, ◌∙◌, refl, sym, Some, true, rules, subst}
 use Rattle.sentry_plain.specs.Tables.{value_at}
-use Rattle.sentry_sessions.specs.Sessions.{session_of, start_of}
-use Rattle.sentry_state.specs.Outcomes.{hub_at, plain_client_at}
+use Rattle.sentry_sessions.specs.Sessions.{new_session, start_of}
+use Rattle.sentry_state.specs.Outcomes.{hub_at, stored_client_at}
 use Rattle.sentry_state.specs.Changes.{is_session_number_left}
-use Rattle.sentry_state.proofs.Keeping.{session_start}
 use Rattle.sentry_engine.proofs.CallLemmas.{start_session_is, replied}
 use Rattle.sentry_engine.proofs.engine.Engine.start_session.Goals as goal
 
@@ -19,17 +17,16 @@ returns g c = λ world here.
     let client = c.in-Some-client_at.client.now in
     let found : hub_at world key ≡ Some hub = sym (c.in-Some.ensures.in_world world s) in
     let there : value_at c.self.inside.state.hubs key.number ≡ Some hub = c.in-Some.ensures.in_table hub refl in
-    let client_found : plain_client_at world c.in-Some-client.key ≡ Some client = sym (c.in-Some-client_at.ensures.in_world world s) in
+    let client_found : stored_client_at world c.in-Some-client.key ≡ Some client = sym (c.in-Some-client_at.ensures.in_world world s) in
     let given : c.has_session_number.result ≡ true = search rules in
     let left : is_session_number_left world ≡ true = sym (c.has_session_number.ensures.in_world world s) ∙ given in
     let user = c.user-user.ensures in
-    let built = c.in_ok-session.ensures in
-    let made : Some c.in-Some-2.session
-    ≡ option_map (λ start. session_of start []) (start_of c.in-Some-client.key client.options.plain hub.stack.top.scope.user c.args.fresh.uuid c.args.fresh.now) =
+    let attributes = c.in-Some-session_attributes.attributes in
+    let start = start_of c.in-Some-client.key attributes hub.stack.top.scope.user c.args.fresh.uuid c.args.fresh.now in
+    let made : c.in_ok-session.session
+    ≡ new_session c.in-Some-client.key attributes hub.stack.top.scope.user c.args.fresh.uuid c.args.fresh.now =
     search rules in
-    let start = session_start (start_of c.in-Some-client.key client.options.plain hub.stack.top.scope.user c.args.fresh.uuid c.args.fresh.now)
-    c.in-Some-2.session made in
-    let started = c.in_ok-sent.ensures.in_world world hub start.0 s there start.2 in
+    let started = c.in_ok-sent.ensures.in_world world hub start s there made in
     replied _ _ _ _ _ _
-    (start_session_is key c.args.fresh world hub c.in-Some-client.key client start.0 found c.in-Some-client.is client_found start.1 left)
+    (start_session_is key c.args.fresh world hub c.in-Some-client.key client attributes found c.in-Some-client.is client_found c.in-Some-session_attributes.is left)
     started.0 started.1

@@ -1,5 +1,5 @@
 use Rattle.sentry_calls.specs.Steps.{step, takes_no_memory}
-use Rattle.sentry_lock.proofs.Keeps.{plain_keeps}
+use Rattle.sentry_lock.proofs.Keeps.{ordinary_keeps}
 use Rattle.sentry_lock.proofs.Silent.{sends_nothing}
 use Rattle.sentry_lock.proofs.Sound.{after_call}
 use Rattle.sentry_lock.proofs.locked.Core.apply_call.Goals as goal
@@ -9,7 +9,7 @@ invariant_of-self g c =
     let self = c.args.self.now in
     record {
       sound = after_call (takes_no_memory c.args.call) self.engine c.apply.new.self c.apply.result
-          (step g.P.EventCallback.gives g.C.Callbacks.meanings c.args.call) self.drainers c.apply.ensures (plain_keeps g.P.EventCallback.gives g.C.Callbacks.meanings c.args.call c.requires) self.sound;
+          (step g.P.EventCallback.gives g.C.Callbacks.meanings c.args.call) self.drainers c.apply.ensures (ordinary_keeps g.P.EventCallback.gives g.C.Callbacks.meanings c.args.call c.requires) self.sound;
       labelled = self.labelled;
     }
 

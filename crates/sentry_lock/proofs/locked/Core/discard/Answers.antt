@@ -8,6 +8,6 @@ invariant_of-self g c =
     let self = c.args.self.now in
     record {
       sound = after_call true self.engine c.discard.new.self c.discard.result _ self.drainers c.discard.ensures
-          (λ world. discard_keeps g.P.EventCallback.gives g.C.Callbacks.meanings c.args.name world) self.sound;
+          (λ world. discard_keeps g.P.EventCallback.gives g.C.Callbacks.meanings c.args.span world) self.sound;
       labelled = self.labelled;
     }

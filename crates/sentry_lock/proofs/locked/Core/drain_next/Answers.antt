@@ -1,13 +1,12 @@
 use Rattle.sentry_plain.specs.Tables.{value_at}
-use Rattle.sentry_lock.proofs.Walks.{drains_if_open, drains_next}
+use Rattle.sentry_lock.proofs.Walks.{drains_next}
 use Rattle.sentry_lock.proofs.locked.Core.drain_next.Goals as goal
 
 pub returns-clause-drained : goal.returns-clause-drained
 returns-clause-drained g c =
     let self = c.args.self.now in
-    let next = c.drain_and_absorb.new.self in
+    let next = c.drain_label.new.self in
     let number = c.in-Some.number in
     drains_next self.tag c.args.last number self.engine next.engine self.drainers next.drainers
     (value_at self.drainers number) c.in-Some.ensures
-    (drains_if_open (record { tag = self.tag; number = number }) c.drain_and_absorb.result self.engine next.engine
-    self.drainers next.drainers c.drain_and_absorb.ensures.done c.drain_and_absorb.ensures.refused)
+    c.drain_label.ensures.drained

@@ -8,6 +8,6 @@ invariant_of-self g c =
     let self = c.args.self.now in
     record {
       sound = after_call false self.engine c.set_data.new.self c.set_data.result _ self.drainers c.set_data.ensures
-          (λ world. set_data_keeps g.P.EventCallback.gives g.C.Callbacks.meanings c.args.name c.args.key.now c.args.value world) self.sound;
+          (λ world. set_data_keeps g.P.EventCallback.gives g.C.Callbacks.meanings c.args.span c.args.key.now c.args.value world) self.sound;
       labelled = self.labelled;
     }

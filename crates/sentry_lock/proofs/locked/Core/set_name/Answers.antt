@@ -8,6 +8,6 @@ invariant_of-self g c =
     let self = c.args.self.now in
     record {
       sound = after_call false self.engine c.set_name.new.self c.set_name.result _ self.drainers c.set_name.ensures
-          (λ world. set_name_keeps g.P.EventCallback.gives g.C.Callbacks.meanings c.args.name c.args.text.now world) self.sound;
+          (λ world. set_name_keeps g.P.EventCallback.gives g.C.Callbacks.meanings c.args.span c.args.name.now world) self.sound;
       labelled = self.labelled;
     }

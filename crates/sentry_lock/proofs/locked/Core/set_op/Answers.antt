@@ -8,6 +8,6 @@ invariant_of-self g c =
     let self = c.args.self.now in
     record {
       sound = after_call false self.engine c.set_op.new.self c.set_op.result _ self.drainers c.set_op.ensures
-          (λ world. set_op_keeps g.P.EventCallback.gives g.C.Callbacks.meanings c.args.name c.args.op.now world) self.sound;
+          (λ world. set_op_keeps g.P.EventCallback.gives g.C.Callbacks.meanings c.args.span c.args.op.now world) self.sound;
       labelled = self.labelled;
     }

@@ -8,6 +8,6 @@ invariant_of-self g c =
     let self = c.args.self.now in
     record {
       sound = after_call false self.engine c.set_request.new.self c.set_request.result _ self.drainers c.set_request.ensures
-          (λ world. set_request_keeps g.P.EventCallback.gives g.C.Callbacks.meanings c.args.name c.args.request world) self.sound;
+          (λ world. set_request_keeps g.P.EventCallback.gives g.C.Callbacks.meanings c.args.span c.args.request world) self.sound;
       labelled = self.labelled;
     }

@@ -8,6 +8,6 @@ invariant_of-self g c =
     let self = c.args.self.now in
     record {
       sound = after_call false self.engine c.set_status.new.self c.set_status.result _ self.drainers c.set_status.ensures
-          (λ world. set_status_keeps g.P.EventCallback.gives g.C.Callbacks.meanings c.args.name c.args.status world) self.sound;
+          (λ world. set_status_keeps g.P.EventCallback.gives g.C.Callbacks.meanings c.args.span c.args.status world) self.sound;
       labelled = self.labelled;
     }

@@ -8,6 +8,6 @@ invariant_of-self g c =
     let self = c.args.self.now in
     record {
       sound = after_call false self.engine c.set_tag.new.self c.set_tag.result _ self.drainers c.set_tag.ensures
-          (λ world. set_tag_keeps g.P.EventCallback.gives g.C.Callbacks.meanings c.args.name c.args.key.now c.args.value.now world) self.sound;
+          (λ world. set_tag_keeps g.P.EventCallback.gives g.C.Callbacks.meanings c.args.span c.args.key.now c.args.value.now world) self.sound;
       labelled = self.labelled;
     }

@@ -1,5 +1,5 @@
 -- The core goes into the struct, which owns nothing beside it.
-use Rattle.std.proofs.Common.{◌≡◌, List, [], ◌∷◌, ◌++◌, refl}
+use Rattle.std.proofs.Common.{◌≡◌, List, [], ◌∷◌, ◌++◌, refl, Option, Some, None}
 use lib.Dec.{T as Holds}
 use mir.Syntax.{Ty, Fn, a_type}
 use mir.MapTy.{inst_fn}
@@ -12,7 +12,8 @@ use types.Kit.{‵, raw, ◌⊛◌, prop, ◌$◌, ◌∵◌, !, qed, by, move, 
 use types.Part.{agg}
 use types.Run.{of_opd, no_more, and_then, returns, enter}
 use types.ByLocal.{alloc_all, pass_all, free_all, look_at, get, sets}
-use denote.Exit.{rest}
+use denote.Exit.{rest, left, Last}
+use denote.Param.Mute.{blank}
 use denote.Laws.{Typed}
 use denote.RattleType.{RattleType, Valss, owns}
 use denote.Param.{param, layout, layouts}
@@ -38,6 +39,11 @@ one τ [] t = absurd t
 one τ (v ∷ []) t = (v, (refl, t.0))
 one τ (v ∷ w ∷ vs) t = absurd t.1
 
+-- what holds where a share lies ready, and where none does, holds in any case
+by_ready : {A : Type 0} (Q : Option A → Type 0) → Q None → ((a : A) → Q (Some a)) → (ready : Option A) → Q ready
+by_ready Q none some None = none
+by_ready Q none some (Some a) = some a
+
 pub new_spec : {M : Type 1} → statement M
 new_spec 𝓤 𝓛 𝓜 𝓡 wired P C T LP LC LT =
     let H = 𝓛.H in let 𝓣 = tables 𝓤 H 𝓜 𝓡 𝓡.env in let En = ended P C T in let c = clauses P C T 𝓛 𝓜.mem 𝓡.returns in
@@ -45,7 +51,13 @@ new_spec 𝓤 𝓛 𝓜 𝓡 wired P C T LP LC LT =
     let I : RattleType = Core.the_row (param 0 P) (param 1 C) (param 2 T) in let F : RattleType = inside.the_row (param 0 P) (param 1 C) (param 2 T) in
     let LI = core_laws.the_row_laws (param 0 P) (param 1 C) (param 2 T) (param_laws 0 P LP) (param_laws 1 C LC) (param_laws 2 T LT) in
     let hs : Stays En.signature.params En.kept = (stay_dropped (plain (λ _. I)) En.kept.0, tt) in
-    proved_at 𝓛 En hs c 𝓜 𝓡 (Goes-blank 𝓛 3 (plain (λ _. I)) En.kept.0 (λ κs x f. tt), tt) (#self inst) fn (code.unfolded 𝓤 H 𝓜 𝓡 wired (P, (C, (T, tt)))) (λ z are.
+    proved_at 𝓛 En hs c 𝓜 𝓡 (
+      Goes-blank 𝓛 3 (plain (λ _. I)) En.kept.0 (λ κs x f.
+          let E = ((plain {n = 3} (λ _. I)).row κs).exit En.kept.0 in
+          by_ready (λ ready. (w : Last E (record x { routes = record x.routes { ready = ready } })) → Holds (blank (left E (record x { routes = record x.routes { ready = ready } }) w)))
+          (λ w. tt) (λ share w. tt) x.routes.ready f),
+      tt,
+    ) (#self inst) fn (code.unfolded 𝓤 H 𝓜 𝓡 wired (P, (C, (T, tt)))) (λ z are.
     let Post : Val → SProp 𝓤 = (walk_of 𝓛 En hs c).post z in let x : I.Denot = z.0.3.0 in let vss = z.0.4 in
     let got = one (layout I) vss.0 ((LI.lawful 𝓛).typed x vss.0 are.0) in let w : Val = got.0 in let is = got.1.0 in let good = got.1.1 in
     let v : Val = vstruct (vcons w vnil) in

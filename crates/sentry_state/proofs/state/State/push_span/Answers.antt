@@ -1,5 +1,5 @@
 use Rattle.std.proofs.Common.{◌∙◌, ◌++◌, ◌∷◌, [], sym}
-use Rattle.sentry_span_table.specs.SpanLists.{plain_transaction, with_finished}
+use Rattle.sentry_span_table.specs.SpanLists.{stored_transaction, with_span_finished}
 use Rattle.sentry_span_table.proofs.SpanListLemmas.{finished_kept}
 use Rattle.sentry_state.proofs.SpanKeeping.{transaction_replaced}
 use Rattle.sentry_state.proofs.state.State.push_span.Goals as goal
@@ -14,8 +14,8 @@ returns-clause-in_world g c = λ world state s found fate. record {
   sessions = s.sessions;
   books = s.books;
   spans =
-      c.in_ok-push_span.ensures.ok (plain_transaction state) found
-      ∙ transaction_replaced c.args.self.now world s c.args.number (with_finished c.args.span state)
-      (record (plain_transaction state) { spans = (plain_transaction state).spans ++ c.args.span ∷ [] })
+      c.in_ok-push_span.ensures.ok (stored_transaction state) found
+      ∙ transaction_replaced c.args.self.now world s c.args.number (with_span_finished c.args.span state)
+      (record (stored_transaction state) { spans = (stored_transaction state).spans ++ c.args.span ∷ [] })
       (sym (finished_kept state c.args.span fate));
 }

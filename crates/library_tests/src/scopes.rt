@@ -1,0 +1,65 @@
+//! Scopes and stacks that a caller holds itself.
+use crate::engines::{Scope, scope};
+use sentry_core::protocol::{
+    Breadcrumb, ClientKey, Context, Event, SessionKey, Uuid, Value, ValueMap,
+};
+use sentry_core::{Level, SpanTable};
+use sentry_scope::scope::{ScopeEdit, Stack, Trail};
+use std::alloc::{AllocError, Global};
+use std::test::Fail;
+
+/// Gives a scope a level, a transaction's name, a fingerprint, an extra value and a context.
+fn set_all(alloc: Global, scope: &mut Scope) -> Result<(), AllocError> {
+    let mut spans = SpanTable::new(alloc);
+    scope.set_transaction(&mut spans, Some("sell"))?;
+    scope.set_fingerprint(Some(&["till", "drawer"]))?;
+    scope.set_extra("lamps", Value::Int(2))?;
+    scope.set_context("shop", Context::Other(ValueMap::new(alloc)))?;
+    scope.edit_all(vec![in alloc; ScopeEdit::SetLevel(Some(Level::Error))]?)
+}
+
+/// What such a scope makes of an event on which nothing is set.
+fn filled(alloc: Global) -> Result<Option<Event>, AllocError> {
+    let mut scope = scope(alloc);
+    set_all(alloc, &mut scope)?;
+    let event = Event::new(alloc, Uuid::nil(), 5)?;
+    let spans = SpanTable::new(alloc);
+    scope.apply_to_event(&spans, event)
+}
+
+/// Whether an event has all that was set.
+fn has_all(event: &Event) -> bool {
+    let is_named = match &event.transaction {
+        Some(name) => name.as_str() == "sell",
+        None => false,
+    };
+    is_named
+        & (event.level == Level::Error)
+        & (event.fingerprint.len() == 2)
+        & event.extra.get("lamps").is_some()
+        & event.contexts.get("shop").is_some()
+        & event.contexts.get("trace").is_some()
+}
+
+#[test]
+fn a_scope_fills_in_what_is_set(rt: HostRuntime) -> Result<(), Fail> {
+    let is_whole = match filled(rt.alloc())? {
+        Some(event) => has_all(&event),
+        None => false,
+    };
+    assert!(rt; is_whole);
+    Ok(())
+}
+
+#[test]
+fn the_top_of_a_stack_is_written(rt: HostRuntime) -> Result<(), Fail> {
+    let client = ClientKey { tag: 0, number: 7 };
+    let session = SessionKey { tag: 0, number: 7 };
+    let mut stack = Stack::from_client_and_scope(rt.alloc(), None, scope(rt.alloc()));
+    stack.top_mut().client = Some(client);
+    assert!(rt; stack.top().client == Some(client));
+    assert!(rt; stack.names_client(client) && !stack.names_session(session));
+    let trail: Trail<Breadcrumb> = Trail::new(rt.alloc());
+    assert!(rt; trail.is_empty());
+    Ok(())
+}

@@ -1,0 +1,336 @@
+//! What transactions and spans have in common: a key, and a share of the core that holds what it names.
+ghost use Rattle.std.specs.Prelude.{◌≡◌, IfOk};
+
+use crate::hub::Hub;
+use crate::performance::{Data, EndError, HandleKey, calls};
+use sentry_base::clock::Clock;
+use sentry_base::protocol::{
+    Fresh, HubKey, Refusal, Request, SpanId, SpanKey, SpanStatus, TraceContext, TransactionKey,
+    TransactionOrSpanKey,
+};
+use sentry_batches::to_value::ToValue;
+use sentry_lock::core_lock::CoreLock;
+use sentry_lock::scope_edits::IntoSpanKey;
+use sentry_lock::shared_core::SharedCore;
+use sentry_thread_hub::thread_hub::ThreadHub;
+use sentry_trace::headers::TraceHeadersIter;
+use std::alloc::AllocError;
+use std::marker::Model;
+
+/// A transaction or a span, by its key and a share of the core that holds it. A clone of the value is the same
+/// transaction or span, and values are equal if their keys are. Contracts see the key.
+///
+/// A transaction or span is held until it is discarded, also once it is finished.
+pub struct Handle<L, N> {
+    core: SharedCore<L>,
+    key: N,
+}
+
+/// A transaction.
+pub type Transaction<L> = Handle<L, TransactionKey>;
+
+/// A span.
+pub type Span<L> = Handle<L, SpanKey>;
+
+/// What is a transaction or a span. Its key tells which.
+pub type TransactionOrSpan<L> = Handle<L, TransactionOrSpanKey>;
+
+impl<L: Drop, N: Drop> Drop for Handle<L, N> {
+    fn drop(self) {
+        let Handle { core: _, key: _ } = self;
+    }
+}
+
+impl<L, N> Model for Handle<L, N> {
+    ghost Value = { N };
+
+    ghost view = { λ handle. handle.key };
+}
+
+impl<L: Drop, N: Copy> Clone for Handle<L, N> {
+    ghost is_clone = { λ old new. new ≡ old };
+
+    fn clone(&self) -> Result<Handle<L, N>, AllocError> {
+        Ok(Handle {
+            core: self.core.clone()?,
+            key: self.key,
+        })
+    }
+}
+
+impl<L, N: PartialEq> PartialEq for Handle<L, N> {
+    ghost eq = { N.eq };
+
+    ghost laws = { N.laws };
+
+    fn eq(&self, other: &Handle<L, N>) -> bool {
+        self.key == other.key
+    }
+}
+
+impl<L, N: Eq> Eq for Handle<L, N> {
+    ghost laws = { N.Eq.laws };
+}
+
+impl<L, N: HandleKey> IntoSpanKey for &Handle<L, N> {
+    ghost use Rattle.std.specs.Prelude.{Some};
+
+    ghost span_key = { λ handle. Some (N.span_key handle.now) };
+
+    fn into_span_key(self) -> Option<TransactionOrSpanKey> {
+        Some(self.key.span_key())
+    }
+}
+
+impl<L> From<Transaction<L>> for TransactionOrSpan<L> {
+    ghost use Rattle.std.specs.Prelude.{◌≡◌};
+    ghost use Rattle.sentry_base.specs.declared.protocol.keys.TransactionOrSpanKey.TheVariants as key;
+
+    ghost from_gives = { λ transaction made. made ≡ key.Transaction transaction };
+
+    fn from(transaction: Transaction<L>) -> TransactionOrSpan<L> {
+        transaction.into_either()
+    }
+}
+
+impl<L> From<Span<L>> for TransactionOrSpan<L> {
+    ghost use Rattle.std.specs.Prelude.{◌≡◌};
+    ghost use Rattle.sentry_base.specs.declared.protocol.keys.TransactionOrSpanKey.TheVariants as key;
+
+    ghost from_gives = { λ span made. made ≡ key.Span span };
+
+    fn from(span: Span<L>) -> TransactionOrSpan<L> {
+        span.into_either()
+    }
+}
+
+impl<L, N: HandleKey> Handle<L, N> {
+    // The same, as what is either.
+    fn into_either(self) -> TransactionOrSpan<L>
+        ensures { result ≡ N.span_key self }
+    {
+        let Handle { core, key } = self;
+        Handle {
+            core,
+            key: key.span_key(),
+        }
+    }
+}
+
+impl<L: CoreLock, N: HandleKey> Handle<L, N> {
+    /// The transaction or the span of a key, which need not be held.
+    ///
+    /// An allocation may fail.
+    pub fn new(core: &SharedCore<L>, key: N) -> Result<Handle<L, N>, AllocError>
+        ensures { IfOk result (λ made. made ≡ key) }
+    {
+        Ok(Handle {
+            core: core.clone()?,
+            key,
+        })
+    }
+
+    // The same over a share.
+    pub(crate) fn of_key(core: SharedCore<L>, key: N) -> Handle<L, N>
+        ensures { result ≡ key }
+    {
+        Handle { core, key }
+    }
+
+    /// The key.
+    pub fn key(&self) -> N
+        ensures { result ≡ self.now }
+    {
+        self.key
+    }
+
+    // The core that holds it.
+    pub(super) fn core(&self) -> &SharedCore<L> {
+        &self.core
+    }
+
+    fn span_key(&self) -> TransactionOrSpanKey
+        ensures { result ≡ N.span_key self.now }
+    {
+        self.key.span_key()
+    }
+
+    /// Sets data, of a transaction while it is unfinished. It replaces a value with the same key.
+    ///
+    /// `Stale`: it isn't held. `OutOfMemory`.
+    pub fn set_data<V: ToValue + Drop>(&self, key: &str, value: V) -> Result<(), Refusal> {
+        let value = value.to_value(self.core.allocator())?;
+        self.core.set_data(self.span_key(), key, value)
+    }
+
+    /// Sets a tag, of a transaction while it is unfinished. It replaces a tag with the same key.
+    ///
+    /// `Stale`: it isn't held. `OutOfMemory`.
+    pub fn set_tag(&self, key: &str, value: &str) -> Result<(), Refusal> {
+        self.core.set_tag(self.span_key(), key, value)
+    }
+
+    /// The place of the transaction in its trace, with its operation, status, origin and data. That of a span is its
+    /// transaction's.
+    ///
+    /// `Stale`: it isn't held. `OutOfMemory`.
+    pub fn get_trace_context(&self) -> Result<TraceContext, Refusal> {
+        self.core.get_trace_context(self.span_key())
+    }
+
+    /// The status, if one is set. It takes no memory.
+    ///
+    /// `Stale`: it isn't held.
+    pub fn get_status(&self) -> Result<Option<SpanStatus>, Refusal> {
+        self.core.get_status(self.span_key())
+    }
+
+    /// Sets the status, also once it is finished.
+    ///
+    /// `Stale`: it isn't held. `OutOfMemory`.
+    pub fn set_status(&self, status: SpanStatus) -> Result<(), Refusal> {
+        self.core.set_status(self.span_key(), status)
+    }
+
+    /// Sets the operation, also once it is finished.
+    ///
+    /// `Stale`: it isn't held. `OutOfMemory`.
+    pub fn set_op(&self, op: &str) -> Result<(), Refusal> {
+        self.core.set_op(self.span_key(), op)
+    }
+
+    /// Sets the name of a transaction, while it is unfinished, or the description of a span, which may be empty.
+    ///
+    /// `Stale`: it isn't held. `OutOfMemory`.
+    pub fn set_name(&self, name: &str) -> Result<(), Refusal> {
+        self.core.set_name(self.span_key(), name)
+    }
+
+    /// Sets the request of a transaction, while it is unfinished, or the data that a span has of a request: a body that
+    /// is JSON of whole numbers of 64 bits becomes a value, and any other body a text.
+    ///
+    /// `Stale`: it isn't held. `OutOfMemory`.
+    pub fn set_request(&self, request: Request) -> Result<(), Refusal> {
+        self.core.set_request(self.span_key(), request)
+    }
+
+    /// The headers that pass the trace on to the next service.
+    ///
+    /// `Stale`: it isn't held. `OutOfMemory`.
+    pub fn iter_headers(&self) -> Result<TraceHeadersIter, Refusal> {
+        self.core.iter_headers(self.span_key())
+    }
+
+    /// Whether it is sampled: tracing was enabled when the transaction started, and it was sampled. It takes no memory.
+    ///
+    /// `Stale`: it isn't held.
+    pub fn is_sampled(&self) -> Result<bool, Refusal> {
+        self.core.is_sampled(self.span_key())
+    }
+
+    /// Lends the closure a copy of the data, with its setters. These are called once it has answered, in order, up to
+    /// the first that is refused. The closure runs without the lock, and its answer is the answer.
+    ///
+    /// `Stale`: it isn't held. `OutOfMemory`, also where the closure answers it: then no setter is called.
+    pub fn data<A: Drop, F: FnOnce(&mut Data) -> Result<A, AllocError> + Drop>(
+        &self,
+        edit: F,
+    ) -> Result<A, Refusal>
+        requires { F.IsAlwaysCallable edit }
+    {
+        let copy = self.core.data(self.span_key())?;
+        let mut data = Data::new(self.core.allocator(), self.span_key(), copy);
+        let answer = edit(&mut data)?;
+        calls::make_all(&self.core, data.into_calls())?;
+        Ok(answer)
+    }
+
+    /// Starts a child. An empty description is none. A program that forgets to discard the child leaves it in the core
+    /// for as long as that lasts, also once it is finished: `in_span` discards it.
+    ///
+    /// `Stale`: it isn't held. `Full`: the numbers are used up. `OutOfMemory`.
+    pub fn start_child(
+        &self,
+        op: &str,
+        description: &str,
+        fresh: Fresh,
+    ) -> Result<Span<L>, Refusal> {
+        let share = self.core.clone()?;
+        let key = self
+            .core
+            .start_child(self.span_key(), op, description, fresh)?;
+        Ok(Handle::of_key(share, key))
+    }
+
+    /// The same as `start_child`, with an id and a start in nanoseconds since the epoch.
+    ///
+    /// `Stale`: it isn't held. `Full`: the numbers are used up. `OutOfMemory`.
+    pub fn start_child_with_details(
+        &self,
+        op: &str,
+        description: &str,
+        id: SpanId,
+        start: u64,
+    ) -> Result<Span<L>, Refusal> {
+        let share = self.core.clone()?;
+        let span = self.span_key();
+        let key = self
+            .core
+            .start_child_with_details(span, op, description, id, start)?;
+        Ok(Handle::of_key(share, key))
+    }
+
+    /// Finishes it at the moment of the thread's clock, for the first time.
+    ///
+    /// A transaction is finished under the top scope of the thread's current hub. If it was sampled, it is sent by its
+    /// client, with the spans that it kept. A span comes to the spans of its transaction while that is unfinished, or is
+    /// lost if the transaction keeps no more.
+    ///
+    /// `Stale`: it isn't held, or the hub isn't, which a span doesn't ask for. `OutOfMemory`.
+    pub fn finish<K: Clock, G>(&self, thread: &mut ThreadHub<Hub<L>, K, G>) -> Result<(), Refusal>
+        ensures main { thread.new.main ≡ thread.old.main }
+        ensures current { thread.new.current ≡ thread.old.current }
+    {
+        let moment = thread.clock.now();
+        self.finish_on(thread.current.key(), moment)
+    }
+
+    // The same at a moment, a transaction on this hub.
+    pub(crate) fn finish_on(&self, hub: HubKey, moment: u64) -> Result<(), Refusal> {
+        self.key.finish(&self.core, hub, moment)
+    }
+
+    /// Finishes it, as `finish` does, and forgets it, as `discard` does, in one hold of the lock. A refusal hands the value
+    /// back.
+    ///
+    /// `Stale`: it isn't held, or the hub isn't, which a span doesn't ask for. `OutOfMemory`. `StillNamed`: a layer of a
+    /// hub names it, or a span of the transaction is held; it is finished then, and stays.
+    pub fn end<K: Clock, G>(
+        self,
+        thread: &mut ThreadHub<Hub<L>, K, G>,
+    ) -> Result<(), EndError<Handle<L, N>>>
+        ensures main { thread.new.main ≡ thread.old.main }
+        ensures current { thread.new.current ≡ thread.old.current }
+    {
+        let moment = thread.clock.now();
+        match self.end_on(thread.current.key(), moment) {
+            Ok(()) => Ok(()),
+            Err(refusal) => Err(EndError {
+                refusal,
+                span: self,
+            }),
+        }
+    }
+
+    // The same at a moment, a transaction on this hub.
+    pub(crate) fn end_on(&self, hub: HubKey, moment: u64) -> Result<(), Refusal> {
+        self.key.end(&self.core, hub, moment)
+    }
+
+    /// Forgets it. It records no loss. It takes no memory.
+    ///
+    /// `Stale`: it isn't held. `StillNamed`: a layer of a hub names it, or a span of the transaction is held.
+    pub fn discard(&self) -> Result<(), Refusal> {
+        self.core.discard(self.span_key())
+    }
+}

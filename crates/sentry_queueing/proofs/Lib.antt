@@ -1,3 +1,0 @@
-mod LimitLemmas
-mod QueueLemmas
-mod RecordingLemmas

@@ -1,4 +1,0 @@
-//! Envelopes that may go to another thread.
-#![tactic(auto)]
-
-pub mod send_envelopes;

@@ -1,6 +1,0 @@
-mod DigitLemmas
-mod EndLemmas
-mod NameLemmas
-mod PutLemmas
-mod UsageLemmas
-mod WholeLemmas

@@ -1,4 +1,0 @@
-use Rattle.sentry_spool.proofs.stamps.+push_digits.Given as goal
-
-abbrev pub decreases-push_digits : goal.decreases-push_digits
-decreases-push_digits a = a.width

@@ -1,8 +1,0 @@
-use Rattle.sentry_queueing.specs.QueueHistories.{take_call}
-use Rattle.sentry_timed_queue.proofs.MadeLemmas.{made_after_call}
-use Rattle.sentry_timed_queue.proofs.timed_queue.TimedQueue.take.Goals as goal
-
-pub invariant_of-self : goal.invariant_of-self
-invariant_of-self g c =
-    let self = c.args.self.now in
-    record { made = made_after_call take_call self.queue c.take.new.self c.take.ensures.stands self.made }

@@ -1,2 +1,0 @@
-pub mod QueueCalls
-pub mod QueueCounts

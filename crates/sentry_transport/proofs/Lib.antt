@@ -1,0 +1,6 @@
+mod LimitLemmas
+mod QueueLemmas
+mod RecordingLemmas
+mod CountLemmas
+mod Crossing
+mod MadeLemmas

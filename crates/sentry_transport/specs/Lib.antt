@@ -1,0 +1,6 @@
+pub mod Limits
+pub mod QueueHistories
+pub mod QueueSteps
+pub mod QueueCalls
+pub mod QueueCounts
+pub mod Transports

@@ -1,0 +1,42 @@
+"""A receiver of Sentry's envelopes, written from the rules of the format: a line of JSON, then items up to the end."""
+import json
+
+
+class NotAnEnvelope(ValueError):
+    """Bytes that break a rule of the format."""
+
+
+def line_at(data, start):
+    """The bytes up to the next newline, and where it goes on behind that."""
+    end = data.find(b"\n", start)
+    if end < 0:
+        raise NotAnEnvelope(f"no newline from byte {start} on")
+    return data[start:end], end + 1
+
+
+def object_at(data, start):
+    """The JSON object on a line, and where it goes on."""
+    line, start = line_at(data, start)
+    found = json.loads(line)
+    if not isinstance(found, dict):
+        raise NotAnEnvelope(f"{line!r} is no object")
+    return found, start
+
+
+def payload_at(data, start, length):
+    """A payload of a stated length, and where it goes on: behind a newline, or at the end."""
+    end = start + length
+    if len(data) < end or data[end : end + 1] not in (b"", b"\n"):
+        raise NotAnEnvelope(f"from byte {start} on a payload isn't {length} bytes long")
+    return data[start:end], min(end + 1, len(data))
+
+
+def received(data):
+    """An envelope's header, and the header and payload of each item. One pass; ValueError where a rule is broken."""
+    header, at = object_at(data, 0)
+    items = []
+    while at < len(data):
+        head, at = object_at(data, at)
+        payload, at = payload_at(data, at, head["length"]) if "length" in head else line_at(data, at)
+        items.append((head, payload))
+    return header, items
