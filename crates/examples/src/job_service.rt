@@ -162,7 +162,7 @@ fn open<R: Wait + Clock + Copy + Drop>(rt: R, alloc: Global) -> Result<Service<R
     };
     let tally = Arc::new(alloc, Tally::new())?;
     let queue = open_queue(rt, alloc, options, tally.clone()?)?;
-    let client = Client::with_options(&core, setup, Some(queue.clone()?), now)?;
+    let client = Client::with_options(setup, Some(queue.clone()?), now)?;
     let first = fresh(now, 1);
     let scope = Scope::new(alloc, first.trace_id, first.span_id);
     let main = Hub::new(&core, Some(&client), scope)?;

@@ -57,7 +57,7 @@ fn client_over_queue<R: Wait + Copy + Drop>(
     };
     let queue = QueueTransport::new(rt, alloc, options, Printer(host), SetMoment(moment))?;
     let queue = shared(alloc, queue)?;
-    let client = Client::with_options(&core, setup, Some(queue.clone()?), 0)?;
+    let client = Client::with_options(setup, Some(queue.clone()?), 0)?;
     Ok(Some((client, queue)))
 }
 

@@ -89,7 +89,7 @@ pub(crate) fn add_client<R: Wait + Drop>(
 ) -> Result<Client<Lock<R>>, Refusal> {
     let core = SharedCore::new(Waiting(rt), alloc, 5)?;
     let setup = core.client_setup(options(alloc)?)?;
-    Client::with_options(&core, setup, Some(sink.clone()?), at(1))
+    Client::with_options(setup, Some(sink.clone()?), at(1))
 }
 
 /// A hub of a client, whose scope sets nothing.

@@ -166,7 +166,7 @@ impl<L: CoreLock> Held<L> {
             Some(made) => made.client_report_recorder,
             None => None,
         };
-        let client = Client::with_options(core, setup, transport, 0)?;
+        let client = Client::with_options(setup, transport, 0)?;
         Ok(Held {
             client,
             label,

@@ -146,7 +146,7 @@ impl<R: Wait + Copy + Drop> Locked<R> {
         let label = setup.label();
         self.words.insert(number, Words { label, recorder })?;
         // It makes the client by `with_options`.
-        let client = Client::from_config(&self.core, setup, transport, now)?;
+        let client = Client::from_config(setup, transport, now)?;
         Ok(client.key())
     }
 

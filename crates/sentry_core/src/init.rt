@@ -110,7 +110,7 @@ pub fn start(
     let (_, tag) = fresh.uuid.as_u64_pair();
     let core = SharedCore::new(wait, alloc, tag)?;
     let setup = core.client_setup(options)?;
-    let client = Client::with_options(&core, setup, Some(transport), fresh.now)?;
+    let client = Client::with_options(setup, Some(transport), fresh.now)?;
     let scope = Scope::new(alloc, fresh.trace_id, fresh.span_id);
     let main = Hub::new(&core, Some(&client), scope)?;
     let thread = ThreadHub {

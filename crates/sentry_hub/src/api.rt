@@ -24,25 +24,23 @@ use sentry_options::sampler::TracesSampler;
 use sentry_plain::Boxed;
 use sentry_scope::scope::Scope;
 use sentry_thread_hub::hub_switch_guard::run_under;
-use sentry_thread_hub::thread_hub::ThreadHub;
+use sentry_thread_hub::thread_hub::{ThreadHub, fresh_of};
 use sentry_trace::performance::TransactionContext;
 use std::alloc::AllocError;
 
-// What `with_scope` works on: the current hub, the guard of the layer that was pushed onto it with a copy of its scope,
-// unless the hub isn't active, and the hub once more, which is current while the callback runs.
+// What `with_scope` works on: the guard of the layer that was pushed onto the current hub with a copy of its scope, unless
+// the hub isn't active, and the hub once more, which is current while the callback runs.
 struct Entered<L: CoreLock> {
-    hub: Hub<L>,
     layer: Option<(ScopeGuard, Boxed<Scope<L::Processor>>)>,
     same: Hub<L>,
 }
 
-fn enter<L: CoreLock, K, G>(thread: &ThreadHub<Hub<L>, K, G>) -> Result<Entered<L>, Refusal>
-    ensures { IfOk result (λ entered. (entered.hub ≡ thread.now.current) × (entered.same ≡ thread.now.current)) }
+fn enter<L: CoreLock>(hub: &Hub<L>) -> Result<Entered<L>, Refusal>
+    ensures { IfOk result (λ entered. entered.same ≡ hub.now) }
 {
-    let hub = Hub::current(thread)?;
-    let same = Hub::current(thread)?;
+    let same = hub.clone()?;
     let layer = hub.push_active()?;
-    Ok(Entered { hub, layer, same })
+    Ok(Entered { layer, same })
 }
 
 // A refusal before anything was done.
@@ -102,11 +100,11 @@ pub fn capture_event<L: CoreLock, K: Clock, G: Rng>(
     ensures main { thread.new.main ≡ thread.old.main }
     ensures current { thread.new.current ≡ thread.old.current }
 {
-    let hub = Hub::current(thread)?;
+    let hub = &thread.current;
     let Some(active) = hub.lock_active()? else {
         return Ok(Uuid::nil());
     };
-    active.capture_event(event, thread.fresh())
+    active.capture_event(event, fresh_of(&mut thread.clock, &mut thread.generator))
 }
 
 /// Captures a message. Its id is the answer; the nil id if it was not sent.
@@ -120,11 +118,11 @@ pub fn capture_message<L: CoreLock, K: Clock, G: Rng>(
     ensures main { thread.new.main ≡ thread.old.main }
     ensures current { thread.new.current ≡ thread.old.current }
 {
-    let hub = Hub::current(thread)?;
+    let hub = &thread.current;
     let Some(active) = hub.lock_active()? else {
         return Ok(Uuid::nil());
     };
-    active.capture_message(message, level, thread.fresh())
+    active.capture_message(message, level, fresh_of(&mut thread.clock, &mut thread.generator))
 }
 
 /// Captures an error, an error and its causes, or the links of one, outermost first. Its id is the answer; the nil id if
@@ -138,7 +136,7 @@ pub fn capture_error<L: CoreLock, K: Clock, G: Rng, E: IntoErrorLinks>(
     ensures main { thread.new.main ≡ thread.old.main }
     ensures current { thread.new.current ≡ thread.old.current }
 {
-    let hub = Hub::current(thread)?;
+    let hub = &thread.current;
     if !hub.is_active()? {
         return Ok(Uuid::nil());
     }
@@ -146,7 +144,7 @@ pub fn capture_error<L: CoreLock, K: Clock, G: Rng, E: IntoErrorLinks>(
     let Some(active) = hub.lock_active()? else {
         return Ok(Uuid::nil());
     };
-    active.capture_error(links.as_slice(), thread.fresh())
+    active.capture_error(links.as_slice(), fresh_of(&mut thread.clock, &mut thread.generator))
 }
 
 /// The context of a transaction of this name and operation, whose ids are drawn.
@@ -208,7 +206,7 @@ pub fn add_breadcrumb<L: CoreLock, K: Clock, G, B: IntoBreadcrumbs>(
     ensures main { thread.new.main ≡ thread.old.main }
     ensures current { thread.new.current ≡ thread.old.current }
 {
-    let hub = Hub::current(thread)?;
+    let hub = &thread.current;
     let Some(active) = hub.lock_active()? else {
         return Ok(());
     };
@@ -233,7 +231,7 @@ pub fn configure_scope<
     ensures main { thread.new.main ≡ thread.old.main }
     ensures current { thread.new.current ≡ thread.old.current }
 {
-    let hub = Hub::current(thread)?;
+    let hub = &thread.current;
     let Some(active) = hub.lock_active()? else {
         return Ok(A::default());
     };
@@ -261,17 +259,19 @@ pub fn with_scope<
     requires callback { M.IsAlwaysCallable callback }
     ensures { thread.new.current ≡ thread.old.current }
 {
-    let entered = match enter(thread) {
+    let entered = match enter(&thread.current) {
         Ok(entered) => entered,
         Err(refusal) => return Err(refuse(refusal)),
     };
-    let Entered { hub, layer, same } = entered;
+    let Entered { layer, same } = entered;
     let Some((guard, scope)) = layer else {
         return Ok(run_under(thread, same, callback));
     };
-    let guard = hub.configure_layer(guard, scope, thread.clock.now(), configure)?;
+    let now = thread.clock.now();
+    let guard = thread.current.configure_layer(guard, scope, now, configure)?;
     let answer = run_under(thread, same, callback);
-    hub.leave_scope(guard, answer, thread.clock.now())
+    let now = thread.clock.now();
+    thread.current.leave_scope(guard, answer, now)
 }
 
 /// Lends the closure the first integration of this name that the client of the current hub has, and the hub. Without
@@ -295,12 +295,13 @@ where
     F: FnOnce(&I, &Hub<L>) -> A + Drop,
     requires { F.IsAlwaysCallable callback }
 {
-    match Hub::active(thread)? {
+    let hub = &thread.current;
+    if !hub.is_active()? {
+        return Ok(A::default());
+    }
+    match hub.integration(name)? {
         None => Ok(A::default()),
-        Some(hub) => match hub.integration(name)? {
-            None => Ok(A::default()),
-            Some(integration) => Ok(callback(integration.get(), &hub)),
-        },
+        Some(integration) => Ok(callback(integration.get(), hub)),
     }
 }
 

@@ -1,5 +1,7 @@
 //! A client: its key, and a share of the core that holds it.
-ghost use Rattle.std.specs.Prelude.{◌≡◌, Ok, nat_lt, true};
+ghost use Rattle.std.specs.Prelude.{◌≡◌, IfOk, Ok, nat_lt, true};
+ghost use Rattle.std.specs.Option.{is_some};
+ghost use Rattle.sentry_base.specs.Losses.{no_losses};
 ghost use Rattle.sentry_lock.specs.ValueCalls.{is_ordinary_client_call};
 
 mod setup;
@@ -8,16 +10,44 @@ use crate::core_lock::CoreLock;
 use crate::handed::{Ending, Handed};
 use crate::shared_core::SharedCore;
 use sentry_base::protocol::{
-    ClientKey, Draw, Envelope, Event, Fresh, Log, Refusal, SampleRate, Uuid,
+    ClientKey, Draw, Envelope, Event, Fresh, Label, Log, Refusal, SampleRate, Uuid,
 };
 use sentry_batches::metrics::IntoProtocolMetric;
+use sentry_client_reports::client_reports::CountedDrainer;
 use sentry_engine::call::{Call, ClientCall, Reply};
 use sentry_options::clientoptions::ClientOptions;
 use sentry_plain::{Boxed, Shared};
 use sentry_scope::scope::Scope;
 use sentry_texts::dsn::Dsn;
 pub use setup::ClientSetup;
-use std::alloc::AllocError;
+use std::alloc::{AllocError, Global};
+
+// A share of a transport, which calls are made on without the lock.
+fn share_of<T: Drop>(alloc: Global, transport: Option<T>) -> Result<Option<Shared<T>>, AllocError>
+    ensures { IfOk result (λ share. is_some share ≡ is_some transport) }
+{
+    match transport {
+        None => Ok(None),
+        Some(transport) => Ok(Some(Shared::new(alloc, transport)?)),
+    }
+}
+
+// Takes the lock and adds a client with what its setup has.
+fn add_client<L: CoreLock>(
+    core: &SharedCore<L>,
+    options: ClientOptions<L::Callbacks>,
+    transport: Option<Shared<L::Transport>>,
+    label: Label,
+    drainer: CountedDrainer,
+    now: u64,
+) -> Result<ClientKey, Refusal>
+    requires label { drainer.part.label ≡ label }
+    requires none { drainer.taken ≡ no_losses }
+{
+    let mut guard = core.lock();
+    let out = guard.under.core.add_client(options, transport, label, drainer, now)?;
+    Ok(out.reply)
+}
 
 /// A client, by its key and a share of the core that holds it. A clone of the value is the same client; `clone_client`
 /// makes another one.
@@ -50,29 +80,36 @@ impl<L: CoreLock> Client<L> {
         })
     }
 
-    /// Adds a client, after the `setup` of its integrations. It sends its envelopes by the transport, if there is one
-    /// and the options have a DSN. `now` is the moment in nanoseconds since the epoch.
+    /// Adds a client to the core that its setup was made by, after the `setup` of its integrations. It sends its envelopes
+    /// by the transport, if there is one and the options have a DSN. `now` is the moment in nanoseconds since the epoch.
     ///
-    /// `ForeignLosses`: the setup was made by another core. `Full`: the numbers are used up. `OutOfMemory`.
+    /// `Full`: the numbers are used up. `OutOfMemory`. The transport is then dropped without the lock, the options under it.
     pub fn with_options(
-        core: &SharedCore<L>,
-        setup: ClientSetup<L::Callbacks>,
+        setup: ClientSetup<L>,
         transport: Option<L::Transport>,
         now: u64,
     ) -> Result<Client<L>, Refusal> {
-        let share = core.clone()?;
-        let key = core.lock().under.core.add_setup(setup, transport, now)?;
-        Ok(Client { core: share, key })
+        let ClientSetup {
+            core,
+            options,
+            label,
+            recorder: _,
+            drainer,
+        } = setup;
+        let share = share_of(core.allocator(), transport)?;
+        let kept = share.clone()?;
+        let added = add_client(&core, options, share, label, drainer, now);
+        drop(kept);
+        Ok(Client { core, key: added? })
     }
 
     /// The same as `with_options`.
     pub fn from_config(
-        core: &SharedCore<L>,
-        setup: ClientSetup<L::Callbacks>,
+        setup: ClientSetup<L>,
         transport: Option<L::Transport>,
         now: u64,
     ) -> Result<Client<L>, Refusal> {
-        Client::with_options(core, setup, transport, now)
+        Client::with_options(setup, transport, now)
     }
 
     /// The key of the client.

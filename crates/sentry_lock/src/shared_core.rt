@@ -94,9 +94,10 @@ impl<L: CoreLock> SharedCore<L> {
     pub fn client_setup(
         &self,
         options: ClientOptions<L::Callbacks>,
-    ) -> Result<ClientSetup<L::Callbacks>, Refusal> {
+    ) -> Result<ClientSetup<L>, Refusal> {
+        let share = self.clone()?;
         let label = self.lock().under.core.take_label()?;
-        ClientSetup::new(self.alloc, options, label)
+        ClientSetup::new(share, options, label)
     }
 
     /// The client of a key, which need not be held.

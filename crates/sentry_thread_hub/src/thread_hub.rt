@@ -83,26 +83,33 @@ fn draw_below_million<G: Rng>(generator: &mut G) -> Draw
     Draw::new(millionths).unwrap()
 }
 
+/// The moment, and then what the generator draws: a version 4 UUID, the id of a trace, the id of a span, each big end
+/// first, and a draw below a million. For a call that is made while a hub of the thread is lent.
+pub fn fresh_of<K: Clock, G: Rng>(clock: &mut K, generator: &mut G) -> Fresh
+    ensures { (result, G.stream generator.new) ≡ draw_fresh result.now (G.stream generator.old) }
+{
+    let now = clock.now();
+    let uuid = Uuid::new_v4(generator);
+    let trace_id: u128 = generator.random();
+    let span_id: u64 = generator.random();
+    let draw = draw_below_million(generator);
+    Fresh {
+        now,
+        uuid,
+        trace_id: TraceId(trace_id.to_be_bytes()),
+        span_id: SpanId(span_id.to_be_bytes()),
+        draw,
+    }
+}
+
 impl<H, K: Clock, G: Rng> ThreadHub<H, K, G> {
-    /// The moment, and then what the generator draws: a version 4 UUID, the id of a trace, the id of a span, each big
-    /// end first, and a draw below a million.
+    /// What `fresh_of` answers of the clock and the generator.
     pub fn fresh(&mut self) -> Fresh
         ensures drawn { (result, G.stream self.new.generator) ≡ draw_fresh result.now (G.stream self.old.generator) }
         ensures main { self.new.main ≡ self.old.main }
         ensures current { self.new.current ≡ self.old.current }
     {
-        let now = self.clock.now();
-        let uuid = Uuid::new_v4(&mut self.generator);
-        let trace_id: u128 = self.generator.random();
-        let span_id: u64 = self.generator.random();
-        let draw = draw_below_million(&mut self.generator);
-        Fresh {
-            now,
-            uuid,
-            trace_id: TraceId(trace_id.to_be_bytes()),
-            span_id: SpanId(span_id.to_be_bytes()),
-            draw,
-        }
+        fresh_of(&mut self.clock, &mut self.generator)
     }
 
     /// The moment and a version 4 UUID, for a call that needs no other value: the generator draws the UUID alone.

@@ -3,16 +3,19 @@
 ghost use Rattle.std.specs.Prelude.{◌≡◌};
 ghost use Rattle.sentry_base.specs.Losses.{no_losses};
 
+use crate::core_lock::CoreLock;
+use crate::shared_core::SharedCore;
 use sentry_base::protocol::{Label, Refusal};
 use sentry_client_reports::client_reports::{CountedDrainer, LossWords, Recorder};
 use sentry_options::clientoptions::ClientOptions;
 use sentry_transport::transport::TransportOptions;
-use std::alloc::Global;
 
-/// What a client is made of: its options, its label, and the words of its losses, from which nothing was drained.
+/// What a client is made of: the core that will hold it, its options, its label, and the words of its losses, from which
+/// nothing was drained.
 #[derive(Drop)]
-pub struct ClientSetup<C> {
-    pub(crate) options: ClientOptions<C>,
+pub struct ClientSetup<L: CoreLock> {
+    pub(crate) core: SharedCore<L>,
+    pub(crate) options: ClientOptions<L::Callbacks>,
     pub(crate) label: Label,
     pub(crate) recorder: Option<Recorder>,
     pub(crate) drainer: CountedDrainer,
@@ -20,15 +23,16 @@ pub struct ClientSetup<C> {
     ghost none: { drainer.taken ≡ no_losses },
 }
 
-impl<C: Drop> ClientSetup<C> {
+impl<L: CoreLock> ClientSetup<L> {
     // With new words of this label.
     pub(crate) fn new(
-        alloc: Global,
-        options: ClientOptions<C>,
+        core: SharedCore<L>,
+        options: ClientOptions<L::Callbacks>,
         label: Label,
-    ) -> Result<ClientSetup<C>, Refusal> {
-        let (recorder, drainer) = LossWords::new(alloc, label)?;
+    ) -> Result<ClientSetup<L>, Refusal> {
+        let (recorder, drainer) = LossWords::new(core.allocator(), label)?;
         Ok(ClientSetup {
+            core,
             options,
             label,
             recorder: Some(recorder),

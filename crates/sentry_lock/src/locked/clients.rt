@@ -3,8 +3,6 @@
 ghost use Rattle.std.specs.Prelude.{◌≡◌, ◌+◌, ◌-◌, ◌^◌, ◌⊎◌, List, None, Ok, Some, IfOk, IfErr, OnOk, OnErr, false};
 ghost use Rattle.std.specs.Option.{is_some};
 ghost use Rattle.sentry_base.specs.Losses.{no_losses};
-ghost use Rattle.sentry_base.specs.declared.protocol.envelope.Envelope.{Envelope};
-ghost use Rattle.sentry_base.specs.declared.protocol.keys.ClientKey.{ClientKey};
 ghost use Rattle.sentry_calls.specs.Clients as clients;
 ghost use Rattle.sentry_plain.specs.Tables.{value_at, put, replace_at};
 ghost use Rattle.sentry_state.specs.Books.{has_book};
@@ -13,7 +11,6 @@ ghost use Rattle.sentry_state.specs.Worlds.{World, Stands};
 ghost use Rattle.sentry_lock.specs.ValueCalls.{dropped_label};
 ghost use Rattle.sentry_lock.specs.Words.{AddsDrainer};
 
-use crate::client::ClientSetup;
 use crate::handed::{Routes, Transports};
 use crate::locked::Core;
 use sentry_base::callbacks::EventCallback;
@@ -166,7 +163,7 @@ impl<P: EventCallback + Drop, C: Callbacks, T: Drop> Core<P, C, T> {
     pub(crate) fn add_client(
         &mut self,
         options: ClientOptions<C>,
-        transport: Option<T>,
+        transport: Option<Shared<T>>,
         label: Label,
         drainer: CountedDrainer,
         now: u64,
@@ -184,44 +181,14 @@ impl<P: EventCallback + Drop, C: Callbacks, T: Drop> Core<P, C, T> {
             return Err(Refusal::ForeignLosses);
         }
         let has_transport = transport.is_some();
-        let share = match transport {
-            Some(transport) => Some(Shared::new(self.alloc, transport)?),
-            None => None,
-        };
         let number = self.engine.next_client();
         if number == u64::MAX {
             return Err(Refusal::Full);
         }
-        let transports = with_transport(self.alloc, &self.routes.transports, number, share)?;
+        let transports = with_transport(self.alloc, &self.routes.transports, number, transport)?;
         self.make_place(label.number)?;
         let out = self.add_at_place(options, has_transport, label, drainer, now)?;
         self.routes = Routes::by(transports);
         Ok(out)
-    }
-
-    /// Adds a client that is so set up.
-    pub(crate) fn add_setup(
-        &mut self,
-        setup: ClientSetup<C>,
-        transport: Option<T>,
-        now: u64,
-    ) -> Result<ClientKey, Refusal>
-        ensures done { IfOk result (λ reply. (sent : List (ClientKey × Envelope))
-            × Does self.old.engine self.new.engine (Ok (record { reply = reply; sent = sent }))
-            (clients.add_client C.meanings setup.options (is_some transport) setup.label now)) }
-        ensures drainer { OnOk result
-            (AddsDrainer self.old.drainers self.new.drainers setup.label.number setup.drainer) }
-        ensures refused { IfErr result (λ _. (self.new.engine ≡ self.old.engine)
-            × ((self.new.drainers ≡ self.old.drainers)
-            ⊎ (self.new.drainers ≡ put self.old.drainers setup.label.number None))) }
-    {
-        let ClientSetup {
-            options,
-            label,
-            recorder: _,
-            drainer,
-        } = setup;
-        let out = self.add_client(options, transport, label, drainer, now)?;
-        Ok(out.reply)
     }
 }
