@@ -113,7 +113,6 @@ impl<L: CoreLock> Hub<L> {
     }
 
     // The same if the hub is active.
-    #[inline(always)]
     pub(crate) fn lock_active(
         &self,
     ) -> Result<Option<LockedHub<'_, L::Processor, L::Callbacks, L::Transport>>, Refusal> {
