@@ -83,8 +83,8 @@ fn draw_below_million<G: Rng>(generator: &mut G) -> Draw
     Draw::new(millionths).unwrap()
 }
 
-/// The moment, and then what the generator draws: a version 4 UUID, the id of a trace, the id of a span, each big end
-/// first, and a draw below a million. For a call that is made while a hub of the thread is lent.
+/// What `ThreadHub::fresh` answers, of the clock and the generator alone: for a call that is made while a hub of the thread
+/// is lent.
 pub fn fresh_of<K: Clock, G: Rng>(clock: &mut K, generator: &mut G) -> Fresh
     ensures { (result, G.stream generator.new) ≡ draw_fresh result.now (G.stream generator.old) }
 {
@@ -103,7 +103,8 @@ pub fn fresh_of<K: Clock, G: Rng>(clock: &mut K, generator: &mut G) -> Fresh
 }
 
 impl<H, K: Clock, G: Rng> ThreadHub<H, K, G> {
-    /// What `fresh_of` answers of the clock and the generator.
+    /// The moment, and then what the generator draws: a version 4 UUID, the id of a trace, the id of a span, each big
+    /// end first, and a draw below a million.
     pub fn fresh(&mut self) -> Fresh
         ensures drawn { (result, G.stream self.new.generator) ≡ draw_fresh result.now (G.stream self.old.generator) }
         ensures main { self.new.main ≡ self.old.main }
