@@ -30,8 +30,8 @@ use Rattle.c_base.specs.contracts.outbox.Outbox as Outbox
 use Rattle.c_records.specs.contracts.filters.Filters as FiltersOf
 use Rattle.c_engine.specs.contracts.callbacks.NoProcessor as NoProcessorOf
 use Rattle.c_engine.specs.contracts.outbox_engine.OutboxEngine as OutboxEngine
-use Rattle.dochirwa.proofs.SentRecords.{Envelope_send, LogAttribute_send, LogAttribute_sync, Queues_field_send, SpanTable_field_send}
-use Rattle.dochirwa.proofs.SentHubs.{HubTable_send}
+use Rattle.sentry_engine.proofs.SentRecords.{Envelope_send, LogAttribute_send, LogAttribute_sync, Queues_field_send, SpanTable_field_send}
+use Rattle.sentry_engine.proofs.SentHubs.{HubTable_send}
 
 Sdk_send : IsSend (SharedOf.the_row Sdk.the_row)
 Sdk_send = search (Shared.the_send, ClientSdkInfo.the_send, ClientSdkInfo.the_sync, sendable) depth 60 fits 20000

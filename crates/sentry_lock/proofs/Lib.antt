@@ -10,6 +10,4 @@ mod NoLosses
 mod Sound
 mod Silent
 mod Walks
-pub mod SentRecords
-mod SentHubs
 mod Sent

@@ -27,8 +27,8 @@ use Rattle.sentry_state.specs.contracts.state.State as State
 use Rattle.sentry_engine.specs.contracts.engine.Engine as Engine
 use Rattle.sentry_lock.specs.contracts.handed.Routes as Routes
 use Rattle.sentry_lock.specs.contracts.locked.Core as Core
-use Rattle.sentry_lock.proofs.SentRecords.{LogAttribute_send, LogAttribute_sync, Queues_field_send, SpanTable_field_send}
-use Rattle.sentry_lock.proofs.SentHubs.{HubTable_send}
+use Rattle.sentry_engine.proofs.SentRecords.{LogAttribute_send, LogAttribute_sync, Queues_field_send, SpanTable_field_send}
+use Rattle.sentry_engine.proofs.SentHubs.{HubTable_send}
 
 Sdk_send : IsSend (SharedOf.the_row Sdk.the_row)
 Sdk_send = search (Shared.the_send, ClientSdkInfo.the_send, ClientSdkInfo.the_sync, sendable) depth 60 fits 20000
