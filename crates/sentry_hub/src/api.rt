@@ -104,7 +104,8 @@ pub fn capture_event<L: CoreLock, K: Clock, G: Rng>(
     let Some(active) = hub.lock_active()? else {
         return Ok(Uuid::nil());
     };
-    active.capture_event(event, fresh_of(&mut thread.clock, &mut thread.generator))
+    let fresh = fresh_of(&mut thread.clock, &mut thread.generator);
+    active.capture_event(event, fresh)
 }
 
 /// Captures a message. Its id is the answer; the nil id if it was not sent.
@@ -122,7 +123,8 @@ pub fn capture_message<L: CoreLock, K: Clock, G: Rng>(
     let Some(active) = hub.lock_active()? else {
         return Ok(Uuid::nil());
     };
-    active.capture_message(message, level, fresh_of(&mut thread.clock, &mut thread.generator))
+    let fresh = fresh_of(&mut thread.clock, &mut thread.generator);
+    active.capture_message(message, level, fresh)
 }
 
 /// Captures an error, an error and its causes, or the links of one, outermost first. Its id is the answer; the nil id if
@@ -144,7 +146,8 @@ pub fn capture_error<L: CoreLock, K: Clock, G: Rng, E: IntoErrorLinks>(
     let Some(active) = hub.lock_active()? else {
         return Ok(Uuid::nil());
     };
-    active.capture_error(links.as_slice(), fresh_of(&mut thread.clock, &mut thread.generator))
+    let fresh = fresh_of(&mut thread.clock, &mut thread.generator);
+    active.capture_error(links.as_slice(), fresh)
 }
 
 /// The context of a transaction of this name and operation, whose ids are drawn.
@@ -268,7 +271,9 @@ pub fn with_scope<
         return Ok(run_under(thread, same, callback));
     };
     let now = thread.clock.now();
-    let guard = thread.current.configure_layer(guard, scope, now, configure)?;
+    let guard = thread
+        .current
+        .configure_layer(guard, scope, now, configure)?;
     let answer = run_under(thread, same, callback);
     let now = thread.clock.now();
     thread.current.leave_scope(guard, answer, now)

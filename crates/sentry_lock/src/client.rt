@@ -45,7 +45,10 @@ fn add_client<L: CoreLock>(
     requires none { drainer.taken ≡ no_losses }
 {
     let mut guard = core.lock();
-    let out = guard.under.core.add_client(options, transport, label, drainer, now)?;
+    let out = guard
+        .under
+        .core
+        .add_client(options, transport, label, drainer, now)?;
     Ok(out.reply)
 }
 

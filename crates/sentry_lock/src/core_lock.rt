@@ -73,16 +73,6 @@ pub trait CoreLock: Drop {
     fn lock(&self) -> CoreGuard<'_, UnderLock<Self::Processor, Self::Callbacks, Self::Transport>>;
 }
 
-/// The lock of a core that can be made by what waits for it.
-pub trait NewLock: CoreLock + Sized {
-    type Gate;
-
-    /// A core that holds nothing. The keys of its engine carry the tag, by which those of another one are refused.
-    ///
-    /// An allocation may fail.
-    fn new_lock(wait: Self::Gate, alloc: Global, tag: u64) -> Result<Self, AllocError>;
-}
-
 /// A core under its lock, and what waits for the lock. Whoever takes the core has entered the gate.
 #[derive(Drop)]
 pub struct Locked<P, C, T, W> {
@@ -91,11 +81,16 @@ pub struct Locked<P, C, T, W> {
     wait: W,
 }
 
-impl<P: EventCallback + Drop, C: Callbacks, T: Transport + Drop, W: Gate + Drop> NewLock
-    for Locked<P, C, T, W> {
-    type Gate = W;
-
-    fn new_lock(wait: W, alloc: Global, tag: u64) -> Result<Locked<P, C, T, W>, AllocError> {
+impl<P: EventCallback + Drop, C: Callbacks, T: Transport + Drop, W: Gate + Drop> Locked<
+    P,
+    C,
+    T,
+    W,
+> {
+    /// A core that holds nothing. The keys of its engine carry the tag, by which those of another one are refused.
+    ///
+    /// An allocation may fail.
+    pub fn new(wait: W, alloc: Global, tag: u64) -> Result<Locked<P, C, T, W>, AllocError> {
         let core = Mutex::new(UnderLock::new(Core::new(alloc, tag)?));
         Ok(Locked {
             gate: Mutex::new(()),

@@ -5,13 +5,15 @@ ghost use Rattle.std.specs.Vec.{vec_capacity};
 ghost use Rattle.sentry_lock.specs.ValueCalls.{is_ordinary_call};
 
 use crate::client::{Client, ClientSetup};
-use crate::core_lock::{CoreGuard, CoreLock, NewLock};
+use crate::core_lock::{CoreGuard, CoreLock, Gate, Locked};
 use crate::handed::Handed;
 use crate::under_lock::UnderLock;
+use sentry_base::callbacks::EventCallback;
 use sentry_base::protocol::{ClientKey, HubKey, Refusal};
 use sentry_engine::call::{Call, Reply};
 use sentry_engine::engine::{Held, ScopeGuard};
-use sentry_options::clientoptions::ClientOptions;
+use sentry_options::clientoptions::{Callbacks, ClientOptions};
+use sentry_transport::transport::Transport;
 use std::alloc::{AllocError, Global};
 use std::fmt;
 use std::fmt::Debug;
@@ -45,12 +47,18 @@ impl<L: Drop> Clone for SharedCore<L> {
     }
 }
 
-impl<L: NewLock> SharedCore<L> {
+impl<P: EventCallback + Drop, C: Callbacks, T: Transport + Drop, W: Gate + Drop> SharedCore<
+    Locked<P, C, T, W>,
+> {
     /// A core that holds nothing. The keys of its engine carry the tag, by which those of another one are refused.
     ///
     /// An allocation may fail.
-    pub fn new(wait: L::Gate, alloc: Global, tag: u64) -> Result<SharedCore<L>, AllocError> {
-        let core = Arc::new(alloc, L::new_lock(wait, alloc, tag)?)?;
+    pub fn new(
+        wait: W,
+        alloc: Global,
+        tag: u64,
+    ) -> Result<SharedCore<Locked<P, C, T, W>>, AllocError> {
+        let core = Arc::new(alloc, Locked::new(wait, alloc, tag)?)?;
         Ok(SharedCore { core, alloc })
     }
 }
