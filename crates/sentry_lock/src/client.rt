@@ -88,7 +88,7 @@ impl<L: CoreLock> Client<L> {
     ///
     /// `Full`: the numbers are used up. `OutOfMemory`. The transport is then dropped without the lock, the options under it.
     pub fn with_options(
-        setup: ClientSetup<L>,
+        setup: ClientSetup<L, L::Callbacks>,
         transport: Option<L::Transport>,
         now: u64,
     ) -> Result<Client<L>, Refusal> {
@@ -108,7 +108,7 @@ impl<L: CoreLock> Client<L> {
 
     /// The same as `with_options`.
     pub fn from_config(
-        setup: ClientSetup<L>,
+        setup: ClientSetup<L, L::Callbacks>,
         transport: Option<L::Transport>,
         now: u64,
     ) -> Result<Client<L>, Refusal> {

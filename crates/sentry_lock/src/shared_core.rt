@@ -94,10 +94,10 @@ impl<L: CoreLock> SharedCore<L> {
     pub fn client_setup(
         &self,
         options: ClientOptions<L::Callbacks>,
-    ) -> Result<ClientSetup<L>, Refusal> {
+    ) -> Result<ClientSetup<L, L::Callbacks>, Refusal> {
         let share = self.clone()?;
         let label = self.lock().under.core.take_label()?;
-        ClientSetup::new(share, options, label)
+        ClientSetup::new(share, self.alloc, options, label)
     }
 
     /// The client of a key, which need not be held.

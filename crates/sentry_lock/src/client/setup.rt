@@ -3,19 +3,19 @@
 ghost use Rattle.std.specs.Prelude.{◌≡◌};
 ghost use Rattle.sentry_base.specs.Losses.{no_losses};
 
-use crate::core_lock::CoreLock;
 use crate::shared_core::SharedCore;
 use sentry_base::protocol::{Label, Refusal};
 use sentry_client_reports::client_reports::{CountedDrainer, LossWords, Recorder};
 use sentry_options::clientoptions::ClientOptions;
 use sentry_transport::transport::TransportOptions;
+use std::alloc::Global;
 
 /// What a client is made of: the core that will hold it, its options, its label, and the words of its losses, from which
 /// nothing was drained.
 #[derive(Drop)]
-pub struct ClientSetup<L: CoreLock> {
+pub struct ClientSetup<L, C> {
     pub(crate) core: SharedCore<L>,
-    pub(crate) options: ClientOptions<L::Callbacks>,
+    pub(crate) options: ClientOptions<C>,
     pub(crate) label: Label,
     pub(crate) recorder: Option<Recorder>,
     pub(crate) drainer: CountedDrainer,
@@ -23,14 +23,15 @@ pub struct ClientSetup<L: CoreLock> {
     ghost none: { drainer.taken ≡ no_losses },
 }
 
-impl<L: CoreLock> ClientSetup<L> {
+impl<L: Drop, C: Drop> ClientSetup<L, C> {
     // With new words of this label.
     pub(crate) fn new(
         core: SharedCore<L>,
-        options: ClientOptions<L::Callbacks>,
+        alloc: Global,
+        options: ClientOptions<C>,
         label: Label,
-    ) -> Result<ClientSetup<L>, Refusal> {
-        let (recorder, drainer) = LossWords::new(core.allocator(), label)?;
+    ) -> Result<ClientSetup<L, C>, Refusal> {
+        let (recorder, drainer) = LossWords::new(alloc, label)?;
         Ok(ClientSetup {
             core,
             options,
