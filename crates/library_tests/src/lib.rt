@@ -1,6 +1,6 @@
 //! Tests of what no text given to a program can show: boxed callbacks, engines that no program makes, keys of another
-//! engine, envelopes as bytes, and scopes that a caller holds. Beside them stand callers of `Engine::run` that promise the laws of
-//! whole runs.
+//! engine, envelopes as bytes, and scopes that a caller holds. Beside them stand callers of `Engine::run` that promise
+//! the laws of whole runs.
 #![tactic(auto)]
 
 #[cfg(test)]

@@ -28,8 +28,8 @@ use sentry_thread_hub::thread_hub::{ThreadHub, fresh_of};
 use sentry_trace::performance::TransactionContext;
 use std::alloc::AllocError;
 
-// What `with_scope` works on: the guard of the layer that was pushed onto the current hub with a copy of its scope, unless
-// the hub isn't active, and the hub once more, which is current while the callback runs.
+// What `with_scope` works on: the guard of the layer that was pushed onto the current hub with a copy of its scope,
+// unless the hub isn't active, and the hub once more, which is current while the callback runs.
 struct Entered<L: CoreLock> {
     layer: Option<(ScopeGuard, Boxed<Scope<L::Processor>>)>,
     same: Hub<L>,

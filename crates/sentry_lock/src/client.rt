@@ -83,10 +83,12 @@ impl<L: CoreLock> Client<L> {
         })
     }
 
-    /// Adds a client to the core that its setup was made by, after the `setup` of its integrations. It sends its envelopes
-    /// by the transport, if there is one and the options have a DSN. `now` is the moment in nanoseconds since the epoch.
+    /// Adds a client to the core that its setup was made by, after the `setup` of its integrations. It sends its
+    /// envelopes by the transport, if there is one and the options have a DSN. `now` is the moment in nanoseconds since
+    /// the epoch.
     ///
-    /// `Full`: the numbers are used up. `OutOfMemory`. The transport is then dropped without the lock, the options under it.
+    /// `Full`: the numbers are used up. `OutOfMemory`. Then the transport is dropped without the lock, and the options
+    /// under it.
     pub fn with_options(
         setup: ClientSetup<L, L::Callbacks>,
         transport: Option<L::Transport>,
@@ -100,6 +102,7 @@ impl<L: CoreLock> Client<L> {
             drainer,
         } = setup;
         let share = share_of(core.allocator(), transport)?;
+        // So that a transport that is refused outlasts the lock.
         let kept = share.clone()?;
         let added = add_client(&core, options, share, label, drainer, now);
         drop(kept);

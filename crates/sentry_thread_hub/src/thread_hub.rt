@@ -83,8 +83,8 @@ fn draw_below_million<G: Rng>(generator: &mut G) -> Draw
     Draw::new(millionths).unwrap()
 }
 
-/// What `ThreadHub::fresh` answers, of the clock and the generator alone: for a call that is made while a hub of the thread
-/// is lent.
+/// What `ThreadHub::fresh` answers, of the clock and the generator alone: for a call that is made while a hub of the
+/// thread is lent.
 pub fn fresh_of<K: Clock, G: Rng>(clock: &mut K, generator: &mut G) -> Fresh
     ensures { (result, G.stream generator.new) ≡ draw_fresh result.now (G.stream generator.old) }
 {

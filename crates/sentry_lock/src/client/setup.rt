@@ -10,8 +10,8 @@ use sentry_options::clientoptions::ClientOptions;
 use sentry_transport::transport::TransportOptions;
 use std::alloc::Global;
 
-/// What a client is made of: the core that will hold it, its options, its label, and the words of its losses, from which
-/// nothing was drained.
+/// What a client is made of: the core that will hold it, its options, its label, and the words of its losses, from
+/// which nothing was drained.
 #[derive(Drop)]
 pub struct ClientSetup<L, C> {
     pub(crate) core: SharedCore<L>,
