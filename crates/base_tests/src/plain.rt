@@ -52,7 +52,7 @@ fn texts_are_kept_in_place_or_not(rt: HostRuntime) -> Result<(), Fail> {
         let kept = Text::new(alloc, text)?;
         let copy = kept.clone()?;
         assert!(rt; copy.as_str() == text && copy == kept);
-        let again = Text::from_string(kept.into_string()?);
+        let again = Text::from_string(kept.into_string()?)?;
         assert!(rt; again.as_str() == text);
         let plain = PlainString::new(again.into_string()?);
         assert!(rt; plain.into_string().as_str() == text);

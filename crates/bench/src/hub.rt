@@ -1,4 +1,5 @@
 //! The options of a client that lets all be sent, and turns on the current hub of a thread.
+use crate::texts::Texts;
 use crate::turns::{HubTurn, make_turns, prepare};
 use sentry_core::protocol::Refusal;
 use sentry_core::{ClientOptions, Clock, Generator};
@@ -18,11 +19,11 @@ pub fn options(alloc: Global) -> Result<ClientOptions, Refusal> {
 }
 
 /// Makes so many turns on the current hub of a thread, and answers how many did what they were to do.
-pub fn make_on_hub<L: CoreLock, K: Clock + Drop>(
+pub fn make_on_hub<T: Texts, L: CoreLock, K: Clock + Drop>(
     thread: &mut Thread<L, K>,
     turn: HubTurn,
     turns: u64,
 ) -> Result<u64, Refusal> {
-    prepare(thread, turn)?;
-    make_turns(thread, turn, turns)
+    prepare::<T, L, K>(thread, turn)?;
+    make_turns::<T, L, K>(thread, turn, turns)
 }

@@ -84,6 +84,8 @@ pub struct Size {
     pub turns: u64,
     pub threads: u64,
     pub drains: u64,
+    /// Whether loops on hubs write long texts.
+    pub long: bool,
 }
 
 // The number at a place, or another one where no word is left; `None` if the word is no number.
@@ -99,6 +101,7 @@ const FEW: Size = Size {
     turns: 200,
     threads: 2,
     drains: 10,
+    long: false,
 };
 
 /// What the arguments ask for.
@@ -111,7 +114,7 @@ pub struct Asked<'a> {
 
 impl<'a> Asked<'a> {
     /// What the words ask for, of which the first is the program's name: all loops, for a few turns, or a loop, turns,
-    /// threads (else one) and drains (else none). `None` if they are others.
+    /// threads (else one) and drains (else none), with long texts if the last word says so. `None` if they are others.
     pub fn read(words: &'a [String]) -> Option<Asked<'a>> {
         let Some(name) = words.get(1) else {
             return Some(Asked {
@@ -119,6 +122,7 @@ impl<'a> Asked<'a> {
                 size: FEW,
             });
         };
+        let (words, long) = split_long(words);
         if !is_loop(name.as_str()) || words.len() < 3 || words.len() > 5 {
             return None;
         }
@@ -126,6 +130,7 @@ impl<'a> Asked<'a> {
             turns: number_at(words, 2, 0)?,
             threads: number_at(words, 3, 1)?,
             drains: number_at(words, 4, 0)?,
+            long,
         };
         Some(Asked {
             name: Some(name.as_str()),
@@ -139,6 +144,14 @@ impl<'a> Asked<'a> {
             None => true,
             Some(asked) => asked == name,
         }
+    }
+}
+
+// The words before a last word `long`, and whether it is there.
+fn split_long(words: &[String]) -> (&[String], bool) {
+    match words.split_last() {
+        Some((last, before)) if last.as_str() == "long" => (before, true),
+        _ => (words, false),
     }
 }
 

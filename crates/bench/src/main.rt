@@ -1,8 +1,8 @@
 //! The loops that the scripts of `bench/` time, and `tests/memory_use` watches, from outside.
 //!
-//! Arguments: `LOOP TURNS [THREADS [DRAINS]]`, where `loops.rt` names the loops. It prints how many turns did what they
-//! were to do. Without arguments it runs each loop for a few turns. With other words it tells what it takes, and ends
-//! with status 2.
+//! Arguments: `LOOP TURNS [THREADS [DRAINS]] [long]`, where `loops.rt` names the loops. Loops on hubs write short texts,
+//! or with `long` ones of 30 to 45 bytes. It prints how many turns did what they were to do. Without arguments it runs
+//! each loop for a few turns. With other words it tells what it takes, and ends with status 2.
 #![tactic(auto)]
 
 mod clock;
@@ -14,6 +14,7 @@ mod lock;
 mod loops;
 mod losses;
 mod queue;
+mod texts;
 mod threads;
 mod traces;
 mod transport;
@@ -33,9 +34,15 @@ use std::process::ExitCode;
 use std::sync::Wait;
 use std::thread::Threads;
 use std::{env, io};
+use texts::{Long, Short, Texts};
 
 // What a loop over a lock counts.
-fn count_over_lock<R: Threads + Sync, L: CoreLock + Send + Sync + 'static, K: Clock + Drop>(
+fn count_over_lock<
+    T: Texts,
+    R: Threads + Sync,
+    L: CoreLock + Send + Sync + 'static,
+    K: Clock + Drop,
+>(
     rt: &R,
     client: &Client<L>,
     thread: &mut Thread<L, K>,
@@ -49,8 +56,8 @@ where
 {
     let (turns, threads) = (size.turns, size.threads);
     match named {
-        LockLoop::Hub(turn) => hub::make_on_hub(thread, turn, turns),
-        LockLoop::HubThreads => threads::send_by_hubs(rt, &thread.main, turns, threads),
+        LockLoop::Hub(turn) => hub::make_on_hub::<T, L, K>(thread, turn, turns),
+        LockLoop::HubThreads => threads::send_by_hubs::<T, R, L>(rt, &thread.main, turns, threads),
         LockLoop::Client => lock::send_by_client(client, turns),
         LockLoop::ClientThreads => threads::send_by_clients(rt, client, turns, threads),
     }
@@ -74,7 +81,10 @@ fn open_and_count<R: Threads + Sync>(
     let clock: BoxedClock = clock;
     let options = hub::options(alloc)?;
     let (sentry, mut thread) = start(alloc, wait, options, transport, clock, [1; 32])?;
-    count_over_lock(rt, sentry.client(), &mut thread, named, size)
+    if size.long {
+        return count_over_lock::<Long, R, _, _>(rt, sentry.client(), &mut thread, named, size);
+    }
+    count_over_lock::<Short, R, _, _>(rt, sentry.client(), &mut thread, named, size)
 }
 
 /// What a loop counts. What locks wait by is in the box, or `rt` itself.
@@ -89,6 +99,7 @@ fn count<R: Threads + Wait + Sync + Copy + Drop>(
         turns,
         threads,
         drains,
+        long: _,
     } = size;
     match named {
         Loop::Lock(named) => open_and_count(rt, alloc, wait, named, size),
@@ -107,7 +118,7 @@ fn count<R: Threads + Wait + Sync + Copy + Drop>(
 }
 
 fn print_usage(rt: &impl Eprint) -> io::Result<()> {
-    eprintln!(rt; "usage: bench [LOOP TURNS [THREADS [DRAINS]]]")?;
+    eprintln!(rt; "usage: bench [LOOP TURNS [THREADS [DRAINS]] [long]]")?;
     eprint!(rt; "where LOOP is one of:")?;
     for (name, _) in &LOOPS {
         eprint!(rt; " {name}")?;

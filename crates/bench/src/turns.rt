@@ -1,11 +1,12 @@
 //! The turns that a thread makes on its current hub.
 use crate::hub::Thread;
+use crate::texts::Texts;
 use crate::traces::send_transaction;
 use sentry_core::metrics::{CaptureMetric, counter};
 use sentry_core::protocol::Refusal;
 use sentry_core::{
     Breadcrumb, Clock, Level, Text, add_breadcrumb, capture_message, configure_scope, end_session,
-    logger_info, start_session, with_scope,
+    start_session, with_scope,
 };
 use sentry_lock::core_lock::CoreLock;
 use std::alloc::{AllocError, Global};
@@ -36,59 +37,72 @@ fn allocator_of<L: CoreLock, K: Clock + Drop>(thread: &Thread<L, K>) -> Global {
 }
 
 // Ten tags for the scope of the current hub.
-fn set_ten_tags<L: CoreLock, K: Clock + Drop>(thread: &mut Thread<L, K>) -> Result<(), Refusal> {
+fn set_ten_tags<T: Texts, L: CoreLock, K: Clock + Drop>(
+    thread: &mut Thread<L, K>,
+) -> Result<(), Refusal> {
     for number in 0..10u64 {
-        let key = format!(in allocator_of(thread); "key{number}")?;
-        configure_scope(thread, |scope| scope.set_tag(key.as_str(), "value"))?;
+        let name = T::key();
+        let key = format!(in allocator_of(thread); "{name}{number}")?;
+        configure_scope(thread, |scope| scope.set_tag(key.as_str(), T::value()))?;
     }
     Ok(())
 }
 
 /// Sets on the current hub what a turn needs.
-pub fn prepare<L: CoreLock, K: Clock + Drop>(
+pub fn prepare<T: Texts, L: CoreLock, K: Clock + Drop>(
     thread: &mut Thread<L, K>,
     turn: HubTurn,
 ) -> Result<(), Refusal> {
     match turn {
-        HubTurn::Scope | HubTurn::TaggedMessage => set_ten_tags(thread),
+        HubTurn::Scope | HubTurn::TaggedMessage => set_ten_tags::<T, L, K>(thread),
         _other => Ok(()),
     }
 }
 
 // A layer with a tag more, on which nothing is done.
-fn push_tag_and_pop<L: CoreLock, K: Clock + Drop>(
+fn push_tag_and_pop<T: Texts, L: CoreLock, K: Clock + Drop>(
     thread: &mut Thread<L, K>,
 ) -> Result<bool, Refusal> {
-    with_scope(thread, |scope| scope.set_tag("key0", "other"), |_thread| ())?;
+    with_scope(
+        thread,
+        |scope| scope.set_tag(T::first_key(), T::other_value()),
+        |_thread| (),
+    )?;
     Ok(true)
 }
 
-fn send_message<L: CoreLock, K: Clock + Drop>(thread: &mut Thread<L, K>) -> Result<bool, Refusal> {
-    let id = capture_message(thread, "hello world", Level::Info)?;
+fn send_message<T: Texts, L: CoreLock, K: Clock + Drop>(
+    thread: &mut Thread<L, K>,
+) -> Result<bool, Refusal> {
+    let id = capture_message(thread, T::message(), Level::Info)?;
     Ok(!id.is_nil())
 }
 
-fn breadcrumb(alloc: Global, now: u64) -> Result<Breadcrumb, AllocError> {
+fn breadcrumb<T: Texts>(alloc: Global, now: u64) -> Result<Breadcrumb, AllocError> {
     let mut breadcrumb = Breadcrumb::new(alloc, now)?;
-    breadcrumb.message = Some(Text::new(alloc, "step")?);
+    breadcrumb.message = Some(Text::new(alloc, T::step())?);
     Ok(breadcrumb)
 }
 
-fn add_step<L: CoreLock, K: Clock + Drop>(thread: &mut Thread<L, K>) -> Result<bool, Refusal> {
-    let breadcrumb = breadcrumb(allocator_of(thread), thread.clock.now())?;
+fn add_step<T: Texts, L: CoreLock, K: Clock + Drop>(
+    thread: &mut Thread<L, K>,
+) -> Result<bool, Refusal> {
+    let breadcrumb = breadcrumb::<T>(allocator_of(thread), thread.clock.now())?;
     add_breadcrumb(thread, breadcrumb)?;
     Ok(true)
 }
 
-fn capture_log<L: CoreLock, K: Clock + Drop>(thread: &mut Thread<L, K>) -> Result<bool, Refusal> {
-    logger_info!(thread, "hello world")?;
+fn capture_log<T: Texts, L: CoreLock, K: Clock + Drop>(
+    thread: &mut Thread<L, K>,
+) -> Result<bool, Refusal> {
+    T::capture_log(thread)?;
     Ok(true)
 }
 
-fn capture_counter<L: CoreLock, K: Clock + Drop>(
+fn capture_counter<T: Texts, L: CoreLock, K: Clock + Drop>(
     thread: &mut Thread<L, K>,
 ) -> Result<bool, Refusal> {
-    counter(allocator_of(thread), "orders", 1)?.capture(thread)?;
+    counter(allocator_of(thread), T::counter(), 1)?.capture(thread)?;
     Ok(true)
 }
 
@@ -99,30 +113,30 @@ fn hold_session<L: CoreLock, K: Clock + Drop>(thread: &mut Thread<L, K>) -> Resu
 }
 
 // Answers whether it did what it was to do: a message may not be sent.
-fn make_one<L: CoreLock, K: Clock + Drop>(
+fn make_one<T: Texts, L: CoreLock, K: Clock + Drop>(
     thread: &mut Thread<L, K>,
     turn: HubTurn,
 ) -> Result<bool, Refusal> {
     match turn {
-        HubTurn::Scope => push_tag_and_pop(thread),
-        HubTurn::Message | HubTurn::TaggedMessage => send_message(thread),
-        HubTurn::Breadcrumb => add_step(thread),
-        HubTurn::Log => capture_log(thread),
-        HubTurn::Counter => capture_counter(thread),
+        HubTurn::Scope => push_tag_and_pop::<T, L, K>(thread),
+        HubTurn::Message | HubTurn::TaggedMessage => send_message::<T, L, K>(thread),
+        HubTurn::Breadcrumb => add_step::<T, L, K>(thread),
+        HubTurn::Log => capture_log::<T, L, K>(thread),
+        HubTurn::Counter => capture_counter::<T, L, K>(thread),
         HubTurn::Session => hold_session(thread),
-        HubTurn::Transaction => send_transaction(thread),
+        HubTurn::Transaction => send_transaction::<T, L, K>(thread),
     }
 }
 
 /// Makes so many turns, and answers how many did what they were to do.
-pub fn make_turns<L: CoreLock, K: Clock + Drop>(
+pub fn make_turns<T: Texts, L: CoreLock, K: Clock + Drop>(
     thread: &mut Thread<L, K>,
     turn: HubTurn,
     turns: u64,
 ) -> Result<u64, Refusal> {
     let mut made = 0u64;
     for _ in 0..turns {
-        made = made.wrapping_add(u64::from(make_one(thread, turn)?));
+        made = made.wrapping_add(u64::from(make_one::<T, L, K>(thread, turn)?));
     }
     Ok(made)
 }

@@ -14,7 +14,7 @@ pub fn attributes_of(alloc: Global, members: &ValueMap) -> Result<TextMap<LogAtt
     let mut attributes = TextMap::new(alloc);
     for (key, value) in members.iter() {
         let attribute = LogAttribute(value.clone()?);
-        attributes.insert(Text::from_string(key.clone()?), attribute)?;
+        attributes.insert(Text::from_string(key.clone()?)?, attribute)?;
     }
     Ok(attributes)
 }

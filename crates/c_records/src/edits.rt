@@ -76,7 +76,7 @@ fn push_entries<P: Drop>(
     ensures { IfErr result (λ fault. refusal_of fault ≡ None) }
 {
     for (key, value) in members.iter() {
-        let edit = entry_edit(entries, Text::from_string(key.clone()?), value)?;
+        let edit = entry_edit(entries, Text::from_string(key.clone()?)?, value)?;
         edits.reserve(1)?;
         edits.push_reserved(edit);
     }

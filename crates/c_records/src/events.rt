@@ -98,7 +98,7 @@ pub(crate) fn contexts_of(alloc: Global, members: &ValueMap) -> Result<TextMap<C
     for (key, value) in members.iter() {
         let map = map_of(value)?;
         let context = Context::Other(map.clone()?);
-        contexts.insert(Text::from_string(key.clone()?), context)?;
+        contexts.insert(Text::from_string(key.clone()?)?, context)?;
     }
     Ok(contexts)
 }

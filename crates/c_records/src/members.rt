@@ -82,7 +82,7 @@ pub fn texts_of(alloc: Global, members: &ValueMap) -> Result<TextMap<Text>, Call
     let mut texts = TextMap::new(alloc);
     for (key, value) in members.iter() {
         let text = text_of(value)?;
-        texts.insert(Text::from_string(key.clone()?), text)?;
+        texts.insert(Text::from_string(key.clone()?)?, text)?;
     }
     Ok(texts)
 }

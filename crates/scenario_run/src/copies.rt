@@ -34,7 +34,7 @@ impl Copies {
             Ok(copy) => copy,
             Err(_) => {
                 self.is_refused = true;
-                Text::from_string(String::new(self.alloc))
+                Text::empty(self.alloc)
             }
         }
     }

@@ -70,7 +70,7 @@ pub fn collect_headers(
     let mut list = Items::new(alloc);
     for (name, value) in headers {
         let name = Text::new(alloc, name)?;
-        let value = Text::from_string(value);
+        let value = Text::from_string(value)?;
         list.push(Header { name, value })?;
     }
     Ok(list)

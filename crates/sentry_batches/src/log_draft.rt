@@ -129,6 +129,6 @@ fn set_body(
         × Fills (λ before. record before { body = string_bytes text }) log result) }
 {
     let mut log = log?;
-    log.body = Text::from_string(body?);
+    log.body = Text::from_string(body?)?;
     Ok(log)
 }

@@ -32,7 +32,7 @@ fn copy_trace(alloc: Global, trace: TraceHeadersIter) -> Result<Items<(Text, Tex
     let mut trace = trace;
     let mut made = Items::new(alloc);
     if let Some((name, value)) = trace.next() {
-        made.push((Text::new(alloc, name)?, Text::from_string(value)))?;
+        made.push((Text::new(alloc, name)?, Text::from_string(value)?))?;
     }
     Ok(made)
 }

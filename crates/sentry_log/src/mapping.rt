@@ -107,7 +107,7 @@ pub fn map_record<D: Display, K: Source, S: Spans>(
 fn print<D: Display>(alloc: Global, shown: &D) -> Result<Text, AllocError>
     ensures { IfOk result (λ text. IfSome (D.output shown.now) (λ output. text ≡ output)) }
 {
-    Ok(Text::from_string(format!(in alloc; "{shown}")?))
+    Text::from_string(format!(in alloc; "{shown}")?)
 }
 
 fn make_breadcrumb(

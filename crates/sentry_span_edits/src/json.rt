@@ -57,7 +57,7 @@ fn map_of(
     let mut map = ValueMap::new(alloc);
     for (key, member) in members.iter() {
         match value_of(alloc, member)? {
-            Some(value) => map.insert(Text::from_string(key.clone()?), value)?,
+            Some(value) => map.insert(Text::from_string(key.clone()?)?, value)?,
             None => return Ok(None),
         }
     }

@@ -71,7 +71,7 @@ pub fn envelope_api_url(alloc: Global, dsn: &Dsn) -> Result<Text, Refusal>
     match Url::parse(alloc, dsn.text()) {
         Ok(url) => {
             let text = url_below(alloc, dsn, before_project(url.path()))?;
-            Ok(Text::from_string(text))
+            Ok(Text::from_string(text)?)
         }
         Err(ParseError::OutOfMemory | ParseError::Overflow) => Err(Refusal::OutOfMemory),
         // of no DSN that was parsed
@@ -104,5 +104,5 @@ pub fn to_auth(alloc: Global, dsn: &Dsn, client_agent: Option<&str>) -> Result<T
     auth.push_str(dsn.public_key())?;
     auth.push_str(", sentry_version=7")?;
     push_agent(&mut auth, client_agent)?;
-    Ok(Text::from_string(auth))
+    Ok(Text::from_string(auth)?)
 }
