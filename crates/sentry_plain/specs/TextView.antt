@@ -4,19 +4,13 @@ use Rattle.std.specs.Str.{IsUtf8}
 use Rattle.std.specs.String.{string_bytes}
 use Rattle.sentry_plain.specs.Texts.{Bytes}
 use Rattle.sentry_plain.specs.declared.text.Body.{Body}
-use Rattle.sentry_plain.specs.declared.text.Body.TheVariants as body
-use Rattle.sentry_plain.specs.declared.text.Long.{Long}
-use Rattle.sentry_plain.specs.declared.text.Long.TheVariants.{Medium, Large}
-
--- the bytes of a text that its clones share
-abbrev pub long_text : Long → Bytes
-long_text (Medium block) = take block.count block.bytes
-long_text (Large string) = string_bytes string
+use Rattle.sentry_plain.specs.declared.text.Body.TheVariants.{Short, Medium, Large}
 
 -- the bytes of the text
 abbrev pub text_of : Body → Bytes
-text_of (body.Short count bytes) = take count bytes
-text_of (body.Long long) = long_text long
+text_of (Short count bytes) = take count bytes
+text_of (Medium block) = take block.count block.bytes
+text_of (Large string) = string_bytes string
 
 -- the first of the bytes, as many as count says, fit into so many and are a text
 pub record IsTextIn (room count : ℕ) (bytes : Bytes) : Type 0 where
@@ -24,11 +18,7 @@ pub record IsTextIn (room count : ℕ) (bytes : Bytes) : Type 0 where
   pub utf8 : IsUtf8 (take count bytes)
 
 -- the count fits, and the bytes are a text
-abbrev pub IsLong : Long → Type 0
-IsLong (Medium block) = IsTextIn 63 block.count block.bytes
-IsLong (Large string) = Unit {0}
-
--- the count fits, and the bytes are a text
 abbrev pub IsText : Body → Type 0
-IsText (body.Short count bytes) = IsTextIn 22 count bytes
-IsText (body.Long long) = IsLong long
+IsText (Short count bytes) = IsTextIn 22 count bytes
+IsText (Medium block) = IsTextIn 63 block.count block.bytes
+IsText (Large string) = Unit {0}
