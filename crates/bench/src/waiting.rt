@@ -4,7 +4,7 @@ use crate::lock::{fresh, message};
 use sentry_core::engine::{Engine, Sent};
 use sentry_core::protocol::{Breadcrumb, Label, Refusal, SpanId, TraceId};
 use sentry_core::{Scope, Text};
-use sentry_plain::Items;
+use sentry_plain::Few;
 use std::alloc::{AllocError, Global};
 
 fn breadcrumb(alloc: Global, number: u64) -> Result<Breadcrumb, AllocError> {
@@ -15,12 +15,12 @@ fn breadcrumb(alloc: Global, number: u64) -> Result<Breadcrumb, AllocError> {
     Ok(breadcrumb)
 }
 
-fn breadcrumbs(alloc: Global) -> Result<Items<Breadcrumb>, AllocError> {
-    let mut all = Items::new(alloc);
+fn breadcrumbs(alloc: Global) -> Result<Few<Breadcrumb>, AllocError> {
+    let mut all = Vec::new(alloc);
     for number in 0..20u64 {
         all.push(breadcrumb(alloc, number)?)?;
     }
-    Ok(all)
+    Ok(Few::from_vec(all))
 }
 
 fn scope(alloc: Global) -> Result<Scope, AllocError> {

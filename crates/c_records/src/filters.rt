@@ -1,14 +1,14 @@
 //! What a client drops. An export takes no callback, so an option says by which text what is dropped begins.
 ghost use Rattle.std.specs.Prelude.{◌≡◌, ◌++◌, List, IfOk, OnOk};
 ghost use Rattle.std.specs.List.{cons_option, filter_map};
-ghost use Rattle.std.specs.Option.{option_and_then};
+ghost use Rattle.std.specs.Option.{option_and_then, option_to_list};
 ghost use Rattle.sentry_base.specs.declared.protocol.breadcrumb.Breadcrumb.{Breadcrumb};
 ghost use Rattle.c_records.specs.Filters.{begins_with, text_or_empty, filter_meanings};
 ghost use Rattle.c_records.specs.Filters.{filtered_event, filtered_breadcrumb, filtered_log, filtered_metric};
 
 use sentry_base::protocol::{Breadcrumb, Event, Log, Metric};
 use sentry_options::clientoptions::{Callbacks, PlainOptions};
-use sentry_plain::{Boxed, Items, Text};
+use sentry_plain::{Boxed, Few, Items, Text};
 use sentry_trace::performance::TransactionContext;
 use std::alloc::{AllocError, Global};
 
@@ -107,6 +107,25 @@ fn filter_breadcrumbs(
     Ok(kept)
 }
 
+fn filter_breadcrumb(prefix: &str, breadcrumb: Option<Breadcrumb>) -> Option<Breadcrumb>
+    ensures { option_to_list result ≡ filter_map (filtered_breadcrumb prefix.now) (option_to_list breadcrumb) }
+{
+    let breadcrumb = breadcrumb?;
+    if begins_with(text_or_empty(&breadcrumb.message), prefix) {
+        return None;
+    }
+    Some(breadcrumb)
+}
+
+fn filter_few(prefix: &str, breadcrumbs: Few<Breadcrumb>) -> Result<Few<Breadcrumb>, AllocError>
+    ensures { IfOk result (λ kept. kept ≡ filter_map (filtered_breadcrumb prefix.now) breadcrumbs) }
+{
+    match breadcrumbs.into_single() {
+        Ok(breadcrumb) => Ok(Few::single(filter_breadcrumb(prefix, breadcrumb))),
+        Err(list) => Ok(Few::from_vec(filter_breadcrumbs(prefix, list)?.into_vec())),
+    }
+}
+
 fn filtered_log(prefix: &str, log: Log) -> Option<Log>
     ensures { result ≡ filtered_log prefix.now log }
 {
@@ -160,11 +179,11 @@ impl Callbacks for Filters {
 
     fn before_breadcrumb(
         &self,
-        breadcrumbs: Items<Breadcrumb>,
-    ) -> Result<Items<Breadcrumb>, AllocError> {
+        breadcrumbs: Few<Breadcrumb>,
+    ) -> Result<Few<Breadcrumb>, AllocError> {
         match &self.breadcrumbs {
             None => Ok(breadcrumbs),
-            Some(prefix) => filter_breadcrumbs(prefix.as_str(), breadcrumbs.into_vec()),
+            Some(prefix) => filter_few(prefix.as_str(), breadcrumbs),
         }
     }
 

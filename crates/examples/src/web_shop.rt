@@ -9,7 +9,7 @@ use sentry_core::protocol::{
     Uuid,
 };
 use sentry_core::{
-    BoxedEventCallback, ClientOptions, EventCallback, Level, Scope, ScopeEdit, Text, User,
+    BoxedEventCallback, ClientOptions, EventCallback, Few, Level, Scope, ScopeEdit, Text, User,
 };
 use std::alloc::{AllocError, Global};
 
@@ -76,7 +76,7 @@ fn welcome_customer(engine: &mut Engine, alloc: Global, hub: HubKey) -> Result<O
     engine.configure(hub, edits, MORNING)?;
     let mut breadcrumb = Breadcrumb::new(alloc, MORNING)?;
     breadcrumb.message = Some(Text::new(alloc, "put a lamp into the basket")?);
-    engine.add_breadcrumbs(hub, vec![in alloc; breadcrumb]?)?;
+    engine.add_breadcrumbs(hub, Few::single(Some(breadcrumb)))?;
     Ok(engine.start_session(hub, fresh(MORNING, 1))?)
 }
 

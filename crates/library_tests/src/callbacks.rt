@@ -9,7 +9,7 @@ use sentry_core::protocol::{
     Refusal, SpanId, TraceId, TransactionOrSpanKey, Unit, Uuid,
 };
 use sentry_core::types::Dsn;
-use sentry_core::{BoxedIntegration, ClientOptions, Level, Scope, TransactionContext};
+use sentry_core::{BoxedIntegration, ClientOptions, Few, Level, Scope, TransactionContext};
 use std::alloc::{AllocError, Global};
 use std::test::Fail;
 
@@ -167,7 +167,7 @@ fn add_breadcrumbs(
     count: u64,
 ) -> Result<(Option<Refusal>, usize), Refusal> {
     let refusal = engine
-        .add_breadcrumbs(hub, breadcrumbs_below(alloc, count)?)
+        .add_breadcrumbs(hub, Few::from_vec(breadcrumbs_below(alloc, count)?))
         .err();
     let scope = engine.scope(hub)?.reply;
     let kept = scope.breadcrumbs.get().map_or(0, |trail| trail.len());

@@ -6,7 +6,7 @@ use sentry_base::protocol::{Breadcrumb, Event, Log, Metric};
 use sentry_engine::call::{Answer, Call};
 use sentry_engine::engine::Engine;
 use sentry_options::clientoptions::{Callbacks, PlainOptions};
-use sentry_plain::{Boxed, Items, Text};
+use sentry_plain::{Boxed, Few, Items, Text};
 use sentry_trace::performance::TransactionContext;
 use std::alloc::{AllocError, Global};
 
@@ -61,8 +61,8 @@ impl Callbacks for NoCallbacks {
 
     fn before_breadcrumb(
         &self,
-        breadcrumbs: Items<Breadcrumb>,
-    ) -> Result<Items<Breadcrumb>, AllocError> {
+        breadcrumbs: Few<Breadcrumb>,
+    ) -> Result<Few<Breadcrumb>, AllocError> {
         Ok(breadcrumbs)
     }
 

@@ -115,6 +115,7 @@ pub use sentry_options::integration::Integration;
 pub use sentry_options::sampler::BoxedTracesSampler;
 pub use sentry_options::sampler::TracesSampler;
 pub use sentry_plain::Boxed;
+pub use sentry_plain::Few;
 pub use sentry_plain::Items;
 pub use sentry_plain::PlainClone;
 pub use sentry_plain::Shared;

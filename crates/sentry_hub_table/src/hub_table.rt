@@ -12,7 +12,7 @@ use crate::hub::Hub;
 use crate::names::{Names, client_name, layer_names, session_name, span_name, transaction_name};
 use crate::tally::Key;
 use sentry_base::protocol::{Breadcrumb, ClientKey, SessionKey, SpanKey, TransactionKey, Uuid};
-use sentry_plain::{Items, Table};
+use sentry_plain::{Few, Table};
 use sentry_scope::scope::{Scope, ScopeEdit};
 use std::alloc::{AllocError, Global};
 use std::marker::Model;
@@ -202,7 +202,7 @@ impl<P: Drop> HubTable<P> {
     pub fn add_breadcrumbs(
         &mut self,
         number: u64,
-        added: Items<Breadcrumb>,
+        added: Few<Breadcrumb>,
         max_breadcrumbs: usize,
     ) -> Result<(), AllocError>
         requires { is_some (value_at self.old number) ≡ true }

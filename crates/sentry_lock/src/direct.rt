@@ -10,7 +10,7 @@ use sentry_base::protocol::{
 };
 use sentry_engine::engine::ScopeGuard;
 use sentry_options::clientoptions::Callbacks;
-use sentry_plain::{Boxed, Value, ValueMap};
+use sentry_plain::{Boxed, Few, Value, ValueMap};
 use sentry_scope::scope::{Scope, ScopeEdit};
 use sentry_trace::headers::TraceHeadersIter;
 use sentry_trace::performance::TransactionContext;
@@ -148,7 +148,7 @@ impl<P: EventCallback + Drop, C: Callbacks, T: Transport + Drop> LockedHub<'_, P
     /// Adds breadcrumbs, oldest first, to the trail of the top layer.
     ///
     /// `Stale`: the hub isn't held. `OutOfMemory`.
-    pub fn add_breadcrumbs(self, breadcrumbs: Vec<Breadcrumb>) -> Result<(), Refusal> {
+    pub fn add_breadcrumbs(self, breadcrumbs: Few<Breadcrumb>) -> Result<(), Refusal> {
         let LockedHub { mut guard, hub } = self;
         guard.under.core.add_breadcrumbs(hub, breadcrumbs)
     }

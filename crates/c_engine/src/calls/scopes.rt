@@ -15,7 +15,7 @@ use c_base::fault::CallFault;
 use c_base::ids::FreshNumbers;
 use c_base::numbers::text;
 use sentry_base::protocol::{Attachment, Breadcrumb};
-use sentry_plain::{Items, Text};
+use sentry_plain::{Few, Items, Text};
 use sentry_scope::scope::ScopeEdit;
 use std::alloc::Global;
 
@@ -162,10 +162,10 @@ impl OutboxEngine {
     pub fn add_breadcrumbs(
         &mut self,
         hub: u64,
-        breadcrumbs: Vec<Breadcrumb>,
+        breadcrumbs: Few<Breadcrumb>,
     ) -> Result<(), CallFault>
         ensures { Calls self.old self.new result anything
-            (add_breadcrumbs filter_meanings (hub_key hub) breadcrumbs.items) }
+            (add_breadcrumbs filter_meanings (hub_key hub) breadcrumbs) }
     {
         self.outbox.make_room()?;
         let out = self.engine.add_breadcrumbs(hub_key(hub), breadcrumbs)?;

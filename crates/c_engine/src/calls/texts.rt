@@ -24,6 +24,7 @@ use c_records::json::object;
 use c_records::metrics::{metric_type, unit_named};
 use c_records::options::read_options;
 use sentry_base::protocol::{Breadcrumb, Event, Log, MetricDraft};
+use sentry_plain::Few;
 use std::alloc::Global;
 
 // A log with the attributes of an object.
@@ -62,18 +63,15 @@ fn event_of_text(alloc: Global, event: &[u8], now: u64) -> Result<Event, CallFau
     event_of(alloc, &members, now)
 }
 
-// The breadcrumb of an object, alone in a list.
-fn breadcrumbs_of_text(
+// The breadcrumb of an object.
+fn breadcrumb_of_text(
     alloc: Global,
     breadcrumb: &[u8],
     now: u64,
-) -> Result<Vec<Breadcrumb>, CallFault> {
+) -> Result<Few<Breadcrumb>, CallFault> {
     let members = object(alloc, breadcrumb)?;
     let breadcrumb = breadcrumb_of(alloc, &members, now)?;
-    let mut breadcrumbs = Vec::new(alloc);
-    breadcrumbs.reserve(1)?;
-    breadcrumbs.push_reserved(breadcrumb);
-    Ok(breadcrumbs)
+    Ok(Few::single(Some(breadcrumb)))
 }
 
 impl OutboxEngine {
@@ -125,8 +123,8 @@ impl OutboxEngine {
         ensures { SomeCalls self.old self.new result anything
             (λ breadcrumbs. add_breadcrumbs filter_meanings (hub_key hub) breadcrumbs) }
     {
-        let breadcrumbs = breadcrumbs_of_text(self.alloc, breadcrumb, now)?;
-        self.add_breadcrumbs(hub, breadcrumbs)
+        let breadcrumb = breadcrumb_of_text(self.alloc, breadcrumb, now)?;
+        self.add_breadcrumbs(hub, breadcrumb)
     }
 
     /// Captures a log with the attributes of a JSON object.

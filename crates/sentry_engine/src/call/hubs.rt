@@ -6,6 +6,7 @@ use crate::call::{Answer, HubCall, replies};
 use crate::engine::Engine;
 use sentry_base::callbacks::EventCallback;
 use sentry_options::clientoptions::Callbacks;
+use sentry_plain::Few;
 
 impl<P: EventCallback + Drop, C: Callbacks> Engine<P, C> {
     // Makes a call on a hub, by the method of its name.
@@ -22,7 +23,7 @@ impl<P: EventCallback + Drop, C: Callbacks> Engine<P, C> {
                 now,
             )),
             HubCall::AddBreadcrumbs { hub, breadcrumbs } => {
-                replies::done(self.add_breadcrumbs(hub, breadcrumbs.into_vec()))
+                replies::done(self.add_breadcrumbs(hub, Few::from_vec(breadcrumbs.into_vec())))
             }
             HubCall::CaptureEvent { hub, event, fresh } => {
                 replies::event(self.capture_boxed_event(hub, event, fresh))

@@ -17,7 +17,7 @@ use sentry_base::protocol::{
 };
 use sentry_events::captures::capture_on_hub;
 use sentry_options::clientoptions::Callbacks;
-use sentry_plain::{Boxed, Text};
+use sentry_plain::{Boxed, Few, Text};
 use sentry_scope::scope::{EditedScope, Scope, ScopeEdit, Stack, all_name_held_spans};
 use sentry_sending::session_ends::release_session;
 use sentry_texts::utils::event_from_error;
@@ -195,9 +195,9 @@ impl<P: Drop, C: Callbacks> Engine<P, C> {
     pub fn add_breadcrumbs(
         &mut self,
         hub: HubKey,
-        breadcrumbs: Vec<Breadcrumb>,
+        breadcrumbs: Few<Breadcrumb>,
     ) -> Result<Out<()>, Refusal>
-        ensures { Does self.old self.new result (add_breadcrumbs C.meanings hub breadcrumbs.items) }
+        ensures { Does self.old self.new result (add_breadcrumbs C.meanings hub breadcrumbs) }
     {
         self.state.add_breadcrumbs(hub, breadcrumbs)
     }

@@ -4,6 +4,7 @@ use crate::hub::Hub;
 use sentry_base::protocol::{Breadcrumb, Fresh, Refusal, SessionStatus, Uuid};
 use sentry_lock::client::Client;
 use sentry_lock::core_lock::CoreLock;
+use sentry_plain::Few;
 use sentry_scope::scope::Scope;
 use std::alloc::AllocError;
 
@@ -57,7 +58,7 @@ impl<L: CoreLock> Hub<L> {
     ///
     /// `Stale`: the hub isn't held. `OutOfMemory`.
     pub fn add_breadcrumbs(&self, breadcrumbs: Vec<Breadcrumb>) -> Result<(), Refusal> {
-        self.lock().add_breadcrumbs(breadcrumbs)
+        self.lock().add_breadcrumbs(Few::from_vec(breadcrumbs))
     }
 
     /// The same of a breadcrumb, of none or one, of a list, or of a category and a message. `now` is the moment of the last
@@ -70,7 +71,7 @@ impl<L: CoreLock> Hub<L> {
         now: u64,
     ) -> Result<(), Refusal> {
         let breadcrumbs = breadcrumb.into_breadcrumbs(self.core.allocator(), &mut At(now))?;
-        self.add_breadcrumbs(breadcrumbs)
+        self.lock().add_breadcrumbs(breadcrumbs)
     }
 
     /// The same of what a closure makes, which is called only if the top layer has a client. It runs without the lock.

@@ -18,6 +18,7 @@ use sentry_base::protocol::{
     SessionStatus, Uuid,
 };
 use sentry_options::clientoptions::Callbacks;
+use sentry_plain::Few;
 use sentry_scope::scope::{Scope, ScopeEdit};
 
 impl<P: EventCallback + Drop, C: Callbacks, T: Drop> Core<P, C, T> {
@@ -226,10 +227,10 @@ impl<P: EventCallback + Drop, C: Callbacks, T: Drop> Core<P, C, T> {
     pub(crate) fn add_breadcrumbs(
         &mut self,
         hub: HubKey,
-        breadcrumbs: Vec<Breadcrumb>,
+        breadcrumbs: Few<Breadcrumb>,
     ) -> Result<(), Refusal>
         ensures done { IfOk result (λ reply. Replies self.old.engine self.new.engine reply
-            (add_breadcrumbs C.meanings hub breadcrumbs.items)) }
+            (add_breadcrumbs C.meanings hub breadcrumbs)) }
         ensures refused { IfErr result (λ _. self.new.engine ≡ self.old.engine) }
         ensures drainers { self.new.drainers ≡ self.old.drainers }
     {

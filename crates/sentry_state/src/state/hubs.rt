@@ -13,7 +13,7 @@ ghost use Rattle.sentry_state.specs.Worlds.{World, Stands};
 use crate::state::{Hub, Out, State};
 use sentry_base::protocol::{Breadcrumb, ClientKey, HubKey, Refusal, Uuid};
 use sentry_options::clientoptions::Callbacks;
-use sentry_plain::Items;
+use sentry_plain::Few;
 use sentry_scope::scope::{Scope, ScopeEdit, Stack};
 use std::alloc::AllocError;
 
@@ -106,7 +106,7 @@ impl<P: Drop, C: Callbacks> State<P, C> {
     fn add_to_trail(
         &mut self,
         number: u64,
-        breadcrumbs: Items<Breadcrumb>,
+        breadcrumbs: Few<Breadcrumb>,
         max_breadcrumbs: usize,
     ) -> Result<(), AllocError>
         requires { is_some (value_at self.old.hubs number) ≡ true }
@@ -127,9 +127,9 @@ impl<P: Drop, C: Callbacks> State<P, C> {
     pub fn add_breadcrumbs(
         &mut self,
         hub: HubKey,
-        breadcrumbs: Vec<Breadcrumb>,
+        breadcrumbs: Few<Breadcrumb>,
     ) -> Result<Out<()>, Refusal>
-        ensures { Does self.old self.new result (add_breadcrumbs C.meanings hub breadcrumbs.items) }
+        ensures { Does self.old self.new result (add_breadcrumbs C.meanings hub breadcrumbs) }
     {
         let Some(held) = self.hub_at(hub) else {
             return Err(Refusal::Stale);
@@ -145,7 +145,7 @@ impl<P: Drop, C: Callbacks> State<P, C> {
         };
         let max_breadcrumbs = client.options.get().plain.max_breadcrumbs;
         let callbacks = &client.options.get().callbacks;
-        let kept = callbacks.before_breadcrumb(Items::from_vec(breadcrumbs))?;
+        let kept = callbacks.before_breadcrumb(breadcrumbs)?;
         self.add_to_trail(hub.number, kept, max_breadcrumbs)?;
         Ok(self.out(()))
     }
