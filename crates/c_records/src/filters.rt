@@ -79,6 +79,15 @@ fn filter_event(prefix: &str, event: &mut Option<Boxed<Event>>)
     *event = filtered_event(prefix, given);
 }
 
+fn filtered_breadcrumb(prefix: &str, breadcrumb: Breadcrumb) -> Option<Breadcrumb>
+    ensures { result ≡ filtered_breadcrumb prefix.now breadcrumb }
+{
+    if begins_with(text_or_empty(&breadcrumb.message), prefix) {
+        return None;
+    }
+    Some(breadcrumb)
+}
+
 // Appends the breadcrumb, if it is to be kept.
 fn push_filtered(
     prefix: &str,
@@ -88,10 +97,10 @@ fn push_filtered(
     ensures { OnOk result ((rest : List Breadcrumb) →
         kept.new ++ rest ≡ kept.old ++ cons_option (filtered_breadcrumb prefix.now breadcrumb) rest) }
 {
-    if begins_with(text_or_empty(&breadcrumb.message), prefix) {
-        return Ok(());
+    match filtered_breadcrumb(prefix, breadcrumb) {
+        None => Ok(()),
+        Some(breadcrumb) => kept.push(breadcrumb),
     }
-    kept.push(breadcrumb)
 }
 
 fn filter_breadcrumbs(
@@ -107,21 +116,20 @@ fn filter_breadcrumbs(
     Ok(kept)
 }
 
-fn filter_breadcrumb(prefix: &str, breadcrumb: Option<Breadcrumb>) -> Option<Breadcrumb>
+fn filter_single(prefix: &str, breadcrumb: Option<Breadcrumb>) -> Option<Breadcrumb>
     ensures { option_to_list result ≡ filter_map (filtered_breadcrumb prefix.now) (option_to_list breadcrumb) }
 {
-    let breadcrumb = breadcrumb?;
-    if begins_with(text_or_empty(&breadcrumb.message), prefix) {
-        return None;
+    match breadcrumb {
+        None => None,
+        Some(breadcrumb) => filtered_breadcrumb(prefix, breadcrumb),
     }
-    Some(breadcrumb)
 }
 
 fn filter_few(prefix: &str, breadcrumbs: Few<Breadcrumb>) -> Result<Few<Breadcrumb>, AllocError>
     ensures { IfOk result (λ kept. kept ≡ filter_map (filtered_breadcrumb prefix.now) breadcrumbs) }
 {
     match breadcrumbs.into_single() {
-        Ok(breadcrumb) => Ok(Few::single(filter_breadcrumb(prefix, breadcrumb))),
+        Ok(breadcrumb) => Ok(Few::single(filter_single(prefix, breadcrumb))),
         Err(list) => Ok(Few::from_vec(filter_breadcrumbs(prefix, list)?.into_vec())),
     }
 }
