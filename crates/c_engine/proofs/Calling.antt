@@ -1,12 +1,12 @@
 -- A call that the engine did, and whose envelopes are kept; and one that it refused.
-use Rattle.std.proofs.Common.{◌≡◌, sym, subst, Bool, List, ◌++◌}
+use Rattle.std.proofs.Common.{◌≡◌, sym, subst, List, ◌++◌}
 use Rattle.std.specs.Prelude.{Option, None, Result, Ok, Err}
 use Rattle.sentry_base.specs.declared.protocol.keys.ClientKey.{ClientKey}
 use Rattle.sentry_base.specs.declared.protocol.envelope.Envelope.{Envelope}
 use Rattle.sentry_base.specs.declared.protocol.refusal.Refusal.{Refusal}
 use Rattle.sentry_base.specs.declared.protocol.refusal.Refusal.TheVariants.{OutOfMemory, Stale, OutOfOrder, StillNamed, ScopesOpen, InvalidDsn, InvalidRate, ForeignLosses, Full}
 use Rattle.sentry_state.specs.declared.state.Out.{Out}
-use Rattle.sentry_state.specs.Outcomes.{Outcome, DoesWith}
+use Rattle.sentry_state.specs.Outcomes.{Outcome, Need, DoesWith}
 use Rattle.sentry_state.specs.Worlds.{World, Stands}
 use Rattle.c_base.specs.declared.fault.CallFault.{CallFault}
 use Rattle.c_base.specs.Faults.{fault_of, refusal_of}
@@ -16,8 +16,9 @@ use Rattle.c_records.specs.declared.filters.Filters.{Filters}
 use Rattle.c_engine.specs.declared.outbox_engine.OutboxEngine.{OutboxEngine}
 use Rattle.c_engine.specs.Calls.{IsKept, IsRefused, IsUnchanged, Calls, SomeCalls}
 
-module _ {T : Type 0} (takes_no_memory : Bool) (old new : OutboxEngine) (outcome : World NoProcessor Filters → Outcome NoProcessor Filters T) where
-  pub called : (IsReply : T → Type 0) (out : Out T) → DoesWith takes_no_memory old.engine new.engine (Ok out) outcome
+module _ {T : Type 0} (need : Need) (old new : OutboxEngine)
+    (outcome : World NoProcessor Filters → Outcome NoProcessor Filters T) where
+  pub called : (IsReply : T → Type 0) (out : Out T) → DoesWith need old.engine new.engine (Ok out) outcome
       → IsReply out.reply → waiting new.outbox ≡ waiting old.outbox ++ out.sent
       → (world : World NoProcessor Filters) → Stands old.engine world
       → IsKept IsReply (waiting old.outbox) (waiting new.outbox) (outcome world).answer × Stands new.engine (outcome world).after
@@ -27,7 +28,7 @@ module _ {T : Type 0} (takes_no_memory : Bool) (old new : OutboxEngine) (outcome
         did.1,
       )
 
-  refuses : (refusal : Refusal) → DoesWith takes_no_memory old.engine new.engine (Err refusal) outcome
+  refuses : (refusal : Refusal) → DoesWith need old.engine new.engine (Err refusal) outcome
       → IsRefused (refusal_of (fault_of refusal)) old outcome
   refuses OutOfMemory does = tt
   refuses Stale does = does.1
@@ -40,7 +41,7 @@ module _ {T : Type 0} (takes_no_memory : Bool) (old new : OutboxEngine) (outcome
   refuses Full does = does.1
 
   pub refused : (refusal : Refusal) (fault : CallFault) → fault ≡ fault_of refusal
-      → DoesWith takes_no_memory old.engine new.engine (Err refusal) outcome → waiting new.outbox ≡ waiting old.outbox
+      → DoesWith need old.engine new.engine (Err refusal) outcome → waiting new.outbox ≡ waiting old.outbox
       → IsUnchanged old new × IsRefused (refusal_of fault) old outcome
   refused refusal fault is does waits =
       ((does.0, waits), subst (λ (f : CallFault). IsRefused (refusal_of f) old outcome) (sym is) (refuses refusal does))

@@ -6,7 +6,7 @@ use Rattle.sentry_options.specs.Meanings.{Meanings}
 use Rattle.sentry_state.specs.declared.state.Out.{Out}
 use Rattle.sentry_calls.specs.declared.call.Call.{Call}
 use Rattle.sentry_calls.specs.declared.call.Reply.{Reply}
-use Rattle.sentry_calls.specs.Steps.{step, takes_no_memory}
+use Rattle.sentry_calls.specs.Steps.{step, needs}
 use Rattle.sentry_state.specs.Worlds.{World}
 use Rattle.sentry_state.specs.Outcomes.{IsAnswer}
 
@@ -14,10 +14,10 @@ module _ {P C : Type 0} (gives : P → Partial) (meanings : C → Meanings) wher
   -- the call may be answered so, and lead on to the next world, which a refusal leaves as it was
   abbrev pub StepsTo : World P C → Call P C → Result (Out (Reply P C)) Refusal → World P C → Type 0
   StepsTo world call (Ok out) next =
-      IsAnswer (takes_no_memory call) (step gives meanings call world).answer (Ok out)
+      IsAnswer (step gives meanings call world).answer (Ok out) (needs call)
       × (next ≡ (step gives meanings call world).after)
   StepsTo world call (Err refusal) next =
-      IsAnswer (takes_no_memory call) (step gives meanings call world).answer (Err refusal) × (next ≡ world)
+      IsAnswer (step gives meanings call world).answer (Err refusal) (needs call) × (next ≡ world)
 
   -- the answers are those of the definition, one call after another, up to the last world
   abbrev pub Run : World P C → List (Call P C) → List (Result (Out (Reply P C)) Refusal) → World P C → Type 0

@@ -1,5 +1,4 @@
 -- One call on transactions and spans.
-use Rattle.std.specs.Prelude.{Bool, true, false}
 use Rattle.sentry_options.specs.Meanings.{Meanings}
 use Rattle.sentry_calls.specs.Replies.{map_reply}
 use Rattle.sentry_calls.specs.declared.call.spans.records.SpanCall.{SpanCall}
@@ -10,16 +9,16 @@ use Rattle.sentry_span_edits.specs.Discards.{discard}
 use Rattle.sentry_span_edits.specs.Reads as reads
 use Rattle.sentry_span_edits.specs.Setters as setters
 use Rattle.sentry_spans.specs.Spans as spans
-use Rattle.sentry_state.specs.Outcomes.{Outcome}
+use Rattle.sentry_state.specs.Outcomes.{Outcome, Need, memory, nothing}
 use Rattle.sentry_state.specs.Worlds.{World}
 
--- the calls that take no memory
-abbrev pub takes_no_memory : SpanCall → Bool
-takes_no_memory (GetStatus span) = true
-takes_no_memory (GetSpanId span) = true
-takes_no_memory (IsSampled span) = true
-takes_no_memory (Discard span) = true
-takes_no_memory call = false
+-- what a call may run out of
+abbrev pub needs : SpanCall → Need
+needs (GetStatus span) = nothing
+needs (GetSpanId span) = nothing
+needs (IsSampled span) = nothing
+needs (Discard span) = nothing
+needs call = memory
 
 module _ {P C : Type 0} (meanings : C → Meanings) where
   -- what a call replies, hands out and leaves

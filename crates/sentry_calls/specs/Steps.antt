@@ -1,5 +1,4 @@
 -- One call: what it replies, hands out and leaves.
-use Rattle.std.specs.Prelude.{Bool, true, false}
 use Rattle.sentry_base.specs.Callbacks.{Partial}
 use Rattle.sentry_options.specs.Meanings.{Meanings}
 use Rattle.sentry_calls.specs.declared.call.Call.{Call}
@@ -11,7 +10,7 @@ use Rattle.sentry_calls.specs.declared.call.hubs.HubCall.TheVariants as on_hub
 use Rattle.sentry_calls.specs.declared.call.Reply.{Reply}
 use Rattle.sentry_calls.specs.declared.call.Reply.TheVariants as reply
 use Rattle.sentry_state.specs.Worlds.{World}
-use Rattle.sentry_state.specs.Outcomes.{Outcome}
+use Rattle.sentry_state.specs.Outcomes.{Outcome, Need, memory, nothing}
 use Rattle.sentry_calls.specs.Clients as clients
 use Rattle.sentry_calls.specs.Hubs as hubs
 use Rattle.sentry_calls.specs.Layers as layers
@@ -24,27 +23,27 @@ use Rattle.sentry_calls.specs.Replies.{map_reply}
 use Rattle.sentry_state.specs.Breadcrumbs.{add_breadcrumbs}
 use Rattle.sentry_events.specs.Captures.{capture_event}
 
--- the calls on hubs that take no memory
-abbrev pub hub_takes_no_memory : {P : Type 0} → HubCall P → Bool
-hub_takes_no_memory (on_hub.LastEventId hub) = true
-hub_takes_no_memory (on_hub.Client hub) = true
-hub_takes_no_memory (on_hub.IsActive hub) = true
-hub_takes_no_memory (on_hub.BindClient hub client) = true
-hub_takes_no_memory call = false
+-- what a call on a hub may run out of
+abbrev pub hub_needs : {P : Type 0} → HubCall P → Need
+hub_needs (on_hub.LastEventId hub) = nothing
+hub_needs (on_hub.Client hub) = nothing
+hub_needs (on_hub.IsActive hub) = nothing
+hub_needs (on_hub.BindClient hub client) = nothing
+hub_needs call = memory
 
 module _ {P C : Type 0} where
-  -- the calls on clients that take no memory
-  abbrev pub client_takes_no_memory : ClientCall P C → Bool
-  client_takes_no_memory (on_client.IsEnabled client) = true
-  client_takes_no_memory (on_client.SampleShouldSend rate draw) = true
-  client_takes_no_memory (on_client.Absorb label losses) = true
-  client_takes_no_memory call = false
+  -- what a call on a client may run out of
+  abbrev pub client_needs : ClientCall P C → Need
+  client_needs (on_client.IsEnabled client) = nothing
+  client_needs (on_client.SampleShouldSend rate draw) = nothing
+  client_needs (on_client.Absorb label losses) = nothing
+  client_needs call = memory
 
-  -- the calls that take no memory
-  abbrev pub takes_no_memory : Call P C → Bool
-  takes_no_memory (group.Client call) = client_takes_no_memory call
-  takes_no_memory (group.Hub call) = hub_takes_no_memory call
-  takes_no_memory (group.Span call) = spans.takes_no_memory call
+  -- what a call may run out of
+  abbrev pub needs : Call P C → Need
+  needs (group.Client call) = client_needs call
+  needs (group.Hub call) = hub_needs call
+  needs (group.Span call) = spans.needs call
 
 module _ {P C : Type 0} (gives : P → Partial) (meanings : C → Meanings) where
   -- what a call on a client replies, hands out and leaves

@@ -29,7 +29,7 @@ use Rattle.sentry_telemetry.specs.Flushes.{flush_queues}
 use Rattle.sentry_telemetry.specs.declared.flushes.Flush.TheVariants.{All}
 use Rattle.sentry_calls.specs.Hubs.{configure, is_clear, with_names}
 use Rattle.sentry_calls.specs.Layers.{pop_scope}
-use Rattle.sentry_state.specs.Outcomes.{Outcome, IsAnswer, Does, client_at, stored_client_at, hub_at, require_some, let_some, reply_with, with_hub, with_scope, with_stack}
+use Rattle.sentry_state.specs.Outcomes.{Outcome, IsAnswer, memory, Does, client_at, stored_client_at, hub_at, require_some, let_some, reply_with, with_hub, with_scope, with_stack}
 use Rattle.sentry_sending.specs.Sending.{reply_sending}
 use Rattle.sentry_sending.specs.SessionEnds.{release_session}
 use Rattle.sentry_state.specs.Changes.{with_session, is_session_number_left}
@@ -141,8 +141,8 @@ module _ {P C : Type 0} where
 
   -- a call that replies may answer out of memory
   pub may_lack_memory : {T : Type 0} (outcome : Outcome P C T) (reply : T) (sent : List (ClientKey × Envelope)) (after : World P C)
-      → outcome ≡ reply_with reply sent after → IsAnswer false outcome.answer (Err OutOfMemory)
-  may_lack_memory outcome reply sent after is = (refl, ap (λ o. is_ok o.answer) is)
+      → outcome ≡ reply_with reply sent after → IsAnswer outcome.answer (Err OutOfMemory) memory
+  may_lack_memory outcome reply sent after is = ap (λ o. is_ok o.answer) is
 
   -- the world with one more client and a book for its label
   abbrev pub with_client_and_book : ClientHistory C → Label → World P C → World P C
@@ -184,7 +184,7 @@ module _ {P C : Type 0} where
   -- a call that is refused since it is out of memory, and changed nothing
   pub refused_for_memory : {T : Type 0} (old new : State P C) (result : Result (Out T) Refusal) (outcome : World P C → Outcome P C T)
       → IsErr result → IsErrAnd result (λ refusal. refusal ≡ OutOfMemory) → new ≡ old
-      → ((world : World P C) → Stands old world → IsAnswer false (outcome world).answer (Err OutOfMemory)) → Does old new result outcome
+      → ((world : World P C) → Stands old world → IsAnswer (outcome world).answer (Err OutOfMemory) memory) → Does old new result outcome
   refused_for_memory old new (Ok out) outcome is gives same lacks = absurd cc
   refused_for_memory old new (Err refusal) outcome is gives same lacks =
-      (same, λ world s. subst (λ cause. IsAnswer false (outcome world).answer (Err cause)) (sym gives) (lacks world s))
+      (same, λ world s. subst (λ cause. IsAnswer (outcome world).answer (Err cause) memory) (sym gives) (lacks world s))

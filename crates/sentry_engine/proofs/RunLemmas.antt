@@ -12,12 +12,12 @@ use Rattle.sentry_options.specs.Meanings.{Meanings}
 use Rattle.sentry_state.specs.Worlds.{World, Stands}
 use Rattle.sentry_state.specs.Outcomes.{DoesWith}
 use Rattle.sentry_calls.specs.Runs.{StepsTo, Run}
-use Rattle.sentry_calls.specs.Steps.{step, takes_no_memory}
+use Rattle.sentry_calls.specs.Steps.{step, needs}
 
 module _ {P C : Type 0} (gives : P → Partial) (meanings : C → Meanings) where
   -- what a call did is a step that the definition allows, to a world that the engine stands for
   pub may_from_does : (old new : State P C) (call : Call P C) (answer : Result (Out (Reply P C)) Refusal)
-      → DoesWith (takes_no_memory call) old new answer (step gives meanings call) → (world : World P C) → Stands old world
+      → DoesWith (needs call) old new answer (step gives meanings call) → (world : World P C) → Stands old world
       → (next : World P C) × StepsTo gives meanings world call answer next × Stands new next
   may_from_does old new call (Ok out) d world s = ((step gives meanings call world).after, ((d world s).0, refl), (d world s).1)
   may_from_does old new call (Err refusal) d world s = (world, (d.1 world s, refl), subst (λ e. Stands e world) (sym d.0) s)
@@ -29,7 +29,7 @@ module _ {P C : Type 0} (gives : P → Partial) (meanings : C → Meanings) wher
     pub goes_on : (more : List (Result (Out (Reply P C)) Refusal)) (last : World P C) → Run gives meanings now left more last → Run gives meanings first calls (answers ++ more) last
 
   pub reaches_more : (first : World P C) (calls : List (Call P C)) (old new : State P C) (answers : List (Result (Out (Reply P C)) Refusal)) (call : Call P C) (left : List (Call P C)) (answer : Result (Out (Reply P C)) Refusal)
-      → Reaches first calls old answers (call ∷ left) → DoesWith (takes_no_memory call) old new answer (step gives meanings call) → Reaches first calls new (answers ++ answer ∷ []) left
+      → Reaches first calls old answers (call ∷ left) → DoesWith (needs call) old new answer (step gives meanings call) → Reaches first calls new (answers ++ answer ∷ []) left
   reaches_more first calls old new answers call left answer r d =
       let m = may_from_does old new call answer d r.now r.stands in
       record {

@@ -1,7 +1,7 @@
 //! One call as a value, and a list of calls.
 ghost use Rattle.std.specs.Prelude.{◌≡◌, IfOk, IfErr};
 ghost use Rattle.sentry_base.specs.declared.protocol.refusal.Refusal.TheVariants.{OutOfMemory};
-ghost use Rattle.sentry_calls.specs.Steps.{step, takes_no_memory};
+ghost use Rattle.sentry_calls.specs.Steps.{step, needs};
 ghost use Rattle.sentry_engine.specs.Ends.{AtEnd, EndsIn};
 ghost use Rattle.sentry_laws.specs.OwnCalls.{IsIsolated, KeepsOptions};
 ghost use Rattle.sentry_laws.specs.PushPop.{PushesAreUndone};
@@ -38,7 +38,7 @@ use std::alloc::Global;
 impl<P: EventCallback + Drop, C: Callbacks> Engine<P, C> {
     /// Makes one call, by the method of its name.
     pub fn apply(&mut self, call: Call<P, C>) -> Answer<P, C>
-        ensures { DoesWith (takes_no_memory call) self.old self.new result (step P.gives C.meanings call) }
+        ensures { DoesWith (needs call) self.old self.new result (step P.gives C.meanings call) }
     {
         match call {
             Call::Client(call) => self.apply_client_call(call),

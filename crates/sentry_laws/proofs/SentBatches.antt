@@ -41,7 +41,7 @@ use Rattle.sentry_calls.specs.declared.call.clients.ClientCall.TheVariants.{Drop
 use Rattle.sentry_calls.specs.declared.call.Reply.TheVariants as reply
 use Rattle.sentry_calls.specs.declared.call.Reply.{Reply}
 use Rattle.sentry_calls.specs.Runs.{StepsTo, Run}
-use Rattle.sentry_calls.specs.Steps.{step, client_step, takes_no_memory}
+use Rattle.sentry_calls.specs.Steps.{step, client_step, needs}
 use Rattle.sentry_laws.proofs.Effects.{Effect, effects}
 use Rattle.sentry_laws.proofs.Changes.{Change, Changes, nothing, one, both, is_batch_or_report, after_arrival, envelopes_on_arrival, Arrival, log_came, metric_came, session_ended, flush_came, makes_hub, makes_hub_from, changes_hub, leaves_hub, notes_event_id, releases_hub, adds_client, clones_client, drops_client, arrives, accepts, accepts_none, mails, loses, takes_report, absorbs, starts_none, starts_session, changes_session, ends_session, starts_transaction, starts_span, changes_spans}
 use Rattle.sentry_laws.specs.SentItems.{handed_in, batches_among, batches_for, batches_by, batches_sent, SendsAccepted, AreSent, IsSentBy, SendsAtEachCall}
@@ -751,7 +751,7 @@ module _ {T : Type 0} (batch_in : EnvelopeItem → Option (List T)) where
                   (sym (ap (list_any (is_dropped n)) trail.same) ∙ (own_dropped n meanings trail.effects ∙ d))) may.0
                 where
                   by_call : (call : Call P C) → Drops n meanings call
-                      → IsAnswer (takes_no_memory call) (step gives meanings call world).answer (Ok out)
+                      → IsAnswer (step gives meanings call world).answer (Ok out) (needs call)
                       → AreSent (total n ++ batches_by batch_in (handed_in call) n out.sent)
                       (limit_of client) [] (accepted_items (history client.queues))
                   by_call (group.Client (DropClient key)) own answered =

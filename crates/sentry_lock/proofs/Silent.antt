@@ -25,7 +25,7 @@ use Rattle.sentry_span_table.specs.SpanTables.{has_span_of, is_held, place_in}
 use Rattle.sentry_spans.specs.Spans as spans
 use Rattle.sentry_state.specs.Books.{has_book}
 use Rattle.sentry_state.specs.Breadcrumbs.{add_breadcrumbs}
-use Rattle.sentry_state.specs.Outcomes.{Outcome, DoesWith, client_at, hub_at, is_held_or_none, let_some, stored_client_at, stored_transaction_at, refuse, reply_with, require, require_some, span_at}
+use Rattle.sentry_state.specs.Outcomes.{Outcome, Need, DoesWith, client_at, hub_at, is_held_or_none, let_some, stored_client_at, stored_transaction_at, refuse, reply_with, require, require_some, span_at}
 use Rattle.sentry_state.specs.Worlds.{World, span_table}
 use Rattle.sentry_state.specs.declared.state.Out.{Out}
 use Rattle.sentry_state.specs.declared.state.State.{State}
@@ -253,9 +253,9 @@ module _ {P C : Type 0} (gives : P → Partial) (meanings : C → Meanings) wher
   step_silent (group.Span call) h world = silent_mapped _ _ (span_silent meanings call h world)
 
   -- what the engine answers to such a call
-  pub sends_nothing : (b : Bool) (call : Call P C) (old new : State P C) (result : Result (Out (Reply P C)) Refusal)
-      (drainers : Drainers) → DoesWith b old new result (step gives meanings call) → ∥ IsSound old drainers ∥₁
+  pub sends_nothing : (need : Need) (call : Call P C) (old new : State P C) (result : Result (Out (Reply P C)) Refusal)
+      (drainers : Drainers) → DoesWith need old new result (step gives meanings call) → ∥ IsSound old drainers ∥₁
       → IfOk result (λ out. can_hand_out call ≡ false → out.sent ≡ [])
-  sends_nothing b call old new (Ok out) drainers does sound =
+  sends_nothing need call old new (Ok out) drainers does sound =
       λ silent. nothing_sent out.sent (∥∥₁_map sound (λ s. (step_silent call silent s.world).nothing out (does s.world s.stands).0))
-  sends_nothing b call old new (Err refusal) drainers does sound = tt
+  sends_nothing need call old new (Err refusal) drainers does sound = tt

@@ -16,7 +16,7 @@ use Rattle.sentry_client_reports.specs.LossCounts.{CountedPart}
 use Rattle.sentry_options.specs.Meanings.{Meanings}
 use Rattle.sentry_options.specs.declared.clientoptions.ClientOptions.{ClientOptions}
 use Rattle.sentry_state.specs.Books.{has_book, with_book, with_entry}
-use Rattle.sentry_state.specs.Outcomes.{Outcome, DoesWith, IsAnswer, require, reply_with}
+use Rattle.sentry_state.specs.Outcomes.{Outcome, Need, memory, nothing, DoesWith, IsAnswer, require, reply_with}
 use Rattle.sentry_state.specs.Worlds.{World, Stands, first_world}
 use Rattle.sentry_state.specs.declared.state.Out.{Out}
 use Rattle.sentry_state.specs.declared.state.State.{State}
@@ -31,8 +31,8 @@ use Rattle.sentry_lock.proofs.Bounds.{queues_short, spans_kept, books_balanced}
 use Rattle.sentry_lock.proofs.Tied.{HistoriesAreTied, histories_tied, books_tied, tied_after_call, tied_after_absorb, tied_after_place, tied_after_new}
 
 never_refused : {T : Type 0} (expected : Result (Out T) Refusal) (out : Out T) (refusal : Refusal)
-    → expected ≡ Ok out → IsAnswer true expected (Err refusal) → ⊥
-never_refused expected out OutOfMemory is answer = absurd (let e = answer.0 in cc)
+    → expected ≡ Ok out → IsAnswer expected (Err refusal) nothing → ⊥
+never_refused expected out OutOfMemory is answer = absurd cc
 never_refused expected out refusal is answer = absurd cc
 
 new_book : (books : List (ℕ × List LossEntry)) (n : ℕ) → value_at books n ≡ None → with_book books n ≡ put books n []
@@ -72,15 +72,15 @@ module _ {P C : Type 0} where
       ∣ made_sound engine [] (first_world tag) stands tt (λ n drainer history at found. absurd cc) ∣₁
 
   -- a call that leaves what the books absorbed
-  pub after_call : {T : Type 0} (b : Bool) (old new : State P C) (result : Result (Out T) Refusal)
-      (outcome : World P C → Outcome P C T) (drainers : Drainers) → DoesWith b old new result outcome
+  pub after_call : {T : Type 0} (need : Need) (old new : State P C) (result : Result (Out T) Refusal)
+      (outcome : World P C → Outcome P C T) (drainers : Drainers) → DoesWith need old new result outcome
       → ((world : World P C) → KeepsBooks world.books (outcome world).after.books)
       → ∥ IsSound old drainers ∥₁ → ∥ IsSound new drainers ∥₁
-  after_call b old new (Ok out) outcome drainers does keeps sound =
+  after_call need old new (Ok out) outcome drainers does keeps sound =
       ∥∥₁_map sound (λ s.
       made_sound new drainers (outcome s.world).after (does s.world s.stands).1 ((keeps s.world).increasing s.sorted)
       (tied_after_call s.world.books (outcome s.world).after.books drainers (keeps s.world) s.sorted (tied_in_world s)))
-  after_call b old new (Err refusal) outcome drainers does keeps sound =
+  after_call need old new (Err refusal) outcome drainers does keeps sound =
       subst (λ (e : State P C). ∥ IsSound e drainers ∥₁) (sym does.0) sound
 
   -- ---- losses
@@ -102,7 +102,7 @@ module _ {P C : Type 0} where
   -- a label that is held is never refused
   pub held_absorbs : (old new : State P C) (label : Label) (quantities : List ℕ)
       (result : Result (Out (Unit {0})) Refusal) → ∥ ((world : World P C) × Stands old world) ∥₁ → IsHeld true label old
-      → DoesWith true old new result (absorb label quantities) → Absorbs label quantities old new
+      → DoesWith nothing old new result (absorb label quantities) → Absorbs label quantities old new
   held_absorbs old new label quantities (Ok out) stands held does = (out, does)
   held_absorbs old new label quantities (Err refusal) stands held does =
       absurd (∥∥₁_elim stands ⊥_prop (λ s.
@@ -142,7 +142,7 @@ module _ {P C : Type 0} where
       (slot : Option CountedPart) (quantities : List ℕ) (out : Out (Unit {0}))
       → value_at drainers label.number ≡ Some (Some before)
       → ((d : CountedPart) → slot ≡ Some d → d.taken ≡ plus before.taken quantities)
-      → IsHeld true label old → DoesWith true old new (Ok out) (absorb label quantities) → ∥ IsSound old drainers ∥₁
+      → IsHeld true label old → DoesWith nothing old new (Ok out) (absorb label quantities) → ∥ IsSound old drainers ∥₁
       → ∥ IsSound new (replace_at drainers label.number slot) ∥₁
   after_absorb old new drainers label before slot quantities out at taken held does sound =
       ∥∥₁_map sound (λ s.
@@ -214,7 +214,7 @@ module _ {P C : Type 0} where
 
     -- a client came, with a drainer that took nothing
     pub after_add : (old new : State P C) (out : Out ClientKey) (drainers : Drainers) (drainer : CountedPart)
-        → DoesWith false old new (Ok out) (add_client meanings options transport label now)
+        → DoesWith memory old new (Ok out) (add_client meanings options transport label now)
         → ((world : World P C) → Stands old world → false ≡ has_book world label)
         → value_at drainers label.number ≡ Some None → drainer.taken ≡ no_losses → ∥ IsSound old drainers ∥₁
         → ∥ IsSound new (replace_at drainers label.number (Some drainer)) ∥₁

@@ -23,24 +23,19 @@ use Rattle.sentry_span_table.specs.declared.table.records.TransactionRecord.{Tra
 use Rattle.sentry_spans.specs.Ends.{discarded, discard_after, end_span, discard_answer, then_discard}
 use Rattle.sentry_spans.specs.Spans.{finish_span, with_fate, with_span_in}
 use Rattle.sentry_state.specs.declared.state.Out.{Out}
-use Rattle.sentry_state.specs.Outcomes.{Does, IsAnswer, Outcome, stored_transaction_at, reply_with, require, require_some, span_at, transaction_at}
+use Rattle.sentry_state.specs.Outcomes.{Does, IsAnswer, memory, nothing, Outcome, stored_transaction_at, reply_with, require, require_some, span_at, transaction_at}
 use Rattle.sentry_state.specs.SpanChanges.{finished_span, with_span, with_transaction}
 use Rattle.sentry_state.specs.declared.state.State.{State}
 use Rattle.sentry_state.specs.Worlds.{Stands, World, span_table}
 use Rattle.sentry_state.proofs.SpanKeeping.{transaction_in_world}
 use Rattle.sentry_state.proofs.TableLemmas.{value_replaced, without_replaced}
 
--- an answer that there cannot be
-no_memory_asked : {X : Type 0} {b : Bool} → b ≡ false → b ≡ true → X
-no_memory_asked {b = true} e f = absurd cc
-no_memory_asked {b = false} e f = absurd cc
-
 is_refused : (answer : Result (Out (Unit {0})) Refusal) (refusal : Refusal) → answer ≡ Err refusal → is_ok answer ≡ false
 is_refused answer refusal e = ap is_ok e
 
-err_answer : (expected : Result (Out (Unit {0})) Refusal) (refusal : Refusal) → IsAnswer true expected (Err refusal)
+err_answer : (expected : Result (Out (Unit {0})) Refusal) (refusal : Refusal) → IsAnswer expected (Err refusal) nothing
     → expected ≡ Err refusal
-err_answer expected OutOfMemory h = no_memory_asked h.0 refl
+err_answer expected OutOfMemory h = h
 err_answer expected Stale h = h
 err_answer expected OutOfOrder h = h
 err_answer expected StillNamed h = h
@@ -51,7 +46,7 @@ err_answer expected ForeignLosses h = h
 err_answer expected Full h = h
 
 pub discard_answer-err : (expected : Result (Out (Unit {0})) Refusal) (refusal : Refusal)
-    → IsAnswer true expected (Err refusal) → Err refusal ≡ discard_answer expected
+    → IsAnswer expected (Err refusal) nothing → Err refusal ≡ discard_answer expected
 discard_answer-err expected refusal h = sym (ap discard_answer (err_answer expected refusal h))
 
 -- what stands under the key of the span, once it is finished
@@ -83,12 +78,12 @@ module _ {P C : Type 0} where
   pub refused_for_memory : {T : Type 0} (old new : State P C) (result : Result (Out T) Refusal)
       (outcome : World P C → Outcome P C T) → IsErr result → IsErrAnd result (λ refusal. refusal ≡ OutOfMemory)
       → new ≡ old
-      → ((world : World P C) → Stands old world → IsAnswer false (outcome world).answer (Err OutOfMemory))
+      → ((world : World P C) → Stands old world → IsAnswer (outcome world).answer (Err OutOfMemory) memory)
       → Does old new result outcome
   refused_for_memory old new (Ok out) outcome is gives same lacks = absurd cc
   refused_for_memory old new (Err refusal) outcome is gives same lacks = (
     same,
-    λ world s. subst (λ cause. IsAnswer false (outcome world).answer (Err cause)) (sym gives) (lacks world s),
+    λ world s. subst (λ cause. IsAnswer (outcome world).answer (Err cause) memory) (sym gives) (lacks world s),
   )
 
   -- a finish that answered, and then the discard
@@ -103,8 +98,8 @@ module _ {P C : Type 0} where
 
   -- a finish that is refused refuses the whole call
   pub refused_then : (finish : Outcome P C (Unit {0})) (go : World P C → Outcome P C (Unit {0})) (refusal : Refusal)
-      → IsAnswer false finish.answer (Err refusal) → IsAnswer false (then_discard finish go).answer (Err refusal)
-  refused_then finish go OutOfMemory h = (h.0, ok_then finish.answer finish.after go h.1)
+      → IsAnswer finish.answer (Err refusal) memory → IsAnswer (then_discard finish go).answer (Err refusal) memory
+  refused_then finish go OutOfMemory h = ok_then finish.answer finish.after go h
   refused_then finish go Stale h = ap (λ a. (discard_after a finish.after go).answer) h
   refused_then finish go OutOfOrder h = ap (λ a. (discard_after a finish.after go).answer) h
   refused_then finish go StillNamed h = ap (λ a. (discard_after a finish.after go).answer) h
@@ -143,12 +138,12 @@ module _ {P C : Type 0} where
       undone_require StillNamed world (not (is_span_named key world.hubs)) _ (undone_reply [] world _))
 
   -- what an engine that made the discard answers and stands for
-  pub discard_answer-ok : (outcome : Outcome P C (Unit {0})) (out : Out (Unit {0})) → IsAnswer true outcome.answer (Ok out)
-      → Ok tt ≡ discard_answer outcome.answer
+  pub discard_answer-ok : (outcome : Outcome P C (Unit {0})) (out : Out (Unit {0}))
+      → IsAnswer outcome.answer (Ok out) nothing → Ok tt ≡ discard_answer outcome.answer
   discard_answer-ok outcome out h = sym (ap discard_answer h)
 
   pub stays : (span : TransactionOrSpanKey) (world : World P C) (refusal : Refusal)
-      → IsAnswer true (discard span world).answer (Err refusal) → (discard span world).after ≡ world
+      → IsAnswer (discard span world).answer (Err refusal) nothing → (discard span world).after ≡ world
   stays span world refusal h = discard_undone span world
       (is_refused (discard span world).answer refusal (err_answer (discard span world).answer refusal h))
 

@@ -1,5 +1,5 @@
 -- How a transaction that was sampled is sent.
-use Rattle.std.proofs.Common.{◌≡◌, refl, ap, ◌∙◌, sym, subst, true, false}
+use Rattle.std.proofs.Common.{◌≡◌, refl, ap, ◌∙◌, sym, subst, true}
 use Rattle.std.specs.Prelude.{ℕ, Some, Ok, Err, List, [], ◌∷◌, is_ok}
 use Rattle.sentry_base.specs.declared.protocol.context.TraceContext.{TraceContext}
 use Rattle.sentry_base.specs.declared.protocol.envelope.Envelope.{Envelope}
@@ -22,7 +22,7 @@ use Rattle.sentry_state.specs.Books.{pending_report}
 use Rattle.sentry_state.specs.declared.state.Client.{Client}
 use Rattle.sentry_state.specs.declared.state.State.{State}
 use Rattle.sentry_base.specs.declared.protocol.refusal.Refusal.TheVariants.{OutOfMemory}
-use Rattle.sentry_state.specs.Outcomes.{IsAnswer, Outcome, hub_at, stored_client_at, stored_transaction_at, reply_with}
+use Rattle.sentry_state.specs.Outcomes.{IsAnswer, memory, Outcome, hub_at, stored_client_at, stored_transaction_at, reply_with}
 use Rattle.sentry_state.specs.SpanChanges.{with_transaction_finished}
 use Rattle.sentry_state.specs.Worlds.{Stands, World}
 
@@ -74,5 +74,5 @@ module _ {P C : Type 0} where
 
   -- a call that replies may answer out of memory
   pub may_lack_memory : {T : Type 0} (outcome : Outcome P C T) (reply : T) (sent : List (ClientKey × Envelope))
-      (after : World P C) → outcome ≡ reply_with reply sent after → IsAnswer false outcome.answer (Err OutOfMemory)
-  may_lack_memory outcome reply sent after is = (refl, ap (λ o. is_ok o.answer) is)
+      (after : World P C) → outcome ≡ reply_with reply sent after → IsAnswer outcome.answer (Err OutOfMemory) memory
+  may_lack_memory outcome reply sent after is = ap (λ o. is_ok o.answer) is

@@ -26,10 +26,15 @@ pub record Outcome (P C T : Type 0) : Type 0 where
   pub answer : Result (Out T) Refusal
   pub after : World P C
 
--- the answer is the one that is expected; or out of memory in place of a reply, unless the call takes no memory
-abbrev pub IsAnswer : {T : Type 0} → Bool → Result (Out T) Refusal → Result (Out T) Refusal → Type 0
-IsAnswer takes_no_memory expected (Err OutOfMemory) = (takes_no_memory ≡ false) × (is_ok expected ≡ true)
-IsAnswer takes_no_memory expected answer = expected ≡ answer
+-- what a call may run out of
+pub data Need : Type 0 where
+  memory : Need
+  nothing : Need
+
+-- the answer is the one that is expected; or out of memory in place of a reply, where the call needs memory
+abbrev pub IsAnswer : {T : Type 0} → Result (Out T) Refusal → Result (Out T) Refusal → Need → Type 0
+IsAnswer expected (Err OutOfMemory) memory = is_ok expected ≡ true
+IsAnswer expected answer need = expected ≡ answer
 
 module _ {P C T : Type 0} where
   -- a refusal, which changes nothing
@@ -57,21 +62,21 @@ module _ {P C T : Type 0} where
 
   -- the call did what its definition says, in every world that the engine stood for; where it was refused, the engine
   -- is the engine before
-  abbrev pub DoesWith : Bool → State P C → State P C → Result (Out T) Refusal → (World P C → Outcome P C T) → Type 0
-  DoesWith takes_no_memory old new (Ok out) outcome =
+  abbrev pub DoesWith : Need → State P C → State P C → Result (Out T) Refusal → (World P C → Outcome P C T) → Type 0
+  DoesWith need old new (Ok out) outcome =
       (world : World P C) → Stands old world
-      → IsAnswer takes_no_memory (outcome world).answer (Ok out) × Stands new (outcome world).after
-  DoesWith takes_no_memory old new (Err refusal) outcome =
+      → IsAnswer (outcome world).answer (Ok out) need × Stands new (outcome world).after
+  DoesWith need old new (Err refusal) outcome =
       (new ≡ old)
-      × ((world : World P C) → Stands old world → IsAnswer takes_no_memory (outcome world).answer (Err refusal))
+      × ((world : World P C) → Stands old world → IsAnswer (outcome world).answer (Err refusal) need)
 
-  -- the same of a call that may need memory
+  -- the same of a call that needs memory
   abbrev pub Does : State P C → State P C → Result (Out T) Refusal → (World P C → Outcome P C T) → Type 0
-  Does old new answer outcome = DoesWith false old new answer outcome
+  Does old new answer outcome = DoesWith memory old new answer outcome
 
-  -- the same of a call that takes no memory, and so never answers out of memory
+  -- the same of a call that needs nothing, and so never runs out of memory
   abbrev pub DoesWithoutMemory : State P C → State P C → Result (Out T) Refusal → (World P C → Outcome P C T) → Type 0
-  DoesWithoutMemory old new answer outcome = DoesWith true old new answer outcome
+  DoesWithoutMemory old new answer outcome = DoesWith nothing old new answer outcome
 
 -- what stands under a key, where its tag is the engine's
 abbrev pub value_under : {X : Type 0} → ℕ → List (ℕ × X) → ℕ → ℕ → Option X

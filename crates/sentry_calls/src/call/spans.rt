@@ -1,6 +1,6 @@
 //! The calls on transactions and spans, their replies, and one call of a state.
 ghost use Rattle.std.specs.Prelude.{◌≡◌};
-ghost use Rattle.sentry_calls.specs.SpanCalls.{span_step, takes_no_memory};
+ghost use Rattle.sentry_calls.specs.SpanCalls.{span_step, needs};
 ghost use Rattle.sentry_calls.specs.Replies.{IsMapped, map_answer};
 ghost use Rattle.sentry_calls.specs.declared.call.spans.records.SpanReply.TheVariants as reply;
 ghost use Rattle.sentry_span_edits.specs.Setters.{set_request};
@@ -100,7 +100,7 @@ pub fn apply_span_call<P: Drop, C: Callbacks>(
     state: &mut State<P, C>,
     call: SpanCall,
 ) -> Result<Out<SpanReply>, Refusal>
-    ensures { DoesWith (takes_no_memory call) state.old state.new result (span_step C.meanings call) }
+    ensures { DoesWith (needs call) state.old state.new result (span_step C.meanings call) }
 {
     match call {
         SpanCall::StartTransaction {

@@ -1,5 +1,5 @@
 //! The calls on clients, as values.
-ghost use Rattle.sentry_calls.specs.Steps.{client_step, client_takes_no_memory};
+ghost use Rattle.sentry_calls.specs.Steps.{client_step, client_needs};
 ghost use Rattle.sentry_state.specs.Outcomes.{DoesWith};
 
 use crate::call::{Answer, ClientCall, replies};
@@ -11,8 +11,7 @@ impl<P: EventCallback + Drop, C: Callbacks> Engine<P, C> {
     // Makes a call on a client, by the method of its name.
     #[tactic(auto, unfolding(sentry_calls::specs::Steps::client_step))]
     pub(super) fn apply_client_call(&mut self, call: ClientCall<P, C>) -> Answer<P, C>
-        ensures { DoesWith (client_takes_no_memory call) self.old self.new result
-            (client_step P.gives C.meanings call) }
+        ensures { DoesWith (client_needs call) self.old self.new result (client_step P.gives C.meanings call) }
     {
         match call {
             ClientCall::AddClient {

@@ -1,5 +1,5 @@
 //! The calls on hubs, as values.
-ghost use Rattle.sentry_calls.specs.Steps.{hub_step, hub_takes_no_memory};
+ghost use Rattle.sentry_calls.specs.Steps.{hub_step, hub_needs};
 ghost use Rattle.sentry_state.specs.Outcomes.{DoesWith};
 
 use crate::call::{Answer, HubCall, replies};
@@ -12,8 +12,7 @@ impl<P: EventCallback + Drop, C: Callbacks> Engine<P, C> {
     // Makes a call on a hub, by the method of its name.
     #[tactic(auto, unfolding(sentry_calls::specs::Steps::hub_step))]
     pub(super) fn apply_hub_call(&mut self, call: HubCall<P>) -> Answer<P, C>
-        ensures { DoesWith (hub_takes_no_memory call) self.old self.new result
-            (hub_step P.gives C.meanings call) }
+        ensures { DoesWith (hub_needs call) self.old self.new result (hub_step P.gives C.meanings call) }
     {
         match call {
             HubCall::NewHub { client, scope } => replies::hub(self.new_boxed_hub(client, scope)),

@@ -1,6 +1,6 @@
 //! The calls on transactions and spans.
 ghost use Rattle.std.specs.Prelude.{◌≡◌};
-ghost use Rattle.sentry_calls.specs.SpanCalls.{span_step, takes_no_memory};
+ghost use Rattle.sentry_calls.specs.SpanCalls.{span_step, needs};
 ghost use Rattle.sentry_span_edits.specs.Discards as discards;
 ghost use Rattle.sentry_span_edits.specs.Reads as reads;
 ghost use Rattle.sentry_span_edits.specs.Setters as setters;
@@ -332,7 +332,7 @@ impl<P: Drop, C: Callbacks> Engine<P, C> {
 
     /// Makes one call on transactions and spans, by the method of its name.
     pub fn apply_span_call(&mut self, call: SpanCall) -> Result<Out<SpanReply>, Refusal>
-        ensures { DoesWith (takes_no_memory call) self.old self.new result (span_step C.meanings call) }
+        ensures { DoesWith (needs call) self.old self.new result (span_step C.meanings call) }
     {
         apply_span_call(&mut self.state, call)
     }

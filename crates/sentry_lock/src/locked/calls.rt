@@ -1,7 +1,7 @@
 //! Calls as values, under the lock.
 
 ghost use Rattle.std.specs.Prelude.{◌≡◌, Ok, [], true, false, IfOk, IfErr};
-ghost use Rattle.sentry_calls.specs.Steps.{step, takes_no_memory};
+ghost use Rattle.sentry_calls.specs.Steps.{step, needs};
 ghost use Rattle.sentry_state.specs.Outcomes.{DoesWith};
 ghost use Rattle.sentry_state.specs.declared.state.State.{State};
 ghost use Rattle.sentry_lock.specs.Locked.{DrainsFor, ForgetsDropped};
@@ -72,7 +72,7 @@ impl<P: EventCallback + Drop, C: Callbacks, T: Drop> Core<P, C, T> {
     // Makes one call of the engine.
     fn apply_call(&mut self, call: Call<P, C>) -> Answer<P, C>
         requires { is_ordinary_call call ≡ true }
-        ensures does { DoesWith (takes_no_memory call) self.old.engine self.new.engine result (step P.gives C.meanings call) }
+        ensures does { DoesWith (needs call) self.old.engine self.new.engine result (step P.gives C.meanings call) }
         ensures silent { IfOk result (λ out. can_hand_out call ≡ false → out.sent ≡ []) }
         ensures drainers { self.new.drainers ≡ self.old.drainers }
     {
@@ -82,7 +82,7 @@ impl<P: EventCallback + Drop, C: Callbacks, T: Drop> Core<P, C, T> {
     // Makes one call, which isn't made by a method of its own, and before which the losses were drained.
     fn apply(&mut self, call: Call<P, C>) -> Result<Handed<Reply<P, C>, T>, Refusal>
         requires { is_ordinary_call call ≡ true }
-        ensures done { IfOk result (λ handed. DoesWith (takes_no_memory call) self.old.engine self.new.engine
+        ensures done { IfOk result (λ handed. DoesWith (needs call) self.old.engine self.new.engine
             (Ok handed.out) (step P.gives C.meanings call)) }
         ensures silent { IfOk result (λ handed. can_hand_out call ≡ false → handed.out.sent ≡ []) }
         ensures forgets { IfOk result (λ _.
@@ -121,7 +121,7 @@ impl<P: EventCallback + Drop, C: Callbacks, T: Drop> Core<P, C, T> {
         requires { is_ordinary_call call ≡ true }
         ensures done { IfOk result (λ handed. (between : State P C) × (drained : Drainers)
             × DrainsFor (can_hand_out call) self.old.tag self.old.engine between self.old.drainers drained
-            × DoesWith (takes_no_memory call) between self.new.engine (Ok handed.out) (step P.gives C.meanings call)
+            × DoesWith (needs call) between self.new.engine (Ok handed.out) (step P.gives C.meanings call)
             × ForgetsDropped call between self.new.engine drained self.new.drainers) }
         ensures silent { IfOk result (λ handed. can_hand_out call ≡ false → handed.out.sent ≡ []) }
         ensures refused { IfErr result (λ _. DrainsFor (can_hand_out call) self.old.tag

@@ -1,4 +1,4 @@
-use Rattle.std.proofs.Common.{false}
+use Rattle.sentry_state.specs.Outcomes.{memory}
 use Rattle.sentry_lock.proofs.KeepsHubs.{capture_log_keeps}
 use Rattle.sentry_lock.proofs.Sound.{after_call}
 use Rattle.sentry_lock.proofs.locked.Core.capture_log.Goals as goal
@@ -7,7 +7,7 @@ pub invariant_of-self : goal.invariant_of-self
 invariant_of-self g c =
     let self = c.drained.new.self in
     record {
-      sound = after_call false self.engine c.capture_log.new.self c.capture_log.result _ self.drainers c.capture_log.ensures
+      sound = after_call memory self.engine c.capture_log.new.self c.capture_log.result _ self.drainers c.capture_log.ensures
           (λ world. capture_log_keeps g.P.EventCallback.gives g.C.Callbacks.meanings c.args.hub c.args.log world) self.sound;
       labelled = self.labelled;
     }

@@ -1,5 +1,5 @@
-use Rattle.std.proofs.Common.{false}
 use Rattle.sentry_calls.specs.Sessions.{end_session_with_status}
+use Rattle.sentry_state.specs.Outcomes.{memory}
 use Rattle.sentry_lock.proofs.KeepsHubs.{end_session_with_status_keeps}
 use Rattle.sentry_lock.proofs.Sound.{after_call}
 use Rattle.sentry_lock.proofs.locked.Core.end_session_with_status.Goals as goal
@@ -9,7 +9,7 @@ pub invariant_of-self : goal.invariant_of-self
 invariant_of-self g c =
     let self = c.drain_and_make_ready.new.self in
     record {
-      sound = after_call false self.engine c.end_session_with_status.new.self c.end_session_with_status.result (end_session_with_status c.args.hub c.args.status c.args.now) self.drainers c.end_session_with_status.ensures
+      sound = after_call memory self.engine c.end_session_with_status.new.self c.end_session_with_status.result (end_session_with_status c.args.hub c.args.status c.args.now) self.drainers c.end_session_with_status.ensures
           (λ world. end_session_with_status_keeps g.P.EventCallback.gives g.C.Callbacks.meanings c.args.hub c.args.status c.args.now world) self.sound;
       labelled = self.labelled;
     }
@@ -19,7 +19,7 @@ pub invariant_of-self-2 : goal.invariant_of-self-2
 invariant_of-self-2 g c =
     let self = c.drain_and_make_ready.new.self in
     record {
-      sound = after_call false self.engine c.end_session_with_status.new.self c.end_session_with_status.result (end_session_with_status c.args.hub c.args.status c.args.now) self.drainers c.end_session_with_status.ensures
+      sound = after_call memory self.engine c.end_session_with_status.new.self c.end_session_with_status.result (end_session_with_status c.args.hub c.args.status c.args.now) self.drainers c.end_session_with_status.ensures
           (λ world. end_session_with_status_keeps g.P.EventCallback.gives g.C.Callbacks.meanings c.args.hub c.args.status c.args.now world) self.sound;
       labelled = self.labelled;
     }

@@ -1,4 +1,4 @@
-use Rattle.std.proofs.Common.{false}
+use Rattle.sentry_state.specs.Outcomes.{memory}
 use Rattle.sentry_lock.proofs.KeepsSpans.{set_extra_keeps}
 use Rattle.sentry_lock.proofs.Sound.{after_call}
 use Rattle.sentry_lock.proofs.locked.Core.set_extra.Goals as goal
@@ -7,7 +7,7 @@ pub invariant_of-self : goal.invariant_of-self
 invariant_of-self g c =
     let self = c.args.self.now in
     record {
-      sound = after_call false self.engine c.set_extra.new.self c.set_extra.result _ self.drainers c.set_extra.ensures
+      sound = after_call memory self.engine c.set_extra.new.self c.set_extra.result _ self.drainers c.set_extra.ensures
           (λ world. set_extra_keeps g.P.EventCallback.gives g.C.Callbacks.meanings c.args.transaction c.args.key.now c.args.value world) self.sound;
       labelled = self.labelled;
     }

@@ -1,4 +1,4 @@
-use Rattle.std.proofs.Common.{false}
+use Rattle.sentry_state.specs.Outcomes.{memory}
 use Rattle.sentry_lock.proofs.KeepsSpans.{start_child_with_details_keeps}
 use Rattle.sentry_lock.proofs.Sound.{after_call}
 use Rattle.sentry_lock.proofs.locked.Core.start_child_with_details.Goals as goal
@@ -7,7 +7,7 @@ pub invariant_of-self : goal.invariant_of-self
 invariant_of-self g c =
     let self = c.args.self.now in
     record {
-      sound = after_call false self.engine c.start_child_with_details.new.self c.start_child_with_details.result _ self.drainers c.start_child_with_details.ensures
+      sound = after_call memory self.engine c.start_child_with_details.new.self c.start_child_with_details.result _ self.drainers c.start_child_with_details.ensures
           (λ world. start_child_with_details_keeps g.P.EventCallback.gives g.C.Callbacks.meanings c.args.parent c.args.op.now c.args.description.now c.args.id c.args.start world) self.sound;
       labelled = self.labelled;
     }

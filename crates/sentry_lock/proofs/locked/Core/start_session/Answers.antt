@@ -1,5 +1,5 @@
-use Rattle.std.proofs.Common.{false}
 use Rattle.sentry_calls.specs.Sessions.{start_session}
+use Rattle.sentry_state.specs.Outcomes.{memory}
 use Rattle.sentry_lock.proofs.KeepsHubs.{start_session_keeps}
 use Rattle.sentry_lock.proofs.Sound.{after_call}
 use Rattle.sentry_lock.proofs.locked.Core.start_session.Goals as goal
@@ -9,7 +9,7 @@ pub invariant_of-self : goal.invariant_of-self
 invariant_of-self g c =
     let self = c.drain_and_make_ready.new.self in
     record {
-      sound = after_call false self.engine c.start_session.new.self c.start_session.result (start_session c.args.hub c.args.fresh) self.drainers c.start_session.ensures
+      sound = after_call memory self.engine c.start_session.new.self c.start_session.result (start_session c.args.hub c.args.fresh) self.drainers c.start_session.ensures
           (λ world. start_session_keeps g.P.EventCallback.gives g.C.Callbacks.meanings c.args.hub c.args.fresh world) self.sound;
       labelled = self.labelled;
     }
@@ -19,7 +19,7 @@ pub invariant_of-self-2 : goal.invariant_of-self-2
 invariant_of-self-2 g c =
     let self = c.drain_and_make_ready.new.self in
     record {
-      sound = after_call false self.engine c.start_session.new.self c.start_session.result (start_session c.args.hub c.args.fresh) self.drainers c.start_session.ensures
+      sound = after_call memory self.engine c.start_session.new.self c.start_session.result (start_session c.args.hub c.args.fresh) self.drainers c.start_session.ensures
           (λ world. start_session_keeps g.P.EventCallback.gives g.C.Callbacks.meanings c.args.hub c.args.fresh world) self.sound;
       labelled = self.labelled;
     }
