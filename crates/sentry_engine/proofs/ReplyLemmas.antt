@@ -19,7 +19,7 @@ module _ {P C T : Type 0} where
       → IsAnswer expected answer need → IsAnswer (map_answer f expected) (map_answer f answer) need
   IsAnswer-map_answer need f expected (Ok out) h = ap (map_answer f) h
   IsAnswer-map_answer memory f expected (Err OutOfMemory) h = is_ok-map_answer f expected h
-  IsAnswer-map_answer nothing f expected (Err OutOfMemory) h = ap (map_answer f) h
+  IsAnswer-map_answer nothing f expected (Err OutOfMemory) h = h
   IsAnswer-map_answer need f expected (Err Stale) h = ap (map_answer f) h
   IsAnswer-map_answer need f expected (Err OutOfOrder) h = ap (map_answer f) h
   IsAnswer-map_answer need f expected (Err StillNamed) h = ap (map_answer f) h

@@ -32,7 +32,7 @@ use Rattle.sentry_lock.proofs.Tied.{HistoriesAreTied, histories_tied, books_tied
 
 never_refused : {T : Type 0} (expected : Result (Out T) Refusal) (out : Out T) (refusal : Refusal)
     → expected ≡ Ok out → IsAnswer expected (Err refusal) nothing → ⊥
-never_refused expected out OutOfMemory is answer = absurd cc
+never_refused expected out OutOfMemory is answer = answer
 never_refused expected out refusal is answer = absurd cc
 
 new_book : (books : List (ℕ × List LossEntry)) (n : ℕ) → value_at books n ≡ None → with_book books n ≡ put books n []

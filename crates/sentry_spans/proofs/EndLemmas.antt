@@ -35,7 +35,7 @@ is_refused answer refusal e = ap is_ok e
 
 err_answer : (expected : Result (Out (Unit {0})) Refusal) (refusal : Refusal) → IsAnswer expected (Err refusal) nothing
     → expected ≡ Err refusal
-err_answer expected OutOfMemory h = h
+err_answer expected OutOfMemory h = absurd h
 err_answer expected Stale h = h
 err_answer expected OutOfOrder h = h
 err_answer expected StillNamed h = h

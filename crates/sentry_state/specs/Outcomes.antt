@@ -31,9 +31,11 @@ pub data Need : Type 0 where
   memory : Need
   nothing : Need
 
--- the answer is the one that is expected; or out of memory in place of a reply, where the call needs memory
+-- the answer is the one that is expected; or out of memory in place of a reply, where the call needs memory, and never
+-- where it needs nothing
 abbrev pub IsAnswer : {T : Type 0} → Result (Out T) Refusal → Result (Out T) Refusal → Need → Type 0
 IsAnswer expected (Err OutOfMemory) memory = is_ok expected ≡ true
+IsAnswer expected (Err OutOfMemory) nothing = ⊥
 IsAnswer expected answer need = expected ≡ answer
 
 module _ {P C T : Type 0} where
