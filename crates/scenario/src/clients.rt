@@ -1,38 +1,26 @@
 //! Calls on clients.
-use crate::locked::{Locked, LockedClient};
-use crate::transport::Post;
+use crate::locked::{LockReply, Locked};
 use crate::words::Words;
 use scenario_run::TAG;
-use scenario_run::callbacks::{Callbacks, Handler};
-use scenario_run::caller::CallReply;
 use sentry_base::protocol::{ClientKey, Label, Losses, Refusal};
 use sentry_engine::call::{ClientCall, Reply};
 use sentry_lock::client::Client;
+use sentry_lock::core_lock::CoreLock;
 use sentry_options::clientoptions::ClientOptions;
 use std::alloc::AllocError;
-use std::sync::Wait;
 
-impl<R: Wait + Copy + Drop> Locked<R> {
+impl<L: CoreLock> Locked<L> {
     /// The client of a key, which need not be held.
-    pub(crate) fn client(&self, key: ClientKey) -> Result<LockedClient<R>, AllocError> {
+    pub(crate) fn client(&self, key: ClientKey) -> Result<Client<L>, AllocError> {
         self.core.client(key)
     }
 
-    /// Makes a call that adds a client, drops one, or sends what waits.
+    /// Makes a call that copies a client, drops one, or sends what waits. `add_client` adds one.
     pub(crate) fn change_client(
         &mut self,
-        call: ClientCall<Handler, Callbacks>,
-    ) -> Result<CallReply, Refusal> {
+        call: ClientCall<L::Processor, L::Callbacks>,
+    ) -> Result<LockReply<L>, Refusal> {
         match call {
-            ClientCall::AddClient {
-                options,
-                transport,
-                label,
-                now,
-            } => {
-                let options = options.into_inner();
-                Ok(Reply::Client(self.add_client(options, transport, label.number, now)?))
-            }
             ClientCall::CloneClient { client, now } => {
                 let clone = self.client(client)?.clone_client(now)?;
                 Ok(Reply::Client(clone.key()))
@@ -60,7 +48,10 @@ impl<R: Wait + Copy + Drop> Locked<R> {
     }
 
     // A call by which a client sends something.
-    fn send_by_client(&self, call: ClientCall<Handler, Callbacks>) -> Result<CallReply, Refusal> {
+    fn send_by_client(
+        &self,
+        call: ClientCall<L::Processor, L::Callbacks>,
+    ) -> Result<LockReply<L>, Refusal> {
         match call {
             ClientCall::ClientCaptureEvent {
                 client,
@@ -97,7 +88,10 @@ impl<R: Wait + Copy + Drop> Locked<R> {
     }
 
     // A call that changes nothing but losses.
-    fn ask_client(&self, call: ClientCall<Handler, Callbacks>) -> Result<CallReply, Refusal> {
+    fn ask_client(
+        &self,
+        call: ClientCall<L::Processor, L::Callbacks>,
+    ) -> Result<LockReply<L>, Refusal> {
         match call {
             ClientCall::Options(key) => Ok(Reply::Options(self.client(key)?.options()?)),
             ClientCall::Dsn(key) => Ok(Reply::Dsn(self.client(key)?.dsn()?)),
@@ -121,23 +115,19 @@ impl<R: Wait + Copy + Drop> Locked<R> {
                 })?;
                 Ok(Reply::Decision(client.sample_should_send(rate, draw)?))
             }
-            // the calls of the two functions above
+            // the calls of the two functions above, and that of the next
             _other => Err(Refusal::Stale),
         }
     }
 
-    // The words get their place before the client is added: after that nothing is refused.
-    fn add_client(
+    /// Adds a client, whose words get this number. The words get their place before that: after it nothing is refused.
+    pub(crate) fn add_client(
         &mut self,
-        options: ClientOptions<Callbacks>,
-        has_transport: bool,
+        options: ClientOptions<L::Callbacks>,
+        transport: Option<L::Transport>,
         number: u64,
         now: u64,
     ) -> Result<ClientKey, Refusal> {
-        let transport = match has_transport {
-            false => None,
-            true => Some(Post::new(ClientKey { tag: TAG, number }, self.mailbox.clone()?)),
-        };
         let mut setup = self.core.client_setup(options)?;
         let recorder = match setup.transport_options()? {
             None => None,
@@ -152,7 +142,7 @@ impl<R: Wait + Copy + Drop> Locked<R> {
 
     // Records losses in the words of a client, where they stay until the next call that can hand out envelopes. The drain
     // before that tells whether a client has the label.
-    fn absorb(&mut self, number: u64, losses: &Losses) -> Result<CallReply, Refusal> {
+    fn absorb(&mut self, number: u64, losses: &Losses) -> Result<LockReply<L>, Refusal> {
         self.drain(number)?;
         let Some(words) = self.words.get_mut(number) else {
             return Err(Refusal::ForeignLosses);
@@ -172,7 +162,7 @@ impl<R: Wait + Copy + Drop> Locked<R> {
         Ok(label)
     }
 
-    fn take_report(&self, number: u64) -> Result<CallReply, Refusal> {
+    fn take_report(&self, number: u64) -> Result<LockReply<L>, Refusal> {
         let label = self.drain(number)?;
         let mut guard = self.core.lock();
         let report = guard.under.core.take_report(label)?;

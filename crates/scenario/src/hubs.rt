@@ -1,19 +1,20 @@
 //! Calls on hubs.
-use crate::locked::{Locked, LockedHub};
+use crate::locked::{LockReply, Locked};
 use crate::threads::thread_of;
-use scenario_run::callbacks::Handler;
-use scenario_run::caller::CallReply;
 use sentry_base::protocol::{ClientKey, HubKey, Refusal, SessionStatus};
 use sentry_engine::call::{Call, HubCall, Reply};
 use sentry_engine::engine::ScopeGuard;
 use sentry_hub::hub::{Hub, PopScopeError};
+use sentry_lock::core_lock::CoreLock;
 use sentry_plain::Boxed;
 use sentry_scope::scope::Scope;
-use std::sync::Wait;
 
-impl<R: Wait + Copy + Drop> Locked<R> {
+impl<L: CoreLock> Locked<L> {
     /// Makes a call that adds a hub or gives one back, or that changes its client or its layers.
-    pub(crate) fn change_hub(&mut self, call: HubCall<Handler>) -> Result<CallReply, Refusal> {
+    pub(crate) fn change_hub(
+        &mut self,
+        call: HubCall<L::Processor>,
+    ) -> Result<LockReply<L>, Refusal> {
         match call {
             HubCall::NewHub { client, scope } => self.new_hub(client, scope.into_inner()),
             HubCall::NewHubFromTop(hub) => self.new_hub_from_top(hub),
@@ -26,7 +27,7 @@ impl<R: Wait + Copy + Drop> Locked<R> {
     }
 
     // The hub gets its place before it is made: after that nothing is refused.
-    fn keep_hub(&mut self, hub: LockedHub<R>) -> CallReply {
+    fn keep_hub(&mut self, hub: Hub<L>) -> LockReply<L> {
         let key = hub.key();
         drop(self.hubs.push(hub));
         Reply::Hub(key)
@@ -35,8 +36,8 @@ impl<R: Wait + Copy + Drop> Locked<R> {
     fn new_hub(
         &mut self,
         client: Option<ClientKey>,
-        scope: Scope<Handler>,
-    ) -> Result<CallReply, Refusal> {
+        scope: Scope<L::Processor>,
+    ) -> Result<LockReply<L>, Refusal> {
         self.hubs.reserve(1)?;
         let client = match client {
             None => None,
@@ -46,20 +47,20 @@ impl<R: Wait + Copy + Drop> Locked<R> {
         Ok(self.keep_hub(hub))
     }
 
-    fn new_hub_from_top(&mut self, other: HubKey) -> Result<CallReply, Refusal> {
+    fn new_hub_from_top(&mut self, other: HubKey) -> Result<LockReply<L>, Refusal> {
         self.hubs.reserve(1)?;
         let hub = Hub::new_from_top(self.hub(other)?)?;
         Ok(self.keep_hub(hub))
     }
 
-    fn release(&self, hub: HubKey, now: u64) -> Result<CallReply, Refusal> {
+    fn release(&self, hub: HubKey, now: u64) -> Result<LockReply<L>, Refusal> {
         let hub = self.hub(hub)?;
         let mut thread = thread_of(hub, now)?;
         hub.release(&mut thread)?;
         Ok(Reply::Done)
     }
 
-    fn bind_client(&self, hub: HubKey, client: Option<ClientKey>) -> Result<CallReply, Refusal> {
+    fn bind_client(&self, hub: HubKey, client: Option<ClientKey>) -> Result<LockReply<L>, Refusal> {
         let client = match client {
             None => None,
             Some(key) => Some(self.client(key)?),
@@ -69,7 +70,7 @@ impl<R: Wait + Copy + Drop> Locked<R> {
     }
 
     // The guard gets its place before the call: after that nothing is refused.
-    fn push_scope(&mut self, hub: HubKey) -> Result<CallReply, Refusal> {
+    fn push_scope(&mut self, hub: HubKey) -> Result<LockReply<L>, Refusal> {
         self.guards.reserve(hub)?;
         let guard = self.push(hub)?;
         Ok(Reply::Depth(self.guards.keep(hub, guard)))
@@ -80,7 +81,7 @@ impl<R: Wait + Copy + Drop> Locked<R> {
     }
 
     // By the guard of the top layer. No guard is of another depth, which the call as a value is then refused for.
-    fn pop_scope(&mut self, hub: HubKey, depth: usize, now: u64) -> Result<CallReply, Refusal> {
+    fn pop_scope(&mut self, hub: HubKey, depth: usize, now: u64) -> Result<LockReply<L>, Refusal> {
         let Some(guard) = self.guards.take(hub, depth) else {
             let call = HubCall::PopScope { hub, depth, now };
             return self.core.call(Call::Hub(call));
@@ -103,7 +104,7 @@ impl<R: Wait + Copy + Drop> Locked<R> {
     }
 
     // A call that changes the top layer.
-    fn change_top(&self, call: HubCall<Handler>) -> Result<CallReply, Refusal> {
+    fn change_top(&self, call: HubCall<L::Processor>) -> Result<LockReply<L>, Refusal> {
         match call {
             HubCall::Configure { hub, edits, now } => {
                 self.hub(hub)?.configure(edits.into_vec(), now)?;
@@ -129,7 +130,7 @@ impl<R: Wait + Copy + Drop> Locked<R> {
         hub: HubKey,
         status: SessionStatus,
         now: u64,
-    ) -> Result<CallReply, Refusal> {
+    ) -> Result<LockReply<L>, Refusal> {
         let hub = self.hub(hub)?;
         match status {
             SessionStatus::Exited => hub.end_session(now)?,
@@ -139,7 +140,7 @@ impl<R: Wait + Copy + Drop> Locked<R> {
     }
 
     // A call that captures something.
-    fn capture(&self, call: HubCall<Handler>) -> Result<CallReply, Refusal> {
+    fn capture(&self, call: HubCall<L::Processor>) -> Result<LockReply<L>, Refusal> {
         match call {
             HubCall::CaptureEvent { hub, event, fresh } => {
                 let id = self.hub(hub)?.capture_event(event.into_inner(), fresh)?;
@@ -171,7 +172,7 @@ impl<R: Wait + Copy + Drop> Locked<R> {
     }
 
     // A call that changes nothing.
-    fn ask_hub(&self, call: HubCall<Handler>) -> Result<CallReply, Refusal> {
+    fn ask_hub(&self, call: HubCall<L::Processor>) -> Result<LockReply<L>, Refusal> {
         match call {
             HubCall::LastEventId(hub) => { Ok(Reply::LastEvent(self.hub(hub)?.last_event_id()?)) }
             HubCall::Client(hub) => match self.hub(hub)?.client()? {
@@ -186,7 +187,7 @@ impl<R: Wait + Copy + Drop> Locked<R> {
     }
 
     /// A copy of the top scope of a hub.
-    pub(crate) fn scope(&self, hub: HubKey) -> Result<Scope<Handler>, Refusal> {
+    pub(crate) fn scope(&self, hub: HubKey) -> Result<Scope<L::Processor>, Refusal> {
         self.hub(hub)?.scope()
     }
 }

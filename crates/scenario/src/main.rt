@@ -7,6 +7,7 @@
 //! of each envelope are printed too.
 #![tactic(auto)]
 
+mod caller;
 mod clients;
 mod guards;
 mod hubs;
@@ -16,19 +17,27 @@ mod threads;
 mod transport;
 mod words;
 
-use locked::{Locked, SpanCalls};
-use scenario_run::{Envelopes, ScenarioFault, run_scenario, run_scenario_by};
-use std::alloc::Global;
+use caller::LockedCaller;
+use locked::SpanCalls;
+use scenario_run::callbacks::{Callbacks, Handler};
+use scenario_run::{Envelopes, ScenarioFault, TAG, run_scenario, run_scenario_by};
+use sentry_lock::core_lock::{Locked, Waiting};
+use sentry_lock::shared_core::SharedCore;
+use std::alloc::{AllocError, Global};
 use std::io::BufReader;
 use std::process::ExitCode;
 use std::rt::Stdin;
-use std::sync::Wait;
+use std::sync::{Arc, Wait};
 use std::{env, io};
+use transport::{Mailbox, Post};
 
 const USAGE: &str = "the arguments are `--envelopes` or not, and `lock`, `either`, `lent`, or none";
 
 /// The word that asks for the bytes of envelopes.
 const BYTES: &str = "--envelopes";
+
+/// The lock of the core.
+type ScenarioLock<R> = Locked<Handler, Callbacks, Post<R>, Waiting<R>>;
 
 /// On what the commands are done.
 #[derive(Clone, Copy)]
@@ -94,6 +103,17 @@ fn read_arguments(rt: &HostRuntime) -> io::Result<Option<Asked>> {
     Ok(Asked::read(first, second))
 }
 
+// An engine that holds nothing, under its lock.
+fn new_locked<R: Wait + Copy + Drop>(
+    wait: R,
+    alloc: Global,
+    span_calls: SpanCalls,
+) -> Result<LockedCaller<ScenarioLock<R>, R>, AllocError> {
+    let mailbox = Arc::new(alloc, Mailbox::new(wait, alloc))?;
+    let core = SharedCore::new(Waiting(wait), alloc, TAG)?;
+    Ok(LockedCaller::new(alloc, core, mailbox, span_calls))
+}
+
 // Where memory is refused for the buffer, it is asked for once more.
 fn open_input(rt: &HostRuntime) -> Result<BufReader<Stdin>, ScenarioFault> {
     let reader = match BufReader::new(rt.alloc(), rt.stdin()) {
@@ -111,10 +131,10 @@ fn make_locked<R: Wait + Copy + Drop>(
     wait: R,
     alloc: Global,
     span_calls: SpanCalls,
-) -> Result<Locked<R>, ScenarioFault> {
-    match Locked::new(wait, alloc, span_calls) {
+) -> Result<LockedCaller<ScenarioLock<R>, R>, ScenarioFault> {
+    match new_locked(wait, alloc, span_calls) {
         Ok(locked) => Ok(locked),
-        Err(_) => Ok(Locked::new(wait, alloc, span_calls)?),
+        Err(_) => Ok(new_locked(wait, alloc, span_calls)?),
     }
 }
 

@@ -1,17 +1,18 @@
 //! Calls on transactions and spans.
-use crate::locked::{Locked, LockedHub, LockedTransaction, SpanCalls};
+use crate::locked::{Locked, SpanCalls};
 use crate::threads::thread_of;
 use sentry_base::protocol::{
     Fresh, Refusal, Request, SpanId, SpanKey, SpanStatus, TraceContext, TransactionKey,
     TransactionOrSpanKey, Value,
 };
 use sentry_engine::call::{Call, Reply, SpanCall, SpanReply};
+use sentry_hub::hub::Hub;
 use sentry_hub::performance::{Span, Transaction, TransactionOrSpan};
+use sentry_lock::core_lock::CoreLock;
 use sentry_plain::{Text, ValueMap};
 use sentry_trace::headers::TraceHeadersIter;
 use std::alloc::{AllocError, Global};
 use std::collections::btree_map::Iter;
-use std::sync::Wait;
 
 // Makes one call on a transaction or a span by its own type, or by the one that is either. The call has the same name
 // and arguments for all three types.
@@ -35,7 +36,7 @@ macro_rules! call {
     }};
 }
 
-impl<R: Wait + Copy + Drop> Locked<R> {
+impl<L: CoreLock> Locked<L> {
     /// Makes a call that starts a transaction, or one on a transaction or a span.
     pub(crate) fn call_span(&self, call: SpanCall) -> Result<SpanReply, Refusal> {
         match call {
@@ -127,7 +128,7 @@ impl<R: Wait + Copy + Drop> Locked<R> {
     fn finish(
         &self,
         span: TransactionOrSpanKey,
-        hub: &LockedHub<R>,
+        hub: &Hub<L>,
         moment: u64,
     ) -> Result<SpanReply, Refusal> {
         let mut thread = thread_of(hub, moment)?;
@@ -243,7 +244,7 @@ impl<R: Wait + Copy + Drop> Locked<R> {
         }
     }
 
-    fn transaction(&self, key: TransactionKey) -> Result<LockedTransaction<R>, Refusal> {
+    fn transaction(&self, key: TransactionKey) -> Result<Transaction<L>, Refusal> {
         Ok(Transaction::new(&self.core, key)?)
     }
 

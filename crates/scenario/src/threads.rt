@@ -1,6 +1,6 @@
 //! The hubs of a thread, as calls that ask for a clock or a current hub take them.
-use crate::locked::LockedHub;
 use sentry_base::clock::Clock;
+use sentry_hub::hub::Hub;
 use sentry_thread_hub::thread_hub::ThreadHub;
 use std::alloc::AllocError;
 
@@ -15,13 +15,10 @@ impl Clock for Stopped {
 }
 
 /// The hubs of a thread. Nothing is drawn in it.
-pub(crate) type LockedThread<R> = ThreadHub<LockedHub<R>, Stopped, ()>;
+pub(crate) type Thread<L> = ThreadHub<Hub<L>, Stopped, ()>;
 
 /// The hubs of a thread whose current hub is this one, and whose clock stands at this moment.
-pub(crate) fn thread_of<R: Drop>(
-    hub: &LockedHub<R>,
-    moment: u64,
-) -> Result<LockedThread<R>, AllocError> {
+pub(crate) fn thread_of<L: Drop>(hub: &Hub<L>, moment: u64) -> Result<Thread<L>, AllocError> {
     Ok(ThreadHub {
         main: hub.clone()?,
         current: hub.clone()?,
