@@ -8,6 +8,6 @@ invariant_of-self g c =
     let self = c.args.self.now in
     record {
       sound = after_call memory self.engine c.add_breadcrumbs.new.self c.add_breadcrumbs.result _ self.drainers c.add_breadcrumbs.ensures
-          (λ world. add_breadcrumbs_keeps g.P.EventCallback.gives g.C.Callbacks.meanings c.args.hub c.args.breadcrumbs.items world) self.sound;
+          (λ world. add_breadcrumbs_keeps g.P.EventCallback.gives g.C.Callbacks.meanings c.args.hub c.args.breadcrumbs world) self.sound;
       labelled = self.labelled;
     }
