@@ -57,7 +57,7 @@ where
     let (turns, threads) = (size.turns, size.threads);
     match named {
         LockLoop::Hub(turn) => hub::make_on_hub::<T, L, K>(thread, turn, turns),
-        LockLoop::HubThreads => threads::send_by_hubs::<T, R, L>(rt, &thread.main, turns, threads),
+        LockLoop::HubThreads => threads::send_by_hubs(rt, &thread.main, turns, threads, size.long),
         LockLoop::Client => lock::send_by_client(client, turns),
         LockLoop::ClientThreads => threads::send_by_clients(rt, client, turns, threads),
     }

@@ -2,7 +2,7 @@
 use crate::clock::Steps;
 use crate::hub::Thread;
 use crate::lock::send_by_client;
-use crate::texts::Texts;
+use crate::texts::{Long, Short};
 use crate::turns::{HubTurn, make_turns};
 use sentry_core::protocol::Refusal;
 use sentry_hub::hub::Hub;
@@ -39,19 +39,23 @@ fn make_jobs<L: CoreLock>(main: &Hub<L>, threads: u64) -> Result<Vec<Job<L>>, Al
     Ok(jobs)
 }
 
-// Sends so many messages on a hub of its own, and answers how many were sent.
-fn work<T: Texts, L: CoreLock>(job: Job<L>, messages: u64) -> Result<u64, Refusal> {
+// Sends so many messages on a hub of its own, with long texts or short ones, and answers how many were sent.
+fn work<L: CoreLock>(job: Job<L>, messages: u64, long: bool) -> Result<u64, Refusal> {
     let Job { number, main } = job;
     let mut thread: Thread<L, Steps> = ThreadHub::from_main(main, Steps(0), [number; 32])?;
-    make_turns::<T, L, Steps>(&mut thread, HubTurn::Message, messages)
+    if long {
+        return make_turns::<Long, L, Steps>(&mut thread, HubTurn::Message, messages);
+    }
+    make_turns::<Short, L, Steps>(&mut thread, HubTurn::Message, messages)
 }
 
 /// Sends so many messages in each thread, on a hub of its own, and answers how many were sent.
-pub fn send_by_hubs<T: Texts, R: Threads + Sync, L: CoreLock + Send + Sync + 'static>(
+pub fn send_by_hubs<R: Threads + Sync, L: CoreLock + Send + Sync + 'static>(
     rt: &R,
     main: &Hub<L>,
     messages: u64,
     threads: u64,
+    long: bool,
 ) -> Result<u64, Refusal>
 where
     L::Processor: Send + Sync + 'static,
@@ -59,7 +63,7 @@ where
     L::Transport: Send + Sync + 'static,
 {
     let jobs = make_jobs(main, threads)?;
-    sum(map_vec(rt, jobs, &|job: Job<L>| work::<T, L>(job, messages))?)
+    sum(map_vec(rt, jobs, &|job: Job<L>| work(job, messages, long))?)
 }
 
 fn share<L: CoreLock>(client: &Client<L>, threads: u64) -> Result<Vec<Client<L>>, AllocError> {
