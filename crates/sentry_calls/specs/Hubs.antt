@@ -21,13 +21,14 @@ use Rattle.sentry_base.specs.Callbacks.{Partial}
 use Rattle.sentry_options.specs.Meanings.{Meanings}
 use Rattle.sentry_events.specs.Captures.{message_event, capture_event}
 use Rattle.sentry_sending.specs.SessionEnds.{release_session}
-use Rattle.sentry_state.specs.Changes.{with_session, next_hub_key, with_new_hub}
+use Rattle.sentry_state.specs.Changes.{next_hub_key, with_new_hub}
+use Rattle.sentry_hub_table.specs.Hubs.{with_session, with_scope}
 use Rattle.sentry_state.specs.Clients.{is_enabled_client}
 use Rattle.sentry_span_table.specs.SpanTables.{is_held}
 use Rattle.sentry_span_edits.specs.Setters.{with_edited}
 use Rattle.sentry_span_edits.specs.declared.edit.SpanEdit.TheVariants.{Name}
 use Rattle.sentry_state.specs.Worlds.{World, span_table}
-use Rattle.sentry_state.specs.Outcomes.{Outcome, require_some, let_some, require, reply_with, hub_at, stored_client_at, is_held_or_none, with_hub, with_scope}
+use Rattle.sentry_state.specs.Outcomes.{Outcome, require_some, let_some, require, reply_with, hub_at, stored_client_at, is_held_or_none, with_hub}
 
 -- the edit gives the top layer a default scope, and no session
 abbrev pub is_clear : {P : Type 0} → ScopeEdit P → Bool
@@ -36,9 +37,9 @@ is_clear edit = false
 
 module _ {P C : Type 0} where
   -- transactions have other names, in turn, each while it is unfinished
-  abbrev pub with_names : List (TransactionKey × Bytes) → World P C → World P C
-  with_names [] world = world
-  with_names (rename ∷ rest) world = with_names rest (with_edited (Name rename.1) rename.0 world)
+  abbrev pub with_renames : List (TransactionKey × Bytes) → World P C → World P C
+  with_renames [] world = world
+  with_renames (rename ∷ rest) world = with_renames rest (with_edited (Name rename.1) rename.0 world)
 
   -- a hub of these layers, if a number is left
   abbrev pub add_hub : Stack P → World P C → Outcome P C HubKey
@@ -52,19 +53,27 @@ module _ {P C : Type 0} where
       require Stale world (is_held_or_none world client)
       (require Stale world (is_held (span_table world) scope.span) (add_hub (one_layer client scope) world))
 
-  -- the edits are done to the top scope, and name its active transaction too; a layer whose scope is cleared gives up
-  -- its session
+  -- the edits are done to the top scope of a hub, and name its active transaction too
+  abbrev pub configure_kept : HubKey → Hub P → List (ScopeEdit P) → World P C → Outcome P C (Unit {0})
+  configure_kept key hub edits world =
+      reply_with tt [] (with_renames (renames_after (span_table world) edits hub.stack.top.scope [])
+      (with_hub world key (with_scope hub (edit_all edits hub.stack.top.scope))))
+
+  -- the same, where one of them clears the scope: the layer gives up its session
+  abbrev pub configure_cleared : HubKey → Hub P → List (ScopeEdit P) → ℕ → World P C → Outcome P C (Unit {0})
+  configure_cleared key hub edits now world =
+      let released = release_session key.number hub now world in
+      reply_with tt released.sent (with_renames (renames_after (span_table world) edits hub.stack.top.scope [])
+      (with_hub released.after key (with_scope (with_session hub None) (edit_all edits hub.stack.top.scope))))
+
+  -- edits of the top scope of a hub
   unfoldable pub configure : HubKey → List (ScopeEdit P) → ℕ → World P C → Outcome P C (Unit {0})
   configure key edits now world =
       require_some Stale world (hub_at world key) (λ hub.
       require Stale world (all_name_held_spans (span_table world) edits)
-      (let scope = edit_all edits hub.stack.top.scope in
-      let renames = renames_after (span_table world) edits hub.stack.top.scope [] in
-      let released = release_session key.number hub now world in
-      if list_any is_clear edits
-      then reply_with tt released.sent
-      (with_names renames (with_hub released.after key (with_scope (with_session hub None) scope)))
-      else reply_with tt [] (with_names renames (with_hub world key (with_scope hub scope)))))
+      (if list_any is_clear edits
+      then configure_cleared key hub edits now world
+      else configure_kept key hub edits world))
 
   -- the last event id of a hub
   unfoldable pub last_event_id : HubKey → World P C → Outcome P C (Option (List ℕ))

@@ -8,7 +8,8 @@ use Rattle.sentry_scope.specs.Stacks.{depth, push, pop, top_alone}
 use Rattle.sentry_calls.specs.Hubs.{add_hub}
 use Rattle.sentry_sending.specs.SessionEnds.{release_session}
 use Rattle.sentry_state.specs.Worlds.{World}
-use Rattle.sentry_state.specs.Outcomes.{Outcome, require_some, require, reply_with, hub_at, is_held_or_none, with_hub, with_stack, with_client}
+use Rattle.sentry_state.specs.Outcomes.{Outcome, require_some, require, reply_with, hub_at, is_held_or_none, with_hub}
+use Rattle.sentry_hub_table.specs.Hubs.{with_stack, with_client}
 
 module _ {P C : Type 0} where
   -- a copy of the top layer stands on the others; the reply is the hub and the depth of the copy

@@ -27,12 +27,13 @@ use Rattle.sentry_calls.specs.Clients.{add_client, clone_client, drop_client}
 use Rattle.sentry_state.specs.Clients.{clone_from, new_client, is_client_named, is_enabled_client, has_session_of}
 use Rattle.sentry_telemetry.specs.Flushes.{flush_queues}
 use Rattle.sentry_telemetry.specs.declared.flushes.Flush.TheVariants.{All}
-use Rattle.sentry_calls.specs.Hubs.{configure, is_clear, with_names}
+use Rattle.sentry_calls.specs.Hubs.{configure, is_clear, with_renames}
 use Rattle.sentry_calls.specs.Layers.{pop_scope}
-use Rattle.sentry_state.specs.Outcomes.{Outcome, IsAnswer, memory, Does, client_at, stored_client_at, hub_at, require_some, let_some, reply_with, with_hub, with_scope, with_stack}
+use Rattle.sentry_state.specs.Outcomes.{Outcome, IsAnswer, memory, Does, client_at, stored_client_at, hub_at, require_some, let_some, reply_with, with_hub}
+use Rattle.sentry_hub_table.specs.Hubs.{with_scope, with_stack, with_session}
 use Rattle.sentry_sending.specs.Sending.{reply_sending}
 use Rattle.sentry_sending.specs.SessionEnds.{release_session}
-use Rattle.sentry_state.specs.Changes.{with_session, is_session_number_left}
+use Rattle.sentry_state.specs.Changes.{is_session_number_left}
 use Rattle.sentry_calls.specs.Active.{if_active}
 use Rattle.sentry_calls.specs.Sessions.{start_session}
 use Rattle.sentry_sending.specs.Sessions.{replace_session}
@@ -115,7 +116,7 @@ module _ {P C : Type 0} where
       → all_name_held_spans (span_table world) edits ≡ true → list_any is_clear edits ≡ true
       → configure key edits now world
       ≡ reply_with tt (release_session key.number hub now world).sent
-      (with_names (renames_after (span_table world) edits hub.stack.top.scope [])
+      (with_renames (renames_after (span_table world) edits hub.stack.top.scope [])
       (with_hub (release_session key.number hub now world).after key (with_scope (with_session hub None) (edit_all edits hub.stack.top.scope))))
   unfolding configure
   configure_is key edits now world hub found held clears = rw found (rw held (rw clears refl))
@@ -125,7 +126,7 @@ module _ {P C : Type 0} where
       → all_name_held_spans (span_table world) edits ≡ true → list_any is_clear edits ≡ false
       → configure key edits now world
       ≡ reply_with tt []
-      (with_names (renames_after (span_table world) edits hub.stack.top.scope [])
+      (with_renames (renames_after (span_table world) edits hub.stack.top.scope [])
       (with_hub world key (with_scope hub (edit_all edits hub.stack.top.scope))))
   unfolding configure
   configure_kept_is key edits now world hub found held kept = rw found (rw held (rw kept refl))

@@ -6,7 +6,7 @@ use Rattle.sentry_plain.specs.Tables.{value_at, replace_at}
 use Rattle.sentry_plain.specs.Texts.{Bytes}
 use Rattle.sentry_base.specs.declared.protocol.keys.TransactionKey.{TransactionKey}
 use Rattle.sentry_base.specs.declared.protocol.span.Span.{Span}
-use Rattle.sentry_calls.specs.Hubs.{with_names}
+use Rattle.sentry_calls.specs.Hubs.{with_renames}
 use Rattle.sentry_scope.specs.EditLists as table
 use Rattle.sentry_span_edits.specs.Edits.{edit_transaction}
 use Rattle.sentry_span_edits.specs.Setters.{with_edited, with_found_edited}
@@ -86,7 +86,7 @@ module _ {P C : Type 0} where
   -- an engine in which transactions have other names, in turn
   pub all_renamed_in_world : (renames : List (TransactionKey × Bytes)) (engine : State P C) (world : World P C)
       → Stands engine world → (spans : SpanTable) → spans ≡ table.with_names renames engine.spans
-      → Stands (record engine { spans = spans }) (with_names renames world)
+      → Stands (record engine { spans = spans }) (with_renames renames world)
   all_renamed_in_world [] engine world s spans is = record {
     tag = s.tag;
     next = s.next;

@@ -35,11 +35,12 @@ use Rattle.sentry_pipeline.specs.Pipeline.{loss_reason}
 use Rattle.sentry_pipeline.specs.Pipeline as pipeline
 use Rattle.sentry_hub_table.specs.declared.hub.Hub.{Hub}
 use Rattle.sentry_state.specs.Worlds.{World, ClientHistory, stored_client, span_table}
-use Rattle.sentry_state.specs.Outcomes.{client_at, hub_at, is_held_or_none, reply_with, with_stack, with_scope, with_client}
+use Rattle.sentry_state.specs.Outcomes.{client_at, hub_at, is_held_or_none, reply_with}
+use Rattle.sentry_hub_table.specs.Hubs.{with_stack, with_scope, with_client, with_session}
 use Rattle.sentry_span_table.specs.SpanTables.{has_transaction_of, is_held}
 use Rattle.sentry_calls.specs.Clients.{holds_active_span}
 use Rattle.sentry_state.specs.Clients.{new_client, is_client_named, has_session_of}
-use Rattle.sentry_state.specs.Changes.{with_session, with_breadcrumbs, is_session_number_left, next_hub_key}
+use Rattle.sentry_state.specs.Changes.{with_breadcrumbs, is_session_number_left, next_hub_key}
 use Rattle.sentry_state.specs.Books.{has_book}
 use Rattle.sentry_sending.specs.SessionEnds.{release_session}
 use Rattle.sentry_events.specs.Captures.{capture, captured_id, capture_event, message_event, capture_named_session, attachments_of}
@@ -56,7 +57,7 @@ use Rattle.sentry_calls.specs.declared.call.hubs.HubCall.TheVariants as on_hub
 use Rattle.sentry_calls.specs.declared.call.Reply.TheVariants as reply
 use Rattle.sentry_calls.specs.Clients as clients
 use Rattle.sentry_calls.specs.Hubs as hubs
-use Rattle.sentry_calls.specs.Hubs.{is_clear, with_names}
+use Rattle.sentry_calls.specs.Hubs.{is_clear, with_renames}
 use Rattle.sentry_calls.specs.Layers as layers
 use Rattle.sentry_calls.specs.Losses as losses
 use Rattle.sentry_calls.specs.Sessions as sessions

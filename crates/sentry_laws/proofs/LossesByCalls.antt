@@ -80,7 +80,7 @@ use Rattle.sentry_texts.specs.ErrorEvents.{error_event}
 use Rattle.sentry_calls.specs.Clients as clients
 use Rattle.sentry_calls.specs.Clients.{holds_active_span}
 use Rattle.sentry_calls.specs.Hubs as hubs
-use Rattle.sentry_calls.specs.Hubs.{is_clear, with_names}
+use Rattle.sentry_calls.specs.Hubs.{is_clear, with_renames}
 use Rattle.sentry_calls.specs.Layers as layers
 use Rattle.sentry_calls.specs.Losses as losses
 use Rattle.sentry_calls.specs.Sessions as sessions
@@ -186,7 +186,7 @@ module _ {P C : Type 0} where
   edited_books by number (Some state) world = refl
 
   named_books : (renames : List (TransactionKey × Bytes)) (world : World P C)
-      → (with_names renames world).books ≡ world.books
+      → (with_renames renames world).books ≡ world.books
   named_books [] world = refl
   named_books (rename ∷ rest) world =
       named_books rest (with_edited (edit_by.Name rename.1) rename.0 world)
@@ -820,33 +820,33 @@ module _ {P C : Type 0} (gives : P → Partial) (meanings : C → Meanings) (wor
       leaves_mapped span_reply.Span _ (starts_child parent op description id start)
   span_brings (on_span.ContinueFromSpan name op span fresh) =
       leaves_mapped span_reply.Context _ (continues name op span fresh)
-  span_brings (on_span.SetData name key value) =
-      leaves_mapped (λ _. span_reply.Done) _ (changes (edit_by.Data key value) name)
-  span_brings (on_span.SetTag name key value) =
-      leaves_mapped (λ _. span_reply.Done) _ (changes (edit_by.Tag key value) name)
+  span_brings (on_span.SetData span key value) =
+      leaves_mapped (λ _. span_reply.Done) _ (changes (edit_by.Data key value) span)
+  span_brings (on_span.SetTag span key value) =
+      leaves_mapped (λ _. span_reply.Done) _ (changes (edit_by.Tag key value) span)
   span_brings (on_span.SetExtra transaction key value) =
       leaves_mapped (λ _. span_reply.Done) _ (changes (edit_by.Extra key value) (key_of.Transaction transaction))
-  span_brings (on_span.SetStatus name status) =
-      leaves_mapped (λ _. span_reply.Done) _ (changes (edit_by.Status status) name)
-  span_brings (on_span.SetOp name op) = leaves_mapped (λ _. span_reply.Done) _ (changes (edit_by.Op op) name)
-  span_brings (on_span.SetName name text) = leaves_mapped (λ _. span_reply.Done) _ (changes (edit_by.Name text) name)
-  span_brings (on_span.SetRequest name request) =
-      leaves_mapped (λ _. span_reply.Done) _ (changes (edit_by.Request request) name)
+  span_brings (on_span.SetStatus span status) =
+      leaves_mapped (λ _. span_reply.Done) _ (changes (edit_by.Status status) span)
+  span_brings (on_span.SetOp span op) = leaves_mapped (λ _. span_reply.Done) _ (changes (edit_by.Op op) span)
+  span_brings (on_span.SetName span text) = leaves_mapped (λ _. span_reply.Done) _ (changes (edit_by.Name text) span)
+  span_brings (on_span.SetRequest span request) =
+      leaves_mapped (λ _. span_reply.Done) _ (changes (edit_by.Request request) span)
   span_brings (on_span.SetOrigin transaction origin) =
       leaves_mapped (λ _. span_reply.Done) _ (changes (edit_by.Origin origin) (key_of.Transaction transaction))
-  span_brings (on_span.GetStatus name) = leaves_mapped span_reply.Status _ (reads _ _ name)
-  span_brings (on_span.GetTraceContext name) = leaves_mapped span_reply.TraceContext _ (reads_context name)
+  span_brings (on_span.GetStatus span) = leaves_mapped span_reply.Status _ (reads _ _ span)
+  span_brings (on_span.GetTraceContext span) = leaves_mapped span_reply.TraceContext _ (reads_context span)
   span_brings (on_span.GetSpanId span) =
       leaves_mapped span_reply.SpanId _ (leaves_some Stale world (span_at world span) (λ held found. stays _ refl))
-  span_brings (on_span.Data name) = leaves_mapped span_reply.Data _ (reads _ _ name)
-  span_brings (on_span.IterHeaders name) =
+  span_brings (on_span.Data span) = leaves_mapped span_reply.Data _ (reads _ _ span)
+  span_brings (on_span.IterHeaders span) =
       leaves_mapped span_reply.Headers _
-      (leaves_some Stale world (place_in (span_table world) name) (λ place found. stays _ refl))
-  span_brings (on_span.IsSampled name) = leaves_mapped span_reply.Decision _ (reads _ _ name)
+      (leaves_some Stale world (place_in (span_table world) span) (λ place found. stays _ refl))
+  span_brings (on_span.IsSampled span) = leaves_mapped span_reply.Decision _ (reads _ _ span)
   span_brings (on_span.FinishTransaction transaction hub moment) =
       leaves_mapped (λ _. span_reply.Done) _ (finishes_transaction transaction hub moment)
   span_brings (on_span.FinishSpan span moment) = leaves_mapped (λ _. span_reply.Done) _ (finishes span moment)
-  span_brings (on_span.Discard name) = leaves_mapped (λ _. span_reply.Done) _ (discards name)
+  span_brings (on_span.Discard span) = leaves_mapped (λ _. span_reply.Done) _ (discards span)
 
   call_brings : (call : Call P C)
       → Leaves (Brings (losses_by gives meanings label world call)) (step gives meanings call world)

@@ -22,7 +22,8 @@ use Rattle.sentry_sending.specs.SessionEnds.{is_session_named, queue_update, end
 use Rattle.sentry_sessions.specs.SessionQueues.{enqueued, envelopes_on}
 use Rattle.sentry_sessions.specs.Sessions.{closed, session_of, pending_update}
 use Rattle.sentry_state.specs.Books.{with_entry}
-use Rattle.sentry_state.specs.Changes.{with_session, with_client_history, with_client_entry, with_log_entry, with_metric_entry}
+use Rattle.sentry_state.specs.Changes.{with_client_history, with_client_entry, with_log_entry, with_metric_entry}
+use Rattle.sentry_hub_table.specs.Hubs.{with_session}
 use Rattle.sentry_state.specs.Outcomes.{client_at, session_at}
 use Rattle.sentry_state.specs.Worlds.{World, ClientHistory, SessionHistory}
 

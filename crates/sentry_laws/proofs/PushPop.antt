@@ -22,8 +22,9 @@ use Rattle.sentry_scope.specs.Stacks.{layers, push, pop, depth, stack_of, stack_
 use Rattle.sentry_hub_table.specs.declared.hub.Hub.{Hub}
 use Rattle.sentry_state.specs.declared.state.Out.{Out}
 use Rattle.sentry_state.specs.Worlds.{World, starting_world}
-use Rattle.sentry_state.specs.Outcomes.{hub_at, with_stack, with_hub, require_some, require, reply_with}
-use Rattle.sentry_state.specs.Changes.{with_session, with_client_history}
+use Rattle.sentry_state.specs.Outcomes.{hub_at, with_hub, require_some, require, reply_with}
+use Rattle.sentry_hub_table.specs.Hubs.{with_stack, with_session}
+use Rattle.sentry_state.specs.Changes.{with_client_history}
 use Rattle.sentry_sending.specs.Sending.{after_sending, send}
 use Rattle.sentry_sending.specs.SessionEnds.{release_session}
 use Rattle.sentry_calls.specs.declared.call.Call.{Call}

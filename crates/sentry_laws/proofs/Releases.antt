@@ -14,8 +14,9 @@ use Rattle.sentry_sessions.specs.Sessions.{closed, session_of, pending_update}
 use Rattle.sentry_sessions.specs.declared.session.record.SessionStart.{SessionStart}
 use Rattle.sentry_hub_table.specs.declared.hub.Hub.{Hub}
 use Rattle.sentry_state.specs.Worlds.{World, SessionHistory}
-use Rattle.sentry_state.specs.Outcomes.{session_at, transaction_at, value_under, with_stack}
-use Rattle.sentry_state.specs.Changes.{with_session, with_new_session}
+use Rattle.sentry_state.specs.Outcomes.{session_at, transaction_at, value_under}
+use Rattle.sentry_hub_table.specs.Hubs.{with_stack, with_session}
+use Rattle.sentry_state.specs.Changes.{with_new_session}
 use Rattle.sentry_sending.specs.Sending.{Sending, send_nothing, send_some}
 use Rattle.sentry_sending.specs.SessionEnds.{is_session_named, end_session, end_unnamed_session, release_session}
 use Rattle.sentry_sending.specs.Sessions.{replace_session}
@@ -23,7 +24,7 @@ use Rattle.sentry_span_edits.specs.Setters.{with_edited, with_found_edited}
 use Rattle.sentry_span_edits.specs.declared.edit.SpanEdit.{SpanEdit}
 use Rattle.sentry_span_edits.specs.declared.edit.SpanEdit.TheVariants.{Name}
 use Rattle.sentry_span_table.specs.SpanLists.{TransactionHistory}
-use Rattle.sentry_calls.specs.Hubs.{with_names}
+use Rattle.sentry_calls.specs.Hubs.{with_renames}
 use Rattle.sentry_laws.specs.Reachable.{SessionsAreNamed}
 use Rattle.sentry_laws.proofs.Tables.{AreBelow, below_put, own_replaced}
 use Rattle.sentry_laws.proofs.Found.{same_number, found_put}
@@ -235,7 +236,7 @@ module _ {P C : Type 0} where
 
   -- other names of transactions
   pub renamed_named : (renames : List (TransactionKey × Bytes)) (world : World P C) → SessionsAreNamed world
-      → SessionsAreNamed (with_names renames world)
+      → SessionsAreNamed (with_renames renames world)
   renamed_named [] world h = h
   renamed_named (rename ∷ rest) world h =
       renamed_named rest (with_edited (Name rename.1) rename.0 world)

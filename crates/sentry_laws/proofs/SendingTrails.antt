@@ -22,7 +22,8 @@ use Rattle.sentry_hub_table.specs.declared.hub.Hub.{Hub}
 use Rattle.sentry_state.specs.declared.state.NextNumbers.{NextNumbers}
 use Rattle.sentry_state.specs.Worlds.{World, ClientHistory, SessionHistory, span_table}
 use Rattle.sentry_state.specs.Outcomes.{client_at, session_at}
-use Rattle.sentry_state.specs.Changes.{with_session, with_new_session, with_client_history, with_client_entry}
+use Rattle.sentry_state.specs.Changes.{with_new_session, with_client_history, with_client_entry}
+use Rattle.sentry_hub_table.specs.Hubs.{with_session}
 use Rattle.sentry_sending.specs.Sending.{Sending, send, send_nothing, send_some, after_sending}
 use Rattle.sentry_sending.specs.SessionEnds.{is_session_named, queue_update, end_session, end_unnamed_session, release_session}
 use Rattle.sentry_sending.specs.Sessions.{replace_session}

@@ -48,7 +48,7 @@ use Rattle.sentry_state.specs.Outcomes.{Outcome, client_at, hub_at, stored_clien
 use Rattle.sentry_state.specs.SpanChanges.{finished_transaction, finished_span, next_span_key, next_transaction_key, with_transaction_finished, with_found_finished, with_span, with_transaction}
 use Rattle.sentry_state.specs.Worlds.{World, ClientHistory, stored_client, span_table}
 use Rattle.sentry_trace.specs.declared.performance.context.TransactionContext.{TransactionContext}
-use Rattle.sentry_calls.specs.Hubs.{with_names}
+use Rattle.sentry_calls.specs.Hubs.{with_renames}
 use Rattle.sentry_laws.proofs.Effects.{Effect}
 use Rattle.sentry_laws.proofs.Changes.{Changes, nothing, one, both, is_batch_or_report, AreOfHeld, mails, loses, starts_transaction, starts_span, changes_spans, changes_transaction, changes_span, keeps_span, drops_transaction, drops_span}
 use Rattle.sentry_laws.proofs.Tables.{own_replaced}
@@ -123,7 +123,7 @@ module _ {P C : Type 0} (meanings : C → Meanings) where
 
   -- transactions have other names
   pub names_by : (renames : List (TransactionKey × Bytes)) (world : World P C)
-      → Quietly world (with_names renames world)
+      → Quietly world (with_renames renames world)
   names_by [] world = nothing world
   names_by (rename ∷ rest) world = both (edits_held (edit_by.Name rename.1) rename.0 world)
       (names_by rest (with_edited (edit_by.Name rename.1) rename.0 world))
@@ -131,10 +131,10 @@ module _ {P C : Type 0} (meanings : C → Meanings) where
   -- changes after which transactions have other names
   pub quiet_names : {old middle : World P C} {some : List (Effect P C)} {sent : List (ClientKey × Envelope)}
       → Changes meanings None old some sent middle → (renames : List (TransactionKey × Bytes))
-      → Changes meanings None old some sent (with_names renames middle)
+      → Changes meanings None old some sent (with_renames renames middle)
   quiet_names {old} {middle} {some} {sent} changes renames =
-      subst (λ e. Changes meanings None old e sent (with_names renames middle)) (append-nil some)
-      (subst (λ s. Changes meanings None old (some ++ []) s (with_names renames middle)) (append-nil sent)
+      subst (λ e. Changes meanings None old e sent (with_renames renames middle)) (append-nil some)
+      (subst (λ s. Changes meanings None old (some ++ []) s (with_renames renames middle)) (append-nil sent)
       (both changes (names_by renames middle)))
 
   closes-found : (key : TransactionKey) (world : World P C) (o : Option TransactionHistory) → transaction_at world key ≡ o
@@ -308,39 +308,39 @@ module _ {P C : Type 0} (meanings : C → Meanings) where
       told_mapped meanings None _ reply.Span _ (told_child parent op description id start world)
   told_span_step (on_span.ContinueFromSpan name op span fresh) world =
       told_mapped meanings None _ reply.Context _ (told_continue name op span fresh world)
-  told_span_step (on_span.SetData name key value) world =
-      told_mapped meanings None _ (λ _. reply.Done) _ (told_change (edit_by.Data key value) name world)
-  told_span_step (on_span.SetTag name key value) world =
-      told_mapped meanings None _ (λ _. reply.Done) _ (told_change (edit_by.Tag key value) name world)
+  told_span_step (on_span.SetData span key value) world =
+      told_mapped meanings None _ (λ _. reply.Done) _ (told_change (edit_by.Data key value) span world)
+  told_span_step (on_span.SetTag span key value) world =
+      told_mapped meanings None _ (λ _. reply.Done) _ (told_change (edit_by.Tag key value) span world)
   told_span_step (on_span.SetExtra transaction key value) world =
       told_mapped meanings None _ (λ _. reply.Done) _
       (told_change (edit_by.Extra key value) (key_of.Transaction transaction) world)
-  told_span_step (on_span.SetStatus name status) world =
-      told_mapped meanings None _ (λ _. reply.Done) _ (told_change (edit_by.Status status) name world)
-  told_span_step (on_span.SetOp name op) world =
-      told_mapped meanings None _ (λ _. reply.Done) _ (told_change (edit_by.Op op) name world)
-  told_span_step (on_span.SetName name text) world =
-      told_mapped meanings None _ (λ _. reply.Done) _ (told_change (edit_by.Name text) name world)
-  told_span_step (on_span.SetRequest name request) world =
-      told_mapped meanings None _ (λ _. reply.Done) _ (told_change (edit_by.Request request) name world)
+  told_span_step (on_span.SetStatus span status) world =
+      told_mapped meanings None _ (λ _. reply.Done) _ (told_change (edit_by.Status status) span world)
+  told_span_step (on_span.SetOp span op) world =
+      told_mapped meanings None _ (λ _. reply.Done) _ (told_change (edit_by.Op op) span world)
+  told_span_step (on_span.SetName span text) world =
+      told_mapped meanings None _ (λ _. reply.Done) _ (told_change (edit_by.Name text) span world)
+  told_span_step (on_span.SetRequest span request) world =
+      told_mapped meanings None _ (λ _. reply.Done) _ (told_change (edit_by.Request request) span world)
   told_span_step (on_span.SetOrigin transaction origin) world =
       told_mapped meanings None _ (λ _. reply.Done) _
       (told_change (edit_by.Origin origin) (key_of.Transaction transaction) world)
-  told_span_step (on_span.GetStatus name) world = told_mapped meanings None _ reply.Status _ (told_read _ _ name world)
-  told_span_step (on_span.GetTraceContext name) world = told_mapped meanings None _ reply.TraceContext _
-      (told_context name world)
+  told_span_step (on_span.GetStatus span) world = told_mapped meanings None _ reply.Status _ (told_read _ _ span world)
+  told_span_step (on_span.GetTraceContext span) world = told_mapped meanings None _ reply.TraceContext _
+      (told_context span world)
   told_span_step (on_span.GetSpanId span) world =
       told_mapped meanings None _ reply.SpanId _ (told_some meanings None Stale (span_at world span)
       (λ held found. told_nothing meanings None _ refl))
-  told_span_step (on_span.Data name) world = told_mapped meanings None _ reply.Data _ (told_read _ _ name world)
-  told_span_step (on_span.IterHeaders name) world =
-      told_mapped meanings None _ reply.Headers _ (told_some meanings None Stale (place_in (span_table world) name)
+  told_span_step (on_span.Data span) world = told_mapped meanings None _ reply.Data _ (told_read _ _ span world)
+  told_span_step (on_span.IterHeaders span) world =
+      told_mapped meanings None _ reply.Headers _ (told_some meanings None Stale (place_in (span_table world) span)
       (λ place found. told_nothing meanings None _ refl))
-  told_span_step (on_span.IsSampled name) world =
-      told_mapped meanings None _ reply.Decision _ (told_read _ _ name world)
+  told_span_step (on_span.IsSampled span) world =
+      told_mapped meanings None _ reply.Decision _ (told_read _ _ span world)
   told_span_step (on_span.FinishTransaction transaction hub moment) world =
       told_mapped meanings None _ (λ _. reply.Done) _ (told_finish_transaction transaction hub moment world)
   told_span_step (on_span.FinishSpan span moment) world =
       told_mapped meanings None _ (λ _. reply.Done) _ (told_finish span moment world)
-  told_span_step (on_span.Discard name) world =
-      told_mapped meanings None _ (λ _. reply.Done) _ (told_discard name world)
+  told_span_step (on_span.Discard span) world =
+      told_mapped meanings None _ (λ _. reply.Done) _ (told_discard span world)

@@ -12,7 +12,8 @@ use Rattle.sentry_hub_table.specs.declared.hub.Hub.{Hub}
 use Rattle.sentry_state.specs.Outcomes.{client_at, session_at}
 use Rattle.sentry_sending.specs.Sending.{Sending, send, send_nothing, send_some}
 use Rattle.sentry_state.specs.Worlds.{World}
-use Rattle.sentry_state.specs.Changes.{with_session, with_client_history, with_client_entry}
+use Rattle.sentry_state.specs.Changes.{with_client_history, with_client_entry}
+use Rattle.sentry_hub_table.specs.Hubs.{with_session}
 
 module _ {P C : Type 0} where
   -- the last update of a session is queued at a client, which may send all that waits; a closed client drops it

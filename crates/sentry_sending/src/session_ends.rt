@@ -2,7 +2,7 @@
 ghost use Rattle.std.specs.Prelude.{◌≡◌, IfOk, OnOk, OnErr, Some, None, true, is_some};
 ghost use Rattle.sentry_plain.specs.Tables.{value_at, replace_at};
 ghost use Rattle.sentry_hub_table.specs.declared.hub.Hub.{Hub};
-ghost use Rattle.sentry_state.specs.Changes.{with_session};
+ghost use Rattle.sentry_hub_table.specs.Hubs.{with_session};
 ghost use Rattle.sentry_state.specs.Worlds.{World, Stands};
 ghost use Rattle.sentry_sending.specs.Sending.{Sends};
 ghost use Rattle.sentry_sending.specs.SessionEnds.{queue_update, end_session, end_unnamed_session, release_session};

@@ -37,6 +37,8 @@ use Rattle.sentry_span_table.specs.declared.table.records.SpanPlace.{SpanPlace}
 use Rattle.sentry_span_table.specs.declared.table.records.SpanRecord.{SpanRecord}
 use Rattle.sentry_span_table.specs.declared.table.records.TracingState.{TracingState}
 use Rattle.sentry_span_table.specs.declared.table.records.TracingState.TheVariants.{Enabled, Disabled}
+use Rattle.sentry_span_table.specs.declared.table.records.TransactionRecord.{TransactionRecord}
+use Rattle.sentry_span_table.specs.declared.table.records.Unfinished.{Unfinished}
 use Rattle.sentry_spans.specs.Sampling.{accepted_context, tracing_of}
 use Rattle.sentry_state.specs.Books.{pending_report, with_entry}
 use Rattle.sentry_state.specs.Outcomes.{Outcome, hub_at, stored_client_at, let_some, reply_with, require, require_some, stored_transaction_at, span_at, transaction_at}
@@ -249,8 +251,24 @@ module _ {P C : Type 0} where
       reply_with tt [] (with_span_in held.transaction (finished_span moment held).span
       (transaction_at world held.transaction) (with_span key.number (finished_span moment held) world)))
 
-  -- a transaction finishes at a moment, under the top scope of a hub: one that was sampled is sent, one that was not is
-  -- lost, and one that is finished already stays as it is
+  -- a transaction that wasn't sampled finishes, and is lost
+  abbrev pub lose_transaction : TransactionKey → TransactionRecord → Unfinished → World P C → Outcome P C (Unit {0})
+  lose_transaction key held unfinished world =
+      reply_with tt []
+      (with_client_loss unfinished.client (transaction_loss (record unfinished.transaction { spans = held.spans }))
+      (with_transaction_finished key world))
+
+  -- one that was sampled, at this rate, finishes, and is sent by its client under a scope, if the client is held
+  abbrev pub send_transaction : TransactionKey → TransactionRecord → Unfinished → Scope P → ℕ → ℕ → World P C
+      → Outcome P C (Unit {0})
+  send_transaction key held unfinished scope moment rate world =
+      let_some (stored_client_at world unfinished.client) (reply_with tt [] (with_transaction_finished key world)) (λ client.
+      send_envelope unfinished.client client (pending_report world client.label)
+      (transaction_envelope client.options held.context rate
+      (sent_transaction client scope held.context held.spans moment unfinished.transaction))
+      (with_transaction_finished key world))
+
+  -- a transaction finishes at a moment, under the top scope of a hub; one that is finished already stays as it is
   unfoldable pub finish_transaction : TransactionKey → HubKey → ℕ → World P C → Outcome P C (Unit {0})
   finish_transaction key hub_key moment world =
       require_some Stale world (stored_transaction_at world key) (λ held.
@@ -258,12 +276,5 @@ module _ {P C : Type 0} where
       let_some held.unfinished (reply_with tt [] world) (λ unfinished.
       by_tracing held.tracing
       (reply_with tt [] (with_transaction_finished key world))
-      (reply_with tt []
-      (with_client_loss unfinished.client (transaction_loss (record unfinished.transaction { spans = held.spans }))
-      (with_transaction_finished key world)))
-      (λ rate.
-      let_some (stored_client_at world unfinished.client) (reply_with tt [] (with_transaction_finished key world)) (λ client.
-      send_envelope unfinished.client client (pending_report world client.label)
-      (transaction_envelope client.options held.context rate
-      (sent_transaction client hub.stack.top.scope held.context held.spans moment unfinished.transaction))
-      (with_transaction_finished key world))))))
+      (lose_transaction key held unfinished world)
+      (λ rate. send_transaction key held unfinished hub.stack.top.scope moment rate world))))

@@ -20,7 +20,8 @@ use Rattle.sentry_scope.specs.Stacks.{stack_of_any, pop, depth, is_client}
 use Rattle.sentry_scope.specs.declared.scope.stack.Stack.{Stack}
 use Rattle.sentry_scope.specs.declared.scope.stack.StackLayer.{StackLayer}
 use Rattle.sentry_state.specs.Clients.{has_session_of}
-use Rattle.sentry_state.specs.Changes.{with_new_session, with_client_entry, with_session, with_log_entry, with_metric_entry}
+use Rattle.sentry_state.specs.Changes.{with_new_session, with_client_entry, with_log_entry, with_metric_entry}
+use Rattle.sentry_hub_table.specs.Hubs.{with_session}
 use Rattle.sentry_hub_table.specs.declared.hub.Hub.{Hub}
 use Rattle.sentry_sessions.specs.SessionQueues.{QueueEntry, Waiting, queue_of}
 use Rattle.sentry_state.specs.Outcomes.{client_at, stored_client_at}

@@ -13,16 +13,12 @@ use Rattle.sentry_sessions.specs.declared.session.record.SessionStart.{SessionSt
 use Rattle.sentry_base.specs.declared.protocol.breadcrumb.Breadcrumb.{Breadcrumb}
 use Rattle.sentry_scope.specs.declared.scope.stack.Stack.{Stack}
 use Rattle.sentry_scope.specs.Scopes.{breadcrumb_trail}
-use Rattle.sentry_state.specs.Outcomes.{with_scope}
+use Rattle.sentry_hub_table.specs.Hubs.{with_scope}
 use Rattle.sentry_base.specs.declared.protocol.log.Log.{Log}
 use Rattle.sentry_base.specs.declared.protocol.metric.Metric.{Metric}
 use Rattle.sentry_batches.specs.Batches.{BatchEntry}
 
 -- ---- sessions
-
--- the hub whose top layer names another session, or none
-abbrev pub with_session : {P : Type 0} → Hub P → Option SessionKey → Hub P
-with_session hub session = record hub { stack = record hub.stack { top = record hub.stack.top { session = session } } }
 
 -- the session with one more entry in its history
 abbrev pub with_session_entry : SessionEntry → SessionHistory → SessionHistory

@@ -7,8 +7,6 @@ use Rattle.sentry_base.specs.declared.protocol.keys.HubKey.{HubKey}
 use Rattle.sentry_base.specs.declared.protocol.envelope.Envelope.{Envelope}
 use Rattle.sentry_base.specs.declared.protocol.refusal.Refusal.{Refusal}
 use Rattle.sentry_base.specs.declared.protocol.refusal.Refusal.TheVariants.{OutOfMemory}
-use Rattle.sentry_scope.specs.declared.scope.Scope.{Scope}
-use Rattle.sentry_scope.specs.declared.scope.stack.Stack.{Stack}
 use Rattle.sentry_state.specs.declared.state.Client.{Client}
 use Rattle.sentry_hub_table.specs.declared.hub.Hub.{Hub}
 use Rattle.sentry_state.specs.declared.state.Out.{Out}
@@ -83,18 +81,6 @@ module _ {P C T : Type 0} where
 -- what stands under a key, where its tag is the engine's
 abbrev pub value_under : {X : Type 0} → ℕ → List (ℕ × X) → ℕ → ℕ → Option X
 value_under tag entries key_tag number = if key_tag == tag then value_at entries number else None
-
--- the hub with another scope on top
-abbrev pub with_scope : {P : Type 0} → Hub P → Scope P → Hub P
-with_scope hub scope = record hub { stack = record hub.stack { top = record hub.stack.top { scope = scope } } }
-
--- the hub with other layers
-abbrev pub with_stack : {P : Type 0} → Hub P → Stack P → Hub P
-with_stack hub stack = record hub { stack = stack }
-
--- the hub with another client on top, or none
-abbrev pub with_client : {P : Type 0} → Hub P → Option ClientKey → Hub P
-with_client hub client = record hub { stack = record hub.stack { top = record hub.stack.top { client = client } } }
 
 module _ {P C : Type 0} where
   abbrev pub client_at : World P C → ClientKey → Option (ClientHistory C)

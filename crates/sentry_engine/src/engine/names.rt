@@ -1,5 +1,5 @@
 //! Names that edits of a scope give transactions.
-ghost use Rattle.sentry_calls.specs.Hubs.{with_names};
+ghost use Rattle.sentry_calls.specs.Hubs.{with_renames};
 ghost use Rattle.sentry_state.specs.Worlds.{World, Stands};
 
 use sentry_base::protocol::TransactionKey;
@@ -13,7 +13,7 @@ pub(super) fn rename_all<P: Drop, C: Callbacks>(
     state: &mut State<P, C>,
     renames: Items<(TransactionKey, Text)>,
 )
-    ensures { (world : World P C) → Stands state.old world → Stands state.new (with_names renames world) }
+    ensures { (world : World P C) → Stands state.old world → Stands state.new (with_renames renames world) }
 {
     rename_transactions(&mut state.spans, renames);
 }

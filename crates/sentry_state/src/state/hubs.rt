@@ -7,7 +7,8 @@ ghost use Rattle.sentry_scope.specs.Stacks.{depth, push, pop};
 ghost use Rattle.sentry_hub_table.specs.declared.hub.Hub.{Hub};
 ghost use Rattle.sentry_state.specs.Breadcrumbs.{add_breadcrumbs};
 ghost use Rattle.sentry_state.specs.Changes.{ChangesHub, next_hub_key, with_breadcrumbs, with_new_hub};
-ghost use Rattle.sentry_state.specs.Outcomes.{Does, with_client, with_scope, with_stack};
+ghost use Rattle.sentry_state.specs.Outcomes.{Does};
+ghost use Rattle.sentry_hub_table.specs.Hubs.{with_client, with_scope, with_stack};
 ghost use Rattle.sentry_state.specs.Worlds.{World, Stands};
 
 use crate::state::{Hub, Out, State};

@@ -3,7 +3,8 @@ ghost use Rattle.std.specs.Prelude.{◌≡◌, ◌<◌, ◌+◌, ◌-◌, ◌^�
 ghost use Rattle.std.specs.Bool.{OnTrue};
 ghost use Rattle.sentry_plain.specs.Tables.{value_at, replace_at, without};
 ghost use Rattle.sentry_hub_table.specs.declared.hub.Hub.{Hub};
-ghost use Rattle.sentry_state.specs.Changes.{ChangesHub, is_session_number_left, with_session};
+ghost use Rattle.sentry_state.specs.Changes.{ChangesHub, is_session_number_left};
+ghost use Rattle.sentry_hub_table.specs.Hubs.{with_session};
 ghost use Rattle.sentry_state.specs.Worlds.{World, SessionHistory, Stands, stored_session};
 
 use crate::state::State;

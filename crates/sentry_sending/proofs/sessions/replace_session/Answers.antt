@@ -2,7 +2,8 @@ use Rattle.std.proofs.Common.{◌≡◌, ◌+◌, ◌∙◌, ap, sym, subst, Som
 use Rattle.std.specs.Prelude.{option_copied}
 use Rattle.sentry_base.specs.declared.protocol.keys.SessionKey.{SessionKey}
 use Rattle.sentry_plain.specs.Tables.{value_at, replace_at}
-use Rattle.sentry_state.specs.Changes.{with_session, with_new_session, with_next_session_named}
+use Rattle.sentry_state.specs.Changes.{with_new_session, with_next_session_named}
+use Rattle.sentry_hub_table.specs.Hubs.{with_session}
 use Rattle.sentry_state.specs.Outcomes.{named_session}
 use Rattle.sentry_state.specs.Worlds.{World, Stands}
 use Rattle.sentry_state.specs.declared.state.State.{State}

@@ -1,10 +1,10 @@
 use Rattle.std.proofs.Common.{◌≡◌, ◌∙◌, ap, refl, sym, subst, Some, None, [], true, rules}
 use Rattle.sentry_plain.specs.Tables.{value_at}
-use Rattle.sentry_calls.specs.Hubs.{with_names}
+use Rattle.sentry_calls.specs.Hubs.{with_renames}
 use Rattle.sentry_scope.specs.EditLists.{all_name_held_spans, renames_after}
 use Rattle.sentry_scope.specs.Scopes.{edit_all}
-use Rattle.sentry_state.specs.Changes.{with_session}
-use Rattle.sentry_state.specs.Outcomes.{hub_at, with_hub, with_scope}
+use Rattle.sentry_hub_table.specs.Hubs.{with_session, with_scope}
+use Rattle.sentry_state.specs.Outcomes.{hub_at, with_hub}
 use Rattle.sentry_state.specs.Worlds.{World, Stands, span_table}
 use Rattle.sentry_state.specs.declared.state.State.{State}
 use Rattle.sentry_state.proofs.TableLemmas.{value_replaced}
@@ -39,5 +39,5 @@ returns g c = λ world here.
     (ap (λ edited. with_hub after key (with_scope unnamed edited)) scope) set in
     let edited = with_hub after key (with_scope unnamed (edit_all edits hub.stack.top.scope)) in
     let stands = subst (λ (w : World g.row.P.Denot g.row.C.Denot). Stands c.rename_all.new.state w)
-    (ap (λ renames. with_names renames edited) names) (c.rename_all.ensures edited with_scope_set) in
+    (ap (λ renames. with_renames renames edited) names) (c.rename_all.ensures edited with_scope_set) in
     replied _ _ _ _ _ _ (configure_is key edits c.args.now world hub found held c.requires) released.0 stands

@@ -2,10 +2,11 @@ use Rattle.std.proofs.Common.{◌≡◌, ◌∙◌, Some, [], ap, refl, sym, sub
 use Rattle.std.specs.Prelude.{Ok}
 use Rattle.sentry_scope.specs.EditLists.{all_name_held_spans, renames_after}
 use Rattle.sentry_scope.specs.Scopes.{edit_all}
-use Rattle.sentry_calls.specs.Hubs.{with_names}
+use Rattle.sentry_calls.specs.Hubs.{with_renames}
 use Rattle.sentry_state.specs.declared.state.State.{State}
 use Rattle.sentry_state.specs.Worlds.{World, Stands, span_table}
-use Rattle.sentry_state.specs.Outcomes.{hub_at, with_hub, with_scope}
+use Rattle.sentry_state.specs.Outcomes.{hub_at, with_hub}
+use Rattle.sentry_hub_table.specs.Hubs.{with_scope}
 use Rattle.sentry_engine.proofs.CallLemmas.{configure_kept_is}
 use Rattle.sentry_engine.proofs.engine.Engine.configure_all.Goals as goal
 
@@ -29,7 +30,7 @@ returns g c now = λ world here.
     (ap (λ edited. with_hub world key (with_scope hub edited)) scope) set in
     let edited = with_hub world key (with_scope hub (edit_all edits hub.stack.top.scope)) in
     let stands = subst (λ (w : World g.row.P.Denot g.row.C.Denot). Stands c.rename_all.new.state w)
-    (ap (λ renames. with_names renames edited) names) (c.rename_all.ensures edited with_scope_set) in
+    (ap (λ renames. with_renames renames edited) names) (c.rename_all.ensures edited with_scope_set) in
     let is = configure_kept_is key edits now world hub found held c.requires in (
       ap (λ o. o.answer) is ∙ ap Ok (sym c.out.ensures),
       subst (λ (w : World g.row.P.Denot g.row.C.Denot). Stands c.rename_all.new.state w) (sym (ap (λ o. o.after) is)) stands,

@@ -1,6 +1,6 @@
 use Rattle.std.proofs.Common.{◌∙◌, ◌+◌, Some, ap}
 use Rattle.sentry_plain.specs.Tables.{replace_at}
-use Rattle.sentry_state.specs.Changes.{with_session}
+use Rattle.sentry_hub_table.specs.Hubs.{with_session}
 use Rattle.sentry_state.specs.declared.state.NextNumbers.{NextNumbers}
 use Rattle.sentry_state.proofs.state.State.name_next_session.Goals as goal
 
