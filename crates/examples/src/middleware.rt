@@ -3,14 +3,15 @@
 use crate::clocks::Steps;
 use crate::printing::Printer;
 use crate::setup;
-use crate::setup::SEED;
+use crate::setup::{SEED, Thread};
 use anyhow::Result;
 use sentry_core::protocol::Refusal;
 use sentry_core::{
-    BoxedClock, BoxedGate, BoxedTransport, ClientOptions, ThreadHub, capture_error, start,
+    BoxedClock, BoxedGate, BoxedTransport, ClientOptions, Clock, capture_error, start,
 };
 use sentry_http::middleware::in_request;
 use sentry_http::requests::IncomingRequest;
+use sentry_lock::core_lock::CoreLock;
 use std::alloc::Global;
 use thiserror::Error;
 
@@ -62,7 +63,7 @@ fn options(alloc: Global) -> Result<ClientOptions, Refusal> {
 }
 
 // One request after another.
-fn serve(rt: &impl Print, thread: &mut ThreadHub) -> Result<()> {
+fn serve<R: Print, L: CoreLock, K: Clock + Drop>(rt: &R, thread: &mut Thread<L, K>) -> Result<()> {
     for request in &REQUESTS {
         let status = in_request(
             thread,
@@ -94,7 +95,7 @@ fn find_page(path: &str) -> Result<&'static str, ShopError> {
 }
 
 // The status of the response.
-fn answer(thread: &mut ThreadHub, path: &str) -> Result<u16> {
+fn answer<L: CoreLock, K: Clock>(thread: &mut Thread<L, K>, path: &str) -> Result<u16> {
     let Err(error) = find_page(path) else {
         return Ok(200);
     };

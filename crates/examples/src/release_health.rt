@@ -2,14 +2,14 @@
 use crate::clocks::Steps;
 use crate::printing::Printer;
 use crate::setup;
-use crate::setup::SEED;
+use crate::setup::{SEED, Thread};
 use anyhow::Result;
 use sentry_core::protocol::{Refusal, SessionStatus};
 use sentry_core::{
-    BoxedClock, BoxedGate, BoxedTransport, ClientOptions, Level, SessionMode, Text, ThreadHub,
-    User, capture_message, configure_scope, end_session, end_session_with_status, start,
-    start_session,
+    BoxedClock, BoxedGate, BoxedTransport, ClientOptions, Clock, Level, SessionMode, Text, User,
+    capture_message, configure_scope, end_session, end_session_with_status, start, start_session,
 };
+use sentry_lock::core_lock::CoreLock;
 use std::alloc::Global;
 
 /// Runs the example. The clock makes five seconds a step, so that a user's requests take more than a minute.
@@ -39,7 +39,7 @@ enum Ending {
 }
 
 // One request, in a session of its own.
-fn serve(thread: &mut ThreadHub, ending: Ending) -> Result<()> {
+fn serve<L: CoreLock, K: Clock>(thread: &mut Thread<L, K>, ending: Ending) -> Result<()> {
     start_session(thread)?;
     match ending {
         Ending::Well => end_session(thread)?,
@@ -53,7 +53,7 @@ fn serve(thread: &mut ThreadHub, ending: Ending) -> Result<()> {
 }
 
 // Requests of a user, the third of them with an error.
-fn serve_user(thread: &mut ThreadHub, user: &str) -> Result<()> {
+fn serve_user<L: CoreLock, K: Clock>(thread: &mut Thread<L, K>, user: &str) -> Result<()> {
     let alloc = thread.current.allocator();
     let mut known = User::new(alloc);
     known.id = Some(Text::new(alloc, user)?);

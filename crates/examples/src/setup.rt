@@ -1,7 +1,13 @@
 //! What several examples begin with.
-use sentry_core::ClientOptions;
 use sentry_core::protocol::{Draw, Fresh, Refusal, SpanId, TraceId, Uuid};
+use sentry_core::{ClientOptions, Generator};
+use sentry_hub::hub::Hub;
+use sentry_thread_hub::thread_hub::ThreadHub;
 use std::alloc::Global;
+
+/// The hubs of a thread over any lock and clock. A function on these is proved sooner than one on
+/// `sentry_core::ThreadHub`, which names the boxes.
+pub type Thread<L, K> = ThreadHub<Hub<L>, K, Generator>;
 
 /// What ids are drawn from: the same ones at each run.
 pub const SEED: [u8; 32] = [7; 32];

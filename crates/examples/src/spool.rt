@@ -1,15 +1,16 @@
 //! A shop whose envelopes are put into a folder, a file each, or are written to standard output. Another program sends
 //! the files, as `tools/ship` does.
-use crate::setup::SEED;
+use crate::setup::{SEED, Thread};
 use anyhow::Result;
 use sentry_core::envelope::Usage;
 use sentry_core::metrics::{CaptureMetric, counter};
 use sentry_core::protocol::{Attachment, Refusal, SpanStatus};
 use sentry_core::{
-    BoxedClock, BoxedGate, BoxedTransport, ClientOptions, Clock, Items, Text, ThreadHub,
-    add_breadcrumb, capture_error, configure_scope, end_session, in_span, in_transaction,
-    logger_warn, start, start_session, transaction_context,
+    BoxedClock, BoxedGate, BoxedTransport, ClientOptions, Clock, Items, Text, add_breadcrumb,
+    capture_error, configure_scope, end_session, in_span, in_transaction, logger_warn, start,
+    start_session, transaction_context,
 };
+use sentry_lock::core_lock::CoreLock;
 use std::alloc::Global;
 use thiserror::Error;
 
@@ -77,7 +78,7 @@ fn receipt(alloc: Global) -> Result<Attachment> {
 }
 
 // A transaction with two children, an error with its cause, a log and a counter.
-fn sell_lamps(thread: &mut ThreadHub) -> Result<()> {
+fn sell_lamps<L: CoreLock, K: Clock + Drop>(thread: &mut Thread<L, K>) -> Result<()> {
     let context = transaction_context(thread, "sell", "till")?;
     in_transaction(thread, context, |thread, sale| -> Result<()> {
         in_span(
@@ -113,7 +114,7 @@ fn sell_lamps(thread: &mut ThreadHub) -> Result<()> {
 }
 
 // What happens in the shop.
-fn open_shop(thread: &mut ThreadHub) -> Result<()> {
+fn open_shop<L: CoreLock, K: Clock + Drop>(thread: &mut Thread<L, K>) -> Result<()> {
     let alloc = thread.current.allocator();
     configure_scope(thread, |scope| scope.set_tag("till", "1"))?;
     start_session(thread)?;

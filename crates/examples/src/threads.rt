@@ -1,7 +1,7 @@
 //! Threads that work on hubs of one core.
 use crate::clocks::Steps;
+use crate::setup;
 use anyhow::Result;
-use sentry_core::Generator;
 use sentry_core::protocol::Refusal;
 use sentry_hub::hub::Hub;
 use sentry_lock::core_lock::CoreLock;
@@ -11,7 +11,7 @@ use std::thread::{Threads, map_vec};
 
 /// The hubs of a thread over any lock. What runs in threads is generic in the lock: threads at boxes take the prover
 /// too long.
-pub type Thread<L> = ThreadHub<Hub<L>, Steps, Generator>;
+pub type Thread<L> = setup::Thread<L, Steps>;
 
 /// The number of a thread, and the main hub, from whose top its hub is made.
 #[derive(Drop)]
