@@ -10,7 +10,9 @@ from compile_edits import FUNCTION, Round
 from edit_files import pairs_of, read
 
 ERROR = re.compile(r"^(src/\S+\.rt):(\d+):\d+: error", re.M)
-UNPROVED = re.compile(r"^fn (\S+): (?!proved$)", re.M)
+# A function that isn't proved, by its path, and why not.
+UNPROVED = re.compile(r"^fn (\S+): (?!proved$)(.*)$", re.M)
+CALLS_UNPROVED = re.compile(r"no proof: it calls `[^`]*`, which is not proved$")
 NOT_PROVED = re.compile(r"^note: (src/\S+\.rt):(\d+):\d+: (it is not proved .*)$", re.M)
 
 
@@ -60,23 +62,39 @@ def edit_at(crate, tried, file, line):
     return tried.edit_at(path, line)
 
 
-def names_of(edit):
-    """The names of the functions that an edit changes."""
-    made = Round()
-    made.takes(edit)
-    return {re.search(r"fn (\w+)", head)[1] for _, (head, _) in made.of_function}
+def module_of(crate, path):
+    """The path of the module of a file, in parts."""
+    parts = os.path.relpath(path, os.path.join(crate, "src")).removesuffix(".rt").split(os.sep)
+    return [] if parts in (["lib"], ["main"]) else parts
+
+
+def edits_of(crate, tried, function):
+    """The edits of a round that change the function of a path: more than one if the path doesn't tell which."""
+    words = re.split(r"::|\+\+", function)[1:]
+    depths = {}
+    for (path, (head, _)), edit in tried.of_function.items():
+        module = module_of(crate, path)
+        if re.search(r"fn (\w+)", head)[1] in [it.lstrip("+") for it in words]:
+            depths.setdefault(len(module) if words[: len(module)] == module else -1, set()).add(edit)
+    return depths[max(depths)] if depths else set()
 
 
 def refused_of(crate, tried, said):
-    """Of the edits of a round, by what a check said that did not prove the crate: those in whose function something is not
-    proved, with the first such thing. None are told if there is another function that is not proved."""
-    refused = {}
+    """Of the edits of a round, by what a check said that did not prove the crate: those whose function isn't proved, other
+    than for what it calls, with why not. None are told if there is such a function that may be no edit's or another's."""
+    notes = {}
     for file, line, what in NOT_PROVED.findall(said):
-        refused.setdefault(edit_at(crate, tried, file, int(line)), f"{file}:{line}: {what}")
-    failed = {name.rpartition("::")[2] for name in UNPROVED.findall(said)}
-    names = [names_of(it) for it in refused if it]
-    is_plain = None not in refused and failed <= set().union(*names) and all(failed & it for it in names)
-    return refused if is_plain else {}
+        notes.setdefault(edit_at(crate, tried, file, int(line)), f"{file}:{line}: {what}")
+    refused = {}
+    for function, why in UNPROVED.findall(said):
+        if CALLS_UNPROVED.match(why):
+            continue
+        found = edits_of(crate, tried, function)
+        if len(found) != 1:
+            return {}
+        (edit,) = found
+        refused[edit] = notes.get(edit, f"{function}: {why}")
+    return refused
 
 
 def bad_of(crate, tried, said):
