@@ -57,7 +57,7 @@ use Rattle.sentry_calls.specs.declared.call.hubs.HubCall.TheVariants as on_hub
 use Rattle.sentry_calls.specs.declared.call.Reply.TheVariants as reply
 use Rattle.sentry_calls.specs.Clients as clients
 use Rattle.sentry_calls.specs.Hubs as hubs
-use Rattle.sentry_calls.specs.Hubs.{is_clear, with_renames}
+use Rattle.sentry_calls.specs.Hubs.{is_clear}
 use Rattle.sentry_calls.specs.Layers as layers
 use Rattle.sentry_calls.specs.Losses as losses
 use Rattle.sentry_calls.specs.Sessions as sessions

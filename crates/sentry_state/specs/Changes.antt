@@ -13,7 +13,7 @@ use Rattle.sentry_sessions.specs.declared.session.record.SessionStart.{SessionSt
 use Rattle.sentry_base.specs.declared.protocol.breadcrumb.Breadcrumb.{Breadcrumb}
 use Rattle.sentry_scope.specs.declared.scope.stack.Stack.{Stack}
 use Rattle.sentry_scope.specs.Scopes.{breadcrumb_trail}
-use Rattle.sentry_hub_table.specs.Hubs.{with_scope}
+use Rattle.sentry_hub_table.specs.Hubs.{with_scope, with_session}
 use Rattle.sentry_base.specs.declared.protocol.log.Log.{Log}
 use Rattle.sentry_base.specs.declared.protocol.metric.Metric.{Metric}
 use Rattle.sentry_batches.specs.Batches.{BatchEntry}
