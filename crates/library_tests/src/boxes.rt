@@ -1,12 +1,31 @@
-//! Callbacks, as users of the library write them, and boxes for them.
-use sentry_core::protocol::{Breadcrumb, Event, Metric};
+//! Callbacks, as users of the library write them, and options with them in boxes.
+use sentry_core::protocol::{Breadcrumb, Event, Metric, Refusal};
 use sentry_core::types::Dsn;
 use sentry_core::{
     BoxedBreadcrumbCallback, BoxedEventCallback, BoxedIntegration, BoxedMetricCallback,
-    BoxedTracesSampler, BreadcrumbCallback, EventCallback, Integration, MetricCallback,
-    PlainOptions, TracesSampler, TransactionContext,
+    BoxedTracesSampler, BreadcrumbCallback, ClientOptions, EventCallback, Integration,
+    MetricCallback, PlainOptions, TracesSampler, TransactionContext,
 };
 use std::alloc::{AllocError, Global};
+
+pub(crate) const DSN: &str = "https://public@sentry.invalid/1";
+
+/// The number by which each callback adds or multiplies, or none where it drops every event.
+#[derive(Clone, Copy)]
+pub(crate) struct Plan {
+    pub(crate) processor: Option<u64>,
+    pub(crate) integrations: [Option<u64>; 2],
+    pub(crate) before_send: Option<u64>,
+}
+
+/// Options with the callbacks of a plan but the processor. The DSN is taken in the set-up.
+pub(crate) fn options_of(alloc: Global, plan: &Plan) -> Result<ClientOptions, Refusal> {
+    let [first, second] = plan.integrations;
+    let options = ClientOptions::from_dsn(alloc, DSN)?;
+    let options = options.before_send(boxed_adds(alloc, plan.before_send)?)?;
+    let options = options.add_integration(boxed_multiplies(alloc, first, None)?)?;
+    options.add_integration(boxed_multiplies(alloc, second, None)?)
+}
 
 /// Adds a number to the event's moment; without a number it drops the event. With 0 it is refused its memory, so that a
 /// call of it shows.
@@ -82,13 +101,19 @@ impl Integration for Multiplies {
     }
 }
 
-pub(crate) fn boxed_multiplies(
+fn boxed_multiplies(
     alloc: Global,
     factor: Option<u64>,
     dsn: Option<Dsn>,
 ) -> Result<BoxedIntegration, AllocError> {
     let integration: BoxedIntegration = Box::new(alloc, Multiplies { factor, dsn })?;
     Ok(integration)
+}
+
+/// An integration that gives a DSN.
+pub(crate) fn giving(alloc: Global) -> Result<BoxedIntegration, Refusal> {
+    let dsn = Dsn::parse(alloc, DSN)?;
+    Ok(boxed_multiplies(alloc, Some(2), Some(dsn))?)
 }
 
 /// Sets both limits of a client: batches of nothing, and so many spans.
@@ -153,14 +178,6 @@ impl BreadcrumbCallback for KeepsUntil {
     }
 }
 
-pub(crate) fn boxed_keeps_until(
-    alloc: Global,
-    moment: u64,
-) -> Result<BoxedBreadcrumbCallback, AllocError> {
-    let callback: BoxedBreadcrumbCallback = Box::new(alloc, KeepsUntil(moment))?;
-    Ok(callback)
-}
-
 /// Leaves the unit of a metric out.
 #[derive(Drop)]
 struct HidesUnits;
@@ -176,11 +193,6 @@ impl MetricCallback for HidesUnits {
     }
 }
 
-pub(crate) fn boxed_hides_units(alloc: Global) -> Result<BoxedMetricCallback, AllocError> {
-    let callback: BoxedMetricCallback = Box::new(alloc, HidesUnits)?;
-    Ok(callback)
-}
-
 /// Gives every trace this rate.
 #[derive(Drop)]
 struct Gives(u32);
@@ -193,7 +205,32 @@ impl TracesSampler for Gives {
     }
 }
 
-pub(crate) fn boxed_gives(alloc: Global, rate: u32) -> Result<BoxedTracesSampler, AllocError> {
+fn other_boxes(
+    alloc: Global,
+    until: u64,
+    rate: u32,
+) -> Result<
+    (
+        BoxedBreadcrumbCallback,
+        BoxedMetricCallback,
+        BoxedTracesSampler,
+    ),
+    AllocError,
+> {
+    let breadcrumbs: BoxedBreadcrumbCallback = Box::new(alloc, KeepsUntil(until))?;
+    let metrics: BoxedMetricCallback = Box::new(alloc, HidesUnits)?;
     let sampler: BoxedTracesSampler = Box::new(alloc, Gives(rate))?;
-    Ok(sampler)
+    Ok((breadcrumbs, metrics, sampler))
+}
+
+/// Options with a callback that keeps breadcrumbs until a moment, one that hides units of metrics, and a sampler of
+/// this rate.
+pub(crate) fn other_options(
+    alloc: Global,
+    until: u64,
+    rate: u32,
+) -> Result<ClientOptions, Refusal> {
+    let (breadcrumbs, metrics, sampler) = other_boxes(alloc, until, rate)?;
+    let options = ClientOptions::from_dsn(alloc, DSN)?.before_breadcrumb(breadcrumbs)?;
+    options.before_send_metric(metrics)?.traces_sampler(sampler)
 }

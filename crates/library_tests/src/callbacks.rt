@@ -1,19 +1,18 @@
-//! Engines over callbacks in boxes, as users of the library hand them in.
-use crate::boxes::{
-    boxed_adds, boxed_gives, boxed_hides_units, boxed_keeps_until, boxed_limits, boxed_multiplies,
-};
-use sentry_core::engine::{Engine, Out};
+//! Engines over callbacks in boxes, as users of the library hand them in. What acts on an engine is generic in its
+//! callbacks, which is proved faster than over boxes.
+use crate::boxes::{DSN, Plan, boxed_adds, boxed_limits, giving, options_of, other_options};
+use sentry_base::callbacks::EventCallback;
 use sentry_core::metrics::{IntoProtocolMetric, gauge};
 use sentry_core::protocol::{
     Breadcrumb, ClientKey, Draw, EnvelopeItem, Event, Fresh, HubKey, Label, Log, LogLevel, Metric,
     Refusal, SpanId, TraceId, TransactionOrSpanKey, Unit, Uuid,
 };
-use sentry_core::types::Dsn;
-use sentry_core::{BoxedIntegration, ClientOptions, Few, Level, Scope, TransactionContext};
+use sentry_core::{BoxedEventCallback, ClientCallbacks, Few, Level, TransactionContext};
+use sentry_engine::engine::{Engine, Out};
+use sentry_options::clientoptions::{Callbacks, ClientOptions};
+use sentry_scope::scope::Scope;
 use std::alloc::{AllocError, Global};
 use std::test::Fail;
-
-const DSN: &str = "https://public@sentry.invalid/1";
 
 const LABEL: Label = Label { tag: 0, number: 0 };
 
@@ -26,14 +25,6 @@ fn fresh() -> Fresh {
         span_id: SpanId([1; 8]),
         draw: Draw::new(0).unwrap(),
     }
-}
-
-/// The number by which each callback adds or multiplies, or none where it drops every event.
-#[derive(Clone, Copy)]
-struct Plan {
-    processor: Option<u64>,
-    integrations: [Option<u64>; 2],
-    before_send: Option<u64>,
 }
 
 /// Each callback does its work.
@@ -50,19 +41,10 @@ const STARVES: Plan = Plan {
     before_send: Some(0),
 };
 
-/// Options with the callbacks of a plan but the processor. The DSN is taken in the set-up.
-fn options_of(alloc: Global, plan: &Plan) -> Result<ClientOptions, Refusal> {
-    let [first, second] = plan.integrations;
-    let options = ClientOptions::from_dsn(alloc, DSN)?;
-    let options = options.before_send(boxed_adds(alloc, plan.before_send)?)?;
-    let options = options.add_integration(boxed_multiplies(alloc, first, None)?)?;
-    options.add_integration(boxed_multiplies(alloc, second, None)?)
-}
-
-/// A scope with the processor of a plan, a level and a tag.
-fn scope_of(alloc: Global, plan: &Plan) -> Result<Scope, Refusal> {
+/// A scope with a processor, a level and a tag.
+fn scope_of<P: Drop>(alloc: Global, processor: P) -> Result<Scope<P>, Refusal> {
     let mut scope = Scope::new(alloc, TraceId([7; 16]), SpanId([8; 8]));
-    scope.add_event_processor(boxed_adds(alloc, plan.processor)?)?;
+    scope.add_event_processor(processor)?;
     scope.set_level(Some(Level::Warning));
     scope.set_tag("a", "1")?;
     Ok(scope)
@@ -83,36 +65,66 @@ fn outcome(out: &Out<Uuid>, last: Option<Uuid>) -> Outcome {
     (out.reply, sent, last)
 }
 
-/// Of an event without an id that is captured on a hub.
-fn capture_on(alloc: Global, engine: &mut Engine, hub: HubKey) -> Result<Outcome, Refusal> {
-    let event = Event::new(alloc, Uuid::nil(), 1)?;
+/// Of an event without an id that is captured on a new hub.
+fn capture_on_hub<P: EventCallback + Drop, C: Callbacks>(
+    engine: &mut Engine<P, C>,
+    client: Option<ClientKey>,
+    scope: Scope<P>,
+    event: Event,
+) -> Result<Outcome, Refusal> {
+    let hub = engine.new_hub(client, scope)?.reply;
     let out = engine.capture_event(hub, event, fresh())?;
     Ok(outcome(&out, engine.last_event_id(hub)?.reply))
 }
 
-/// The same on a hub of a client with the callbacks of a plan.
-fn capture(alloc: Global, transport: bool, plan: &Plan) -> Result<Outcome, Refusal> {
-    let mut engine = Engine::new(alloc, 0);
-    let client = engine.add_client(options_of(alloc, plan)?, transport, LABEL, 0)?;
-    let hub = engine.new_hub(Some(client.reply), scope_of(alloc, plan)?)?;
-    capture_on(alloc, &mut engine, hub.reply)
-}
-
-/// The same by the client itself under the scope, and not on a hub.
-fn capture_by_client(alloc: Global, plan: &Plan) -> Result<Outcome, Refusal> {
-    let mut engine = Engine::new(alloc, 0);
-    let client = engine.add_client(options_of(alloc, plan)?, true, LABEL, 0)?;
-    let scope = scope_of(alloc, plan)?;
-    let event = Event::new(alloc, Uuid::nil(), 1)?;
-    let out = engine.client_capture_event(client.reply, event, Some(&scope), fresh())?;
+/// The same by a client itself under the scope, and not on a hub.
+fn capture_by_client<P: EventCallback + Drop, C: Callbacks>(
+    engine: &mut Engine<P, C>,
+    client: ClientKey,
+    scope: &Scope<P>,
+    event: Event,
+) -> Result<Outcome, Refusal> {
+    let out = engine.client_capture_event(client, event, Some(scope), fresh())?;
     Ok(outcome(&out, None))
 }
 
-/// The same on a hub without a client.
-fn capture_without_client(alloc: Global) -> Result<Outcome, Refusal> {
+/// What captures an event.
+#[derive(Clone, Copy)]
+enum By {
+    /// A hub of a client.
+    Hub { transport: bool },
+    /// A client with a transport.
+    Client,
+    /// A hub without a client.
+    HubAlone,
+}
+
+/// The same on a new engine.
+fn capture_by<P: EventCallback + Drop, C: Callbacks>(
+    alloc: Global,
+    by: By,
+    options: ClientOptions<C>,
+    scope: Scope<P>,
+) -> Result<Outcome, Refusal> {
     let mut engine = Engine::new(alloc, 0);
-    let hub = engine.new_hub(None, scope_of(alloc, &COUNTS)?)?;
-    capture_on(alloc, &mut engine, hub.reply)
+    let event = Event::new(alloc, Uuid::nil(), 1)?;
+    match by {
+        By::Hub { transport } => {
+            let client = engine.add_client(options, transport, LABEL, 0)?.reply;
+            capture_on_hub(&mut engine, Some(client), scope, event)
+        }
+        By::Client => {
+            let client = engine.add_client(options, true, LABEL, 0)?.reply;
+            capture_by_client(&mut engine, client, &scope, event)
+        }
+        By::HubAlone => capture_on_hub(&mut engine, None, scope, event),
+    }
+}
+
+/// The same with the callbacks of a plan.
+fn capture(alloc: Global, by: By, plan: &Plan) -> Result<Outcome, Refusal> {
+    let scope = scope_of(alloc, boxed_adds(alloc, plan.processor)?)?;
+    capture_by(alloc, by, options_of(alloc, plan)?, scope)
 }
 
 #[test]
@@ -120,15 +132,17 @@ fn boxed_callbacks_run_in_order(rt: HostRuntime) -> Result<(), Fail> {
     let alloc = rt.alloc();
     // the processor, the integrations, the callback: (1 + 3) * 3 * 5 + 100
     let (id, sent) = (fresh().uuid, Some((160, Level::Warning, 1)));
-    assert!(rt; capture(alloc, true, &COUNTS) == Ok((id, sent, Some(id))));
-    assert!(rt; capture_by_client(alloc, &COUNTS) == Ok((id, sent, None)));
-    assert!(rt; capture_without_client(alloc) == Ok((Uuid::nil(), None, None)));
+    let hub = By::Hub { transport: true };
+    assert!(rt; capture(alloc, hub, &COUNTS) == Ok((id, sent, Some(id))));
+    assert!(rt; capture(alloc, By::Client, &COUNTS) == Ok((id, sent, None)));
+    assert!(rt; capture(alloc, By::HubAlone, &COUNTS) == Ok((Uuid::nil(), None, None)));
     Ok(())
 }
 
 #[test]
 fn nothing_runs_after_a_callback_that_drops(rt: HostRuntime) -> Result<(), Fail> {
     let alloc = rt.alloc();
+    let hub = By::Hub { transport: true };
     let dropped = Ok((Uuid::nil(), None, Some(Uuid::nil())));
     let starved = Err(Refusal::OutOfMemory);
     // each callback in turn drops the event, after those before it did their work
@@ -136,33 +150,25 @@ fn nothing_runs_after_a_callback_that_drops(rt: HostRuntime) -> Result<(), Fail>
         processor: None,
         ..STARVES
     };
-    assert!(rt; capture(alloc, true, &plan) == dropped);
+    assert!(rt; capture(alloc, hub, &plan) == dropped);
     plan.processor = Some(3);
-    assert!(rt; capture(alloc, true, &plan) == starved);
+    assert!(rt; capture(alloc, hub, &plan) == starved);
     plan.integrations = [None, Some(0)];
-    assert!(rt; capture(alloc, true, &plan) == dropped);
+    assert!(rt; capture(alloc, hub, &plan) == dropped);
     plan.integrations = [Some(3), Some(0)];
-    assert!(rt; capture(alloc, true, &plan) == starved);
+    assert!(rt; capture(alloc, hub, &plan) == starved);
     plan.integrations = [Some(3), None];
-    assert!(rt; capture(alloc, true, &plan) == dropped);
+    assert!(rt; capture(alloc, hub, &plan) == dropped);
     // without a transport nothing runs
-    assert!(rt; capture(alloc, false, &STARVES) == dropped);
+    let hub = By::Hub { transport: false };
+    assert!(rt; capture(alloc, hub, &STARVES) == dropped);
     Ok(())
 }
 
-/// Options with a callback that keeps breadcrumbs until a moment, one that hides units of metrics, and a sampler of
-/// this rate.
-fn other_options(alloc: Global, until: u64, rate: u32) -> Result<ClientOptions, Refusal> {
-    let options = ClientOptions::from_dsn(alloc, DSN)?;
-    let options = options.before_breadcrumb(boxed_keeps_until(alloc, until)?)?;
-    let options = options.before_send_metric(boxed_hides_units(alloc)?)?;
-    options.traces_sampler(boxed_gives(alloc, rate)?)
-}
-
 /// Why breadcrumbs of the moments below a count are refused, if they are, and how many the hub's scope has after that.
-fn add_breadcrumbs(
+fn add_breadcrumbs<P: Drop, C: Callbacks>(
     alloc: Global,
-    engine: &mut Engine,
+    engine: &mut Engine<P, C>,
     hub: HubKey,
     count: u64,
 ) -> Result<(Option<Refusal>, usize), Refusal> {
@@ -191,9 +197,9 @@ fn first_metric(out: &Out<()>) -> Option<&Metric> {
 }
 
 /// Whether a metric with a unit still has it when it is sent; `None` if none is sent.
-fn has_unit(
+fn has_unit<P: Drop, C: Callbacks>(
     alloc: Global,
-    engine: &mut Engine,
+    engine: &mut Engine<P, C>,
     client: ClientKey,
     hub: HubKey,
 ) -> Result<Option<bool>, Refusal> {
@@ -204,7 +210,11 @@ fn has_unit(
 }
 
 /// Whether a transaction is sampled.
-fn is_sampled(alloc: Global, engine: &mut Engine, hub: HubKey) -> Result<bool, Refusal> {
+fn is_sampled<P: Drop, C: Callbacks>(
+    alloc: Global,
+    engine: &mut Engine<P, C>,
+    hub: HubKey,
+) -> Result<bool, Refusal> {
     let ids = fresh();
     let context = TransactionContext::new(alloc, "sell", "till", ids.trace_id, ids.span_id)?;
     let sale = engine.start_transaction(hub, context, ids)?.reply;
@@ -212,16 +222,28 @@ fn is_sampled(alloc: Global, engine: &mut Engine, hub: HubKey) -> Result<bool, R
     Ok(engine.is_sampled(span)?.reply)
 }
 
+/// A client with these options and a transport, and a hub of it.
+fn add_client_and_hub<P: Drop, C: Callbacks>(
+    alloc: Global,
+    engine: &mut Engine<P, C>,
+    options: ClientOptions<C>,
+) -> Result<(ClientKey, HubKey), Refusal> {
+    let client = engine.add_client(options, true, LABEL, 0)?.reply;
+    let scope = Scope::new(alloc, TraceId([7; 16]), SpanId([8; 8]));
+    let hub = engine.new_hub(Some(client), scope)?.reply;
+    Ok((client, hub))
+}
+
 /// What the other callbacks come to: what no breadcrumbs come to, and what three do; whether a metric has its unit; and
 /// whether a transaction is sampled.
 type OtherOutcome = ([(Option<Refusal>, usize); 2], Option<bool>, bool);
 
-fn call_others(alloc: Global, until: u64, rate: u32) -> Result<OtherOutcome, Refusal> {
-    let mut engine = Engine::new(alloc, 0);
-    let options = other_options(alloc, until, rate)?;
-    let client = engine.add_client(options, true, LABEL, 0)?.reply;
-    let scope = Scope::new(alloc, TraceId([7; 16]), SpanId([8; 8]));
-    let hub = engine.new_hub(Some(client), scope)?.reply;
+fn call_others<P: Drop, C: Callbacks>(
+    alloc: Global,
+    options: ClientOptions<C>,
+) -> Result<OtherOutcome, Refusal> {
+    let mut engine: Engine<P, C> = Engine::new(alloc, 0);
+    let (client, hub) = add_client_and_hub(alloc, &mut engine, options)?;
     let none = add_breadcrumbs(alloc, &mut engine, hub, 0)?;
     let three = add_breadcrumbs(alloc, &mut engine, hub, 3)?;
     let has_unit = has_unit(alloc, &mut engine, client, hub)?;
@@ -235,28 +257,30 @@ fn call_others(alloc: Global, until: u64, rate: u32) -> Result<OtherOutcome, Ref
 #[test]
 fn other_boxed_callbacks_are_called(rt: HostRuntime) -> Result<(), Fail> {
     let alloc = rt.alloc();
+    let options = other_options(alloc, 2, 1_000_000)?;
+    let found = call_others::<BoxedEventCallback, ClientCallbacks>(alloc, options);
     let kept = [(None, 0), (None, 2)];
-    assert!(rt; call_others(alloc, 2, 1_000_000) == Ok((kept, Some(false), true)));
+    assert!(rt; found == Ok((kept, Some(false), true)));
     // an empty list calls no callback
+    let options = other_options(alloc, 0, 0)?;
+    let found = call_others::<BoxedEventCallback, ClientCallbacks>(alloc, options);
     let starved = [(None, 0), (Some(Refusal::OutOfMemory), 0)];
-    assert!(rt; call_others(alloc, 0, 0) == Ok((starved, Some(false), false)));
+    assert!(rt; found == Ok((starved, Some(false), false)));
     Ok(())
 }
 
 /// Whether a client with these options and a transport is enabled and has a DSN, and how many integrations it has.
-fn facts(alloc: Global, options: ClientOptions) -> Result<(bool, bool, usize), Refusal> {
-    let mut engine = Engine::new(alloc, 0);
+fn facts<P: Drop, C: Callbacks>(
+    alloc: Global,
+    options: ClientOptions<C>,
+) -> Result<(bool, bool, usize), Refusal> {
+    let mut engine: Engine<P, C> = Engine::new(alloc, 0);
     let client = engine.add_client(options, true, LABEL, 0)?.reply;
     let is_enabled = engine.is_enabled(client)?.reply;
     let has_dsn = engine.dsn(client)?.reply.is_some();
     let options = engine.options(client)?.reply;
-    Ok((is_enabled, has_dsn, options.callbacks.integrations.len()))
-}
-
-/// An integration that gives a DSN.
-fn giving(alloc: Global) -> Result<BoxedIntegration, Refusal> {
-    let dsn = Dsn::parse(alloc, DSN)?;
-    Ok(boxed_multiplies(alloc, Some(2), Some(dsn))?)
+    let names = options.callbacks.integration_names(alloc)?;
+    Ok((is_enabled, has_dsn, names.len()))
 }
 
 #[test]
@@ -264,28 +288,29 @@ fn set_up_changes_the_options(rt: HostRuntime) -> Result<(), Fail> {
     let alloc = rt.alloc();
     // a DSN that is taken disables the client; where callbacks run in order, its slot stays occupied
     let copy = options_of(alloc, &COUNTS)?.clone()?;
-    assert!(rt; facts(alloc, copy) == Ok((false, false, 2)));
+    let found = facts::<BoxedEventCallback, ClientCallbacks>(alloc, copy);
+    assert!(rt; found == Ok((false, false, 2)));
     // a list of integrations replaces those before
     let list = vec![in alloc; giving(alloc)?]?;
     let replaced = options_of(alloc, &COUNTS)?.integrations(list)?;
-    assert!(rt; facts(alloc, replaced) == Ok((true, true, 1)));
+    let found = facts::<BoxedEventCallback, ClientCallbacks>(alloc, replaced);
+    assert!(rt; found == Ok((true, true, 1)));
     // a DSN that is given opens no slot
     let given = ClientOptions::new(alloc).add_integration(giving(alloc)?)?;
-    assert!(rt; facts(alloc, given) == Ok((false, true, 1)));
+    let found = facts::<BoxedEventCallback, ClientCallbacks>(alloc, given);
+    assert!(rt; found == Ok((false, true, 1)));
     Ok(())
 }
 
 /// How many logs make a batch and how many spans a transaction keeps, where the set-up changed both, and how many
 /// envelopes a log sends.
-fn limits(alloc: Global) -> Result<(usize, usize, usize), Refusal> {
-    let mut engine = Engine::new(alloc, 0);
-    let options = ClientOptions::from_dsn(alloc, DSN)?
-        .max_spans(2)
-        .max_batch_items(3)
-        .add_integration(boxed_limits(alloc, 7)?)?;
-    let client = engine.add_client(options, true, LABEL, 0)?.reply;
-    let scope = Scope::new(alloc, TraceId([7; 16]), SpanId([8; 8]));
-    let hub = engine.new_hub(Some(client), scope)?.reply;
+fn limits<P: Drop, C: Callbacks>(
+    alloc: Global,
+    options: ClientOptions<C>,
+) -> Result<(usize, usize, usize), Refusal> {
+    let mut engine: Engine<P, C> = Engine::new(alloc, 0);
+    let options = options.max_spans(2).max_batch_items(3);
+    let (client, hub) = add_client_and_hub(alloc, &mut engine, options)?;
     let log = Log::new(alloc, LogLevel::Info, "sold", 1)?;
     let sent = engine.capture_log(hub, log)?.sent.len();
     let options = engine.options(client)?.reply;
@@ -294,7 +319,10 @@ fn limits(alloc: Global) -> Result<(usize, usize, usize), Refusal> {
 
 #[test]
 fn set_up_changes_the_limits(rt: HostRuntime) -> Result<(), Fail> {
+    let alloc = rt.alloc();
+    let options = ClientOptions::from_dsn(alloc, DSN)?.add_integration(boxed_limits(alloc, 7)?)?;
+    let found = limits::<BoxedEventCallback, ClientCallbacks>(alloc, options);
     // a batch of nothing counts as one of a single log
-    assert!(rt; limits(rt.alloc()) == Ok((1, 7, 1)));
+    assert!(rt; found == Ok((1, 7, 1)));
     Ok(())
 }

@@ -1,24 +1,29 @@
 //! Texts that are played on engines which no program makes: with another tag than the keys that the text names, with
 //! few numbers left, or with something that they hold before the first line.
-use scenario_run::callbacks::{Callbacks, Handler};
+use scenario_run::callbacks::Handler;
+use scenario_run::caller::Caller;
 use scenario_run::{Envelopes, TAG, run_scenario_by};
 use sentry_core::TransactionContext;
 use sentry_core::protocol::{
     Draw, Fresh, Label, Refusal, SpanId, TraceId, TransactionOrSpanKey, Uuid,
 };
-use sentry_options::clientoptions::ClientOptions;
+use sentry_engine::engine::Engine;
+use sentry_options::clientoptions::{Callbacks, ClientOptions};
+use sentry_scope::scope::Scope;
 use std::alloc::Global;
 use std::test::Fail;
 
-pub(crate) type Engine = sentry_engine::engine::Engine<Handler, Callbacks>;
+/// What the clients of a text call.
+pub(crate) type TextCallbacks = scenario_run::callbacks::Callbacks;
 
-pub(crate) type Scope = sentry_scope::scope::Scope<Handler>;
+/// An engine on which texts are played.
+type TextEngine = Engine<Handler, TextCallbacks>;
 
 /// A tag that no key of a text has.
 const OTHER_TAG: u64 = 4;
 
 /// A scope that sets nothing.
-pub(crate) fn scope(alloc: Global) -> Scope {
+pub(crate) fn scope<P>(alloc: Global) -> Scope<P> {
     Scope::new(alloc, TraceId([7; 16]), SpanId([8; 8]))
 }
 
@@ -33,15 +38,19 @@ pub(crate) fn fresh() -> Fresh {
     }
 }
 
-/// An engine that holds a client, a hub of it, a transaction, and a span of that, each under the number 0.
-pub(crate) fn engine_with_a_span(alloc: Global, tag: u64) -> Result<Engine, Refusal> {
-    let mut engine = Engine::new(alloc, tag);
-    fill(alloc, tag, &mut engine)?;
-    Ok(engine)
+/// Options with a DSN.
+pub(crate) fn options(alloc: Global) -> Result<ClientOptions<TextCallbacks>, Refusal> {
+    ClientOptions::from_dsn(alloc, "https://public@sentry.invalid/1")
 }
 
-fn fill(alloc: Global, tag: u64, engine: &mut Engine) -> Result<(), Refusal> {
-    let options = ClientOptions::from_dsn(alloc, "https://public@sentry.invalid/1")?;
+/// An engine that holds a client with these options, a hub of it, a transaction, and a span of that, each under the
+/// number 0.
+pub(crate) fn engine_with_a_span<P: Drop, C: Callbacks>(
+    alloc: Global,
+    tag: u64,
+    options: ClientOptions<C>,
+) -> Result<Engine<P, C>, Refusal> {
+    let mut engine = Engine::new(alloc, tag);
     let client = engine.add_client(options, true, Label { tag, number: 0 }, 0)?;
     let hub = engine.new_hub(Some(client.reply), scope(alloc))?;
     let ids = fresh();
@@ -49,21 +58,21 @@ fn fill(alloc: Global, tag: u64, engine: &mut Engine) -> Result<(), Refusal> {
     let transaction = engine.start_transaction(hub.reply, context, ids)?;
     let parent = TransactionOrSpanKey::Transaction(transaction.reply);
     engine.start_child(parent, "op", "", fresh())?;
-    Ok(())
+    Ok(engine)
 }
 
-/// What a text prints that is played on an engine, if it is played to its end.
-fn play(alloc: Global, engine: Engine, text: &str) -> Option<Vec<u8>> {
+/// What a text prints that is played by a caller, if it is played to its end.
+fn play<E: Caller>(alloc: Global, caller: E, text: &str) -> Option<Vec<u8>> {
     let mut text = text.as_bytes();
     let mut written: Vec<u8> = Vec::new(alloc);
-    match run_scenario_by(alloc, engine, Envelopes::Lines, &mut text, &mut written) {
+    match run_scenario_by(alloc, caller, Envelopes::Lines, &mut text, &mut written) {
         Ok(()) => Some(written),
         Err(_) => None,
     }
 }
 
-fn prints(alloc: Global, engine: Engine, text: &str, expected: &str) -> bool {
-    match play(alloc, engine, text) {
+fn prints<E: Caller>(alloc: Global, caller: E, text: &str, expected: &str) -> bool {
+    match play(alloc, caller, text) {
         Some(written) => written.as_slice() == expected.as_bytes(),
         None => false,
     }
@@ -157,7 +166,7 @@ fn are_stale(lines: usize, written: &[u8]) -> bool {
 #[test]
 fn each_call_refuses_the_keys_of_another_engine(rt: HostRuntime) -> Result<(), Fail> {
     let alloc = rt.alloc();
-    let other = engine_with_a_span(alloc, OTHER_TAG)?;
+    let other: TextEngine = engine_with_a_span(alloc, OTHER_TAG, options(alloc)?)?;
     let Some(written) = play(alloc, other, CALLS_WITH_KEYS) else {
         panic!(rt; "not played to its end")
     };
@@ -202,10 +211,10 @@ refused E9
 #[test]
 fn numbers_are_used_up(rt: HostRuntime) -> Result<(), Fail> {
     let alloc = rt.alloc();
-    let engine = Engine::starting_at(alloc, TAG, u64::MAX - 1);
+    let engine: TextEngine = Engine::starting_at(alloc, TAG, u64::MAX - 1);
     assert!(rt; prints(alloc, engine, UP_TO_THE_LAST_NUMBER, USED_UP));
     // the label is asked before the numbers, and so is the client of a hub
-    let engine = Engine::starting_at(alloc, OTHER_TAG, u64::MAX);
+    let engine: TextEngine = Engine::starting_at(alloc, OTHER_TAG, u64::MAX);
     assert!(rt;
         prints(
             alloc,
@@ -227,7 +236,7 @@ empty 0
 #[test]
 fn a_client_reports_what_another_of_its_label_dropped(rt: HostRuntime) -> Result<(), Fail> {
     let alloc = rt.alloc();
-    let engine = engine_with_a_span(alloc, TAG)?;
+    let engine: TextEngine = engine_with_a_span(alloc, TAG, options(alloc)?)?;
     let expected = "envelope 0 report error/before_send=1\n";
     assert!(rt; prints(alloc, engine, DROPPED_BY_THE_SECOND, expected));
     Ok(())

@@ -1,7 +1,8 @@
 //! Names that no command can hand in, what a refused call hands back, and a list of calls.
-use crate::engines::{Engine, engine_with_a_span, fresh, scope};
+use crate::engines::{TextCallbacks, engine_with_a_span, fresh, options, scope};
 use crate::promises::run_calls;
-use scenario_run::callbacks::{Callbacks, Handler};
+use scenario_run::callbacks::Handler;
+use sentry_base::callbacks::EventCallback;
 use sentry_core::SpanTable;
 use sentry_core::client_report::LossWords;
 use sentry_core::protocol::{
@@ -9,7 +10,9 @@ use sentry_core::protocol::{
     TraceId, TransactionOrSpanKey, Uuid,
 };
 use sentry_engine::call::{Answer, Call, ClientCall, HubCall, Reply};
-use sentry_engine::engine::Out;
+use sentry_engine::engine::{Engine, Out};
+use sentry_options::clientoptions::{Callbacks, ClientOptions};
+use sentry_scope::scope::Scope;
 use std::alloc::{AllocError, Global};
 use std::test::Fail;
 
@@ -20,8 +23,11 @@ const HUB: HubKey = HubKey { tag: 0, number: 0 };
 const SPAN: TransactionOrSpanKey = TransactionOrSpanKey::Span(SpanKey { tag: 0, number: 0 });
 
 /// Why an event and a hub are refused whose scope names a span that was discarded.
-fn refusals_of_a_discarded_name(alloc: Global) -> Result<[Option<Refusal>; 2], Refusal> {
-    let mut engine = engine_with_a_span(alloc, 0)?;
+fn refusals_of_a_discarded_name<P: EventCallback + Drop, C: Callbacks>(
+    alloc: Global,
+    options: ClientOptions<C>,
+) -> Result<[Option<Refusal>; 2], Refusal> {
+    let mut engine: Engine<P, C> = engine_with_a_span(alloc, 0, options)?;
     engine.discard(SPAN)?;
     let event = Event::new(alloc, Uuid::nil(), 1)?;
     let mut scope = scope(alloc);
@@ -32,11 +38,11 @@ fn refusals_of_a_discarded_name(alloc: Global) -> Result<[Option<Refusal>; 2], R
 }
 
 /// Whether a log under a scope whose span the table lacks is filled in as under one without a span.
-fn is_filled_alike(alloc: Global) -> Result<bool, AllocError> {
+fn is_filled_alike<P: Drop>(alloc: Global) -> Result<bool, AllocError> {
     let spans = SpanTable::new(alloc);
     let mut filled = Log::new(alloc, LogLevel::Info, "x", 1)?;
     let mut expected = filled.clone()?;
-    let mut scope = scope(alloc);
+    let mut scope: Scope<P> = scope(alloc);
     scope.apply_to_log(&spans, &mut expected)?;
     scope.set_span(Some(SPAN));
     scope.apply_to_log(&spans, &mut filled)?;
@@ -45,17 +51,22 @@ fn is_filled_alike(alloc: Global) -> Result<bool, AllocError> {
 
 #[test]
 fn scopes_can_name_what_is_not_held(rt: HostRuntime) -> Result<(), Fail> {
+    let options = options(rt.alloc())?;
+    let refusals = refusals_of_a_discarded_name::<Handler, TextCallbacks>(rt.alloc(), options)?;
     let stale = Some(Refusal::Stale);
-    assert_eq!(rt; refusals_of_a_discarded_name(rt.alloc())?, [stale, stale]);
-    assert!(rt; is_filled_alike(rt.alloc())?);
+    assert_eq!(rt; refusals, [stale, stale]);
+    assert!(rt; is_filled_alike::<Handler>(rt.alloc())?);
     Ok(())
 }
 
 /// Why the first engine refuses the guard of the second, and the hub and the depth of the guard that comes back.
-fn foreign_guard(alloc: Global) -> Result<Option<(Refusal, (HubKey, usize))>, Refusal> {
-    let mut second = engine_with_a_span(alloc, 4)?;
+fn foreign_guard<P: Drop, C: Callbacks>(
+    alloc: Global,
+    options: ClientOptions<C>,
+) -> Result<Option<(Refusal, (HubKey, usize))>, Refusal> {
+    let mut second: Engine<P, C> = engine_with_a_span(alloc, 4, options)?;
     let guard = second.push_scope(HubKey { tag: 4, number: 0 })?.reply;
-    let mut first = Engine::new(alloc, 0);
+    let mut first: Engine<P, C> = Engine::new(alloc, 0);
     match first.pop_scope(guard, 1) {
         Ok(_) => Ok(None),
         Err((refusal, guard)) => Ok(Some((refusal, guard.into_parts()))),
@@ -64,15 +75,18 @@ fn foreign_guard(alloc: Global) -> Result<Option<(Refusal, (HubKey, usize))>, Re
 
 #[test]
 fn a_guard_of_another_engine_is_handed_back(rt: HostRuntime) -> Result<(), Fail> {
-    let back = foreign_guard(rt.alloc())?;
+    let back = foreign_guard::<Handler, TextCallbacks>(rt.alloc(), options(rt.alloc())?)?;
     let guard = (HubKey { tag: 4, number: 0 }, 1);
     assert!(rt; back == Some((Refusal::Stale, guard)));
     Ok(())
 }
 
 /// The trace and the parent of a context that goes on from the span.
-fn continued(alloc: Global) -> Result<(TraceId, Option<SpanId>), Refusal> {
-    let engine = engine_with_a_span(alloc, 0)?;
+fn continued<P: Drop, C: Callbacks>(
+    alloc: Global,
+    options: ClientOptions<C>,
+) -> Result<(TraceId, Option<SpanId>), Refusal> {
+    let engine: Engine<P, C> = engine_with_a_span(alloc, 0, options)?;
     let context = engine
         .continue_from_span("name", "op", Some(SPAN), fresh())?
         .reply;
@@ -81,14 +95,19 @@ fn continued(alloc: Global) -> Result<(TraceId, Option<SpanId>), Refusal> {
 
 #[test]
 fn a_trace_goes_on_from_a_span(rt: HostRuntime) -> Result<(), Fail> {
+    let found = continued::<Handler, TextCallbacks>(rt.alloc(), options(rt.alloc())?)?;
     let ids = fresh();
-    assert!(rt; continued(rt.alloc())? == (ids.trace_id, Some(ids.span_id)));
+    assert!(rt; found == (ids.trace_id, Some(ids.span_id)));
     Ok(())
 }
 
 /// Why an engine doesn't absorb losses of this label, and the label of those that come back.
-fn unabsorbed(alloc: Global, label: Label) -> Result<Option<(Refusal, Label)>, Refusal> {
-    let mut engine = engine_with_a_span(alloc, 0)?;
+fn unabsorbed<P: Drop, C: Callbacks>(
+    alloc: Global,
+    options: ClientOptions<C>,
+    label: Label,
+) -> Result<Option<(Refusal, Label)>, Refusal> {
+    let mut engine: Engine<P, C> = engine_with_a_span(alloc, 0, options)?;
     let (_recorder, mut drainer) = LossWords::new(alloc, label)?;
     match engine.absorb(drainer.drain()) {
         Ok(_) => Ok(None),
@@ -101,29 +120,38 @@ fn unabsorbed(alloc: Global, label: Label) -> Result<Option<(Refusal, Label)>, R
 
 #[test]
 fn losses_of_another_label_are_handed_back(rt: HostRuntime) -> Result<(), Fail> {
+    let alloc = rt.alloc();
     let (held, other) = (Label { tag: 0, number: 0 }, Label { tag: 0, number: 1 });
-    assert!(rt; unabsorbed(rt.alloc(), held)?.is_none());
-    let back = Some((Refusal::ForeignLosses, other));
-    assert!(rt; unabsorbed(rt.alloc(), other)? == back);
+    let back = unabsorbed::<Handler, TextCallbacks>(alloc, options(alloc)?, held)?;
+    assert!(rt; back.is_none());
+    let back = unabsorbed::<Handler, TextCallbacks>(alloc, options(alloc)?, other)?;
+    assert!(rt; back == Some((Refusal::ForeignLosses, other)));
     Ok(())
 }
 
 /// Whether the first of two calls decided true, and the second was refused as stale.
-fn is_end(answers: &[Answer<Handler, Callbacks>]) -> bool {
+fn is_end<P: Drop, C: Drop>(answers: &[Answer<P, C>]) -> bool {
     match answers {
         [Ok(out), Err(Refusal::Stale)] => matches!(out.reply, Reply::Decision(true)),
         _ => false,
     }
 }
 
-#[test]
-fn a_list_of_calls_answers_one_by_one(rt: HostRuntime) -> Result<(), Fail> {
-    let first: Call<Handler, Callbacks> = Call::Client(ClientCall::SampleShouldSend {
-        rate: SampleRate::new(1_000_000)?,
+/// Whether a list of two such calls is answered so.
+fn run_two<P: EventCallback + Drop, C: Callbacks>(alloc: Global) -> Result<bool, Refusal> {
+    let first: Call<P, C> = Call::Client(ClientCall::SampleShouldSend {
+        rate: SampleRate::all(),
         draw: Draw::new(0).unwrap(),
     });
-    let calls = vec![in rt.alloc(); first, Call::Hub(HubCall::LastEventId(HUB))]?;
-    let (_, answers) = run_calls(rt.alloc(), 0, calls)?;
-    assert!(rt; is_end(answers.as_slice()));
+    let mut calls = Vec::with_capacity(alloc, 2)?;
+    calls.push_reserved(first);
+    calls.push_reserved(Call::Hub(HubCall::LastEventId(HUB)));
+    let (_, answers) = run_calls(alloc, 0, calls)?;
+    Ok(is_end(answers.as_slice()))
+}
+
+#[test]
+fn a_list_of_calls_answers_one_by_one(rt: HostRuntime) -> Result<(), Fail> {
+    assert!(rt; run_two::<Handler, TextCallbacks>(rt.alloc())?);
     Ok(())
 }
