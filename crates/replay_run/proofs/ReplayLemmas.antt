@@ -2,6 +2,7 @@
 use Rattle.std.proofs.Common.{◌≡◌, ◌≢◌, refl, ap, ◌∙◌, sym, subst, ℕ, ◌+◌, ◌-◌, ◌^◌, ◌<◌, arith, List, [], ◌∷◌, ◌++◌, true, false, append_assoc, Ok, Err}
 use Rattle.std.specs.Prelude.{Option, Some, None, min}
 use Rattle.std.specs.Io.KnownBytes.{Appends, Keeps, Consumes}
+use Rattle.sentry_framing.proofs.SendingLemmas.{appends_none, appends_both, appends_kept}
 use Rattle.sentry_plain.specs.Texts.{Bytes}
 use Rattle.sentry_state.specs.Worlds.{Stands, first_world}
 use Rattle.replay_run.specs.declared.command.Command.{Command}
@@ -14,7 +15,6 @@ use Rattle.replay_run.specs.Faults.{ReplayEnd}
 use Rattle.replay_run.specs.Lines.{HasLine, IsOfOneLine, TakesLine, TakesOfOneLine}
 use Rattle.replay_run.specs.Answers.{answer_text}
 use Rattle.replay_run.specs.Replays.{next_number, MayAnswer, Prints, Replays, at_end, after_line, at_bad_line, out_of_memory, at_failed_read, at_failed_write, WritesText, ExecutesLine, Writes}
-use Rattle.replay_run.proofs.WriteLemmas.{appends_none, appends_both, appends_kept}
 
 -- the number of the line after so many
 abbrev pub line_number : ℕ → ℕ

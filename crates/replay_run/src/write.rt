@@ -7,7 +7,7 @@ use crate::fault::ReplayFault;
 use std::io::{ErrorKind, Write};
 
 // Writes some of the bytes by one call, and answers how many that took: none where a signal interrupted it.
-#[tactic(auto, using(crate::proofs::WriteLemmas::appends_kept, crate::proofs::WriteLemmas::keeps_appended))]
+#[tactic(auto, using(sentry_framing::proofs::SendingLemmas::appends_kept, sentry_framing::proofs::SendingLemmas::keeps_appended))]
 fn write_some<W: Write>(writer: &mut W, bytes: &[u8]) -> Result<usize, ReplayFault>
     ensures bound { IfOk result (λ n. n ≤ length bytes.now) }
     ensures written { IfOk result (λ n.
@@ -32,7 +32,7 @@ fn write_some<W: Write>(writer: &mut W, bytes: &[u8]) -> Result<usize, ReplayFau
 /// # Errors
 ///
 /// `InputOutput` where a call fails, or takes nothing. What the calls before it took stays written, once.
-#[tactic(auto, using(crate::proofs::WriteLemmas::nothing_written, crate::proofs::WriteLemmas::all_written, crate::proofs::WriteLemmas::some_written))]
+#[tactic(auto, using(sentry_framing::proofs::SendingLemmas::nothing_written, crate::proofs::WriteLemmas::all_written, crate::proofs::WriteLemmas::some_written))]
 pub fn write_text<W: Write>(writer: &mut W, text: &[u8]) -> Result<(), ReplayFault>
     ensures { WritesText (W.contents writer.old) (W.contents writer.new) text.now result }
 {

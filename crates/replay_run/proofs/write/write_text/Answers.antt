@@ -1,5 +1,6 @@
 use Rattle.std.proofs.lemmas.Result.{err_from_is_err_and}
-use Rattle.replay_run.proofs.WriteLemmas.{failed, more_written}
+use Rattle.sentry_framing.proofs.SendingLemmas.{more_written}
+use Rattle.replay_run.proofs.WriteLemmas.{failed}
 use Rattle.replay_run.proofs.write.write_text.Goals as goal
 
 pub returns-in_err-count : goal.returns-in_err-count

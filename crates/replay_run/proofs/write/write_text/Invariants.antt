@@ -1,4 +1,4 @@
-use Rattle.replay_run.proofs.WriteLemmas.{Progress}
+use Rattle.sentry_framing.proofs.SendingLemmas.{Progress}
 use Rattle.replay_run.proofs.write.write_text.Given as goal
 
 -- what was written, and then what is left, is the text
