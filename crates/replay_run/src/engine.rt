@@ -10,10 +10,13 @@ use sentry_plain::{Boxed, Few, Items, Text};
 use sentry_trace::performance::TransactionContext;
 use std::alloc::{AllocError, Global};
 
+/// An engine on which no code of a user runs.
 pub type ReplayEngine = Engine<NoProcessor, NoCallbacks>;
 
+/// A call of such an engine, with its arguments.
 pub type ReplayCall = Call<NoProcessor, NoCallbacks>;
 
+/// What a call answers: its reply and envelopes, or why it was refused.
 pub type ReplayAnswer = Answer<NoProcessor, NoCallbacks>;
 
 /// An event processor that gives each event back. No scope of this program gets one.
