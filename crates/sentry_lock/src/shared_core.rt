@@ -172,24 +172,15 @@ impl<L: CoreLock> SharedCore<L> {
         self.lock().under.core.push_scope(hub)
     }
 
-    fn scope_popped(
-        &self,
-        guard: ScopeGuard,
-        now: u64,
-    ) -> Result<Handed<(), L::Transport>, (Refusal, ScopeGuard)> {
-        let mut held = self.lock();
-        let core = &mut held.under.core;
-        core.pop_scope(guard, now)
-    }
-
     /// Removes the layer that a guard stands for. `now` is the moment in nanoseconds since the epoch. Each refusal hands
     /// the guard back.
     ///
     /// `Stale`: the hub isn't held. `OutOfOrder`: the guard's layer isn't the top one, or is the only one.
     /// `OutOfMemory`.
     pub fn pop_scope(&self, guard: ScopeGuard, now: u64) -> Result<(), (Refusal, ScopeGuard)> {
-        let handed = self.scope_popped(guard, now)?;
-        handed.deliver();
-        Ok(())
+        let mut held = self.lock();
+        let handed = held.under.core.pop_scope(guard, now)?;
+        drop(held);
+        Ok(handed.deliver())
     }
 }
