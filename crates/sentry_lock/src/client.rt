@@ -182,18 +182,6 @@ impl<L: CoreLock> Client<L> {
             .prepare_event(self.key, event, scope, fresh)
     }
 
-    // The lock is free again when it returns, as when each of the next does.
-    fn event_captured(
-        &self,
-        event: Event,
-        scope: Option<&Scope<L::Processor>>,
-        fresh: Fresh,
-    ) -> Result<Handed<Uuid, L::Transport>, Refusal> {
-        let mut guard = self.core.lock();
-        let core = &mut guard.under.core;
-        core.client_capture_event(self.key, event, scope, fresh)
-    }
-
     /// Captures an event under a scope, if one is given. Its id is the reply; the nil id if it was not sent.
     ///
     /// `Stale`: the client isn't held, or the span of the scope isn't. `OutOfMemory`.
@@ -203,38 +191,22 @@ impl<L: CoreLock> Client<L> {
         scope: Option<&Scope<L::Processor>>,
         fresh: Fresh,
     ) -> Result<Uuid, Refusal> {
-        let handed = self.event_captured(event, scope, fresh)?;
-        Ok(handed.deliver())
-    }
-
-    fn log_captured(
-        &self,
-        log: Log,
-        scope: &Scope<L::Processor>,
-    ) -> Result<Handed<(), L::Transport>, Refusal> {
         let mut guard = self.core.lock();
         let core = &mut guard.under.core;
-        core.client_capture_log(self.key, log, scope)
+        let handed = core.client_capture_event(self.key, event, scope, fresh)?;
+        drop(guard);
+        Ok(handed.deliver())
     }
 
     /// Captures a log under a scope.
     ///
     /// `Stale`: the client isn't held, or the span of the scope isn't. `OutOfMemory`.
     pub fn capture_log(&self, log: Log, scope: &Scope<L::Processor>) -> Result<(), Refusal> {
-        let handed = self.log_captured(log, scope)?;
-        handed.deliver();
-        Ok(())
-    }
-
-    fn metric_captured<M: IntoProtocolMetric>(
-        &self,
-        metric: M,
-        scope: &Scope<L::Processor>,
-        now: u64,
-    ) -> Result<Handed<(), L::Transport>, Refusal> {
         let mut guard = self.core.lock();
         let core = &mut guard.under.core;
-        core.client_capture_metric(self.key, metric.into_draft(), scope, now)
+        let handed = core.client_capture_log(self.key, log, scope)?;
+        drop(guard);
+        Ok(handed.deliver())
     }
 
     /// Captures a metric under a scope. `now` is its moment in nanoseconds since the epoch.
@@ -246,9 +218,12 @@ impl<L: CoreLock> Client<L> {
         scope: &Scope<L::Processor>,
         now: u64,
     ) -> Result<(), Refusal> {
-        let handed = self.metric_captured(metric, scope, now)?;
-        handed.deliver();
-        Ok(())
+        let draft = metric.into_draft();
+        let mut guard = self.core.lock();
+        let core = &mut guard.under.core;
+        let handed = core.client_capture_metric(self.key, draft, scope, now)?;
+        drop(guard);
+        Ok(handed.deliver())
     }
 
     /// Sends an envelope, with the pending report as its last item. Without a transport nothing is sent.
@@ -269,28 +244,18 @@ impl<L: CoreLock> Client<L> {
         Ok(())
     }
 
-    fn flushed(&self) -> Result<(Handed<(), L::Transport>, Option<u64>), Refusal> {
-        let mut guard = self.core.lock();
-        let core = &mut guard.under.core;
-        let option = core.engine().shutdown_timeout(self.key);
-        Ok((core.flush(self.key)?, option))
-    }
-
     /// Sends what waits in the queues, and then calls the transport's `flush`, once, with the timeout, in nanoseconds,
     /// or with the option `shutdown_timeout` if none is given. Answers what that gave; true if the client has no
     /// transport, or was closed.
     ///
     /// `Stale`: the client isn't held. `OutOfMemory`.
     pub fn flush(&self, timeout: Option<u64>) -> Result<bool, Refusal> {
-        let (handed, option) = self.flushed()?;
-        Ok(self.ended(handed, option, timeout, Ending::Flush))
-    }
-
-    fn closed(&self) -> Result<(Handed<(), L::Transport>, Option<u64>), Refusal> {
         let mut guard = self.core.lock();
         let core = &mut guard.under.core;
         let option = core.engine().shutdown_timeout(self.key);
-        Ok((core.close(self.key)?, option))
+        let handed = core.flush(self.key)?;
+        drop(guard);
+        Ok(self.ended(handed, option, timeout, Ending::Flush))
     }
 
     /// Closes the client: what waits in its queues is sent, and nothing comes to them any more. Then it calls the
@@ -300,7 +265,11 @@ impl<L: CoreLock> Client<L> {
     ///
     /// `Stale`: the client isn't held. `OutOfMemory`.
     pub fn close(&self, timeout: Option<u64>) -> Result<bool, Refusal> {
-        let (handed, option) = self.closed()?;
+        let mut guard = self.core.lock();
+        let core = &mut guard.under.core;
+        let option = core.engine().shutdown_timeout(self.key);
+        let handed = core.close(self.key)?;
+        drop(guard);
         Ok(self.ended(handed, option, timeout, Ending::Shutdown))
     }
 
