@@ -2,6 +2,7 @@
 use Rattle.std.proofs.Common.{◌≡◌, refl, ℕ, true}
 use Rattle.std.specs.Prelude.{Option}
 use Rattle.sentry_base.specs.Callbacks.{Partial}
+use Rattle.sentry_base.specs.declared.protocol.envelope.Envelope.{Envelope}
 use Rattle.sentry_base.specs.declared.protocol.event.Event.{Event}
 use Rattle.sentry_base.specs.declared.protocol.fresh.Fresh.{Fresh}
 use Rattle.sentry_base.specs.declared.protocol.keys.ClientKey.{ClientKey}
@@ -47,6 +48,28 @@ module _ {P C : Type 0} (gives : P → Partial) (meanings : C → Meanings) wher
       → KeepsBooks world.books (clients.flush client world).after.books
   unfolding client_step
   flush_keeps client world = call_keeps gives meanings (group.Client (on_client.Flush client)) world refl
+
+  pub tick_keeps : (client : ClientKey) (now : ℕ) (world : World P C)
+      → KeepsBooks world.books (clients.tick client now world).after.books
+  unfolding client_step
+  tick_keeps client now world = call_keeps gives meanings (group.Client (on_client.Tick client now)) world refl
+
+  pub send_envelope_keeps : (client : ClientKey) (envelope : Envelope) (world : World P C)
+      → KeepsBooks world.books (clients.send_envelope client envelope world).after.books
+  unfolding client_step
+  send_envelope_keeps client envelope world =
+      call_keeps gives meanings (group.Client (on_client.SendEnvelope client envelope)) world refl
+
+  pub clone_client_keeps : (client : ClientKey) (now : ℕ) (world : World P C)
+      → KeepsBooks world.books (clients.clone_client client now world).after.books
+  unfolding client_step
+  clone_client_keeps client now world =
+      call_keeps gives meanings (group.Client (on_client.CloneClient client now)) world refl
+
+  pub drop_client_keeps : (client : ClientKey) (world : World P C)
+      → KeepsBooks world.books (clients.drop_client client world).after.books
+  unfolding client_step
+  drop_client_keeps client world = call_keeps gives meanings (group.Client (on_client.DropClient client)) world refl
 
   pub close_keeps : (client : ClientKey) (world : World P C)
       → KeepsBooks world.books (clients.close client world).after.books

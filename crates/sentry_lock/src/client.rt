@@ -1,8 +1,7 @@
 //! A client: its key, and a share of the core that holds it.
-ghost use Rattle.std.specs.Prelude.{◌≡◌, IfOk, Ok, nat_lt, true};
+ghost use Rattle.std.specs.Prelude.{◌≡◌, IfOk, Ok, nat_lt};
 ghost use Rattle.std.specs.Option.{is_some};
 ghost use Rattle.sentry_base.specs.Losses.{no_losses};
-ghost use Rattle.sentry_lock.specs.ValueCalls.{is_ordinary_client_call};
 
 mod setup;
 
@@ -14,7 +13,6 @@ use sentry_base::protocol::{
 };
 use sentry_batches::metrics::IntoProtocolMetric;
 use sentry_client_reports::client_reports::CountedDrainer;
-use sentry_engine::call::{Call, ClientCall, Reply};
 use sentry_options::clientoptions::ClientOptions;
 use sentry_plain::{Boxed, Shared};
 use sentry_scope::scope::Scope;
@@ -230,18 +228,10 @@ impl<L: CoreLock> Client<L> {
     ///
     /// `Stale`: the client isn't held. `OutOfMemory`.
     pub fn send_envelope(&self, envelope: Envelope) -> Result<(), Refusal> {
-        self.done(ClientCall::SendEnvelope {
-            client: self.key,
-            envelope,
-        })
-    }
-
-    // A call whose reply says no more than that it is done.
-    fn done(&self, call: ClientCall<L::Processor, L::Callbacks>) -> Result<(), Refusal>
-        requires { is_ordinary_client_call call ≡ true }
-    {
-        drop(self.core.call(Call::Client(call))?);
-        Ok(())
+        let mut guard = self.core.lock();
+        let handed = guard.under.core.send_envelope(self.key, envelope)?;
+        drop(guard);
+        Ok(handed.deliver())
     }
 
     /// Sends what waits in the queues, and then calls the transport's `flush`, once, with the timeout, in nanoseconds,
@@ -295,10 +285,10 @@ impl<L: CoreLock> Client<L> {
     ///
     /// `Stale`: the client isn't held. `OutOfMemory`.
     pub fn tick(&self, now: u64) -> Result<(), Refusal> {
-        self.done(ClientCall::Tick {
-            client: self.key,
-            now,
-        })
+        let mut guard = self.core.lock();
+        let handed = guard.under.core.tick(self.key, now)?;
+        drop(guard);
+        Ok(handed.deliver())
     }
 
     /// Adds a client with the options, the label and the transport of this one. `now` is the moment in nanoseconds since
@@ -307,15 +297,8 @@ impl<L: CoreLock> Client<L> {
     /// `Stale`: the client isn't held. `Full`: the numbers are used up. `OutOfMemory`.
     pub fn clone_client(&self, now: u64) -> Result<Client<L>, Refusal> {
         let core = self.core.clone()?;
-        let call = ClientCall::CloneClient {
-            client: self.key,
-            now,
-        };
-        match self.core.call(Call::Client(call))? {
-            Reply::Client(key) => Ok(Client { core, key }),
-            // No call that makes a client replies otherwise.
-            _ => Err(Refusal::Stale),
-        }
+        let key = self.core.lock().under.core.clone_client(self.key, now)?;
+        Ok(Client { core, key })
     }
 
     /// Gives the client back, which no layer of a hub names and under which no session and no transaction goes on. What
@@ -326,6 +309,9 @@ impl<L: CoreLock> Client<L> {
     pub fn drop_client(&self) -> Result<(), Refusal> {
         // By this share the callbacks are dropped without the lock.
         let _options = self.options()?;
-        self.done(ClientCall::DropClient(self.key))
+        let mut guard = self.core.lock();
+        let handed = guard.under.core.drop_client(self.key)?;
+        drop(guard);
+        Ok(handed.deliver())
     }
 }

@@ -8,10 +8,12 @@ ghost use Rattle.sentry_plain.specs.Tables.{value_at, put, replace_at};
 ghost use Rattle.sentry_state.specs.Books.{has_book};
 ghost use Rattle.sentry_state.specs.Outcomes.{Does};
 ghost use Rattle.sentry_state.specs.Worlds.{World, Stands};
+ghost use Rattle.sentry_state.specs.declared.state.State.{State};
+ghost use Rattle.sentry_lock.specs.Locked.{DrainsAll, ForgetsDropped, Replies};
 ghost use Rattle.sentry_lock.specs.ValueCalls.{dropped_label};
-ghost use Rattle.sentry_lock.specs.Words.{AddsDrainer};
+ghost use Rattle.sentry_lock.specs.Words.{AddsDrainer, Drainers};
 
-use crate::handed::{Routes, Transports};
+use crate::handed::{Handed, Routes, Transports};
 use crate::locked::Core;
 use sentry_base::callbacks::EventCallback;
 use sentry_base::protocol::{ClientKey, Label, Refusal};
@@ -190,5 +192,42 @@ impl<P: EventCallback + Drop, C: Callbacks, T: Drop> Core<P, C, T> {
         let out = self.add_at_place(options, has_transport, label, drainer, now)?;
         self.routes = Routes::by(transports);
         Ok(out)
+    }
+
+    /// Adds a client with the options, the label and the transport of another one, and answers its key.
+    pub(crate) fn clone_client(&mut self, client: ClientKey, now: u64) -> Result<ClientKey, Refusal>
+        ensures done { IfOk result (λ reply. Replies self.old.engine self.new.engine reply
+            (clients.clone_client client now)) }
+        ensures refused { IfErr result (λ _. self.new.engine ≡ self.old.engine) }
+        ensures drainers { self.new.drainers ≡ self.old.drainers }
+    {
+        let share = share_at(&self.routes.transports, client.number)?;
+        let number = self.engine.next_client();
+        let transports = with_transport(self.alloc, &self.routes.transports, number, share)?;
+        let out = self.engine.clone_client(client, now)?;
+        self.routes = Routes::by(transports);
+        Ok(out.reply)
+    }
+
+    /// Gives a client back, with its transport, and with the drainer of its label unless another client names that.
+    pub(crate) fn drop_client(&mut self, client: ClientKey) -> Result<Handed<(), T>, Refusal>
+        ensures done { IfOk result (λ handed. (between : State P C) × (drained : Drainers)
+            × DrainsAll self.old.tag self.old.engine between self.old.drainers drained
+            × Does between self.new.engine (Ok handed.out) (clients.drop_client client)
+            × ForgetsDropped (Call.Client (ClientCall.DropClient client)) between self.new.engine drained
+            self.new.drainers) }
+        ensures refused { IfErr result (λ _.
+            DrainsAll self.old.tag self.old.engine self.new.engine self.old.drainers self.new.drainers) }
+    {
+        let transports = self.drained()?;
+        let left = without_transport(self.alloc, &self.routes.transports, client.number)?;
+        let label = self.engine.client_label(client);
+        let out = self.engine.drop_client(client)?;
+        self.routes = Routes::by(left);
+        self.forget_dropped(label);
+        Ok(Handed {
+            out,
+            transports: Some(transports),
+        })
     }
 }

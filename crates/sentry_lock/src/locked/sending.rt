@@ -10,7 +10,9 @@ ghost use Rattle.sentry_lock.specs.Locked.{DrainsAll, DrainsAndDoes, Replies};
 use crate::handed::Handed;
 use crate::locked::Core;
 use sentry_base::callbacks::EventCallback;
-use sentry_base::protocol::{ClientKey, Event, Fresh, HubKey, Log, MetricDraft, Refusal, Uuid};
+use sentry_base::protocol::{
+    ClientKey, Envelope, Event, Fresh, HubKey, Log, MetricDraft, Refusal, Uuid,
+};
 use sentry_engine::engine::ScopeGuard;
 use sentry_options::clientoptions::Callbacks;
 use sentry_plain::Boxed;
@@ -100,6 +102,25 @@ impl<P: EventCallback + Drop, C: Callbacks, T: Drop> Core<P, C, T> {
         })
     }
 
+    /// Sends an envelope of a client.
+    pub(crate) fn send_envelope(
+        &mut self,
+        client: ClientKey,
+        envelope: Envelope,
+    ) -> Result<Handed<(), T>, Refusal>
+        ensures done { IfOk result (λ handed. DrainsAndDoes self.old.tag self.old.engine self.new.engine
+            self.old.drainers self.new.drainers (Ok handed.out) (clients.send_envelope client envelope)) }
+        ensures refused { IfErr result (λ _.
+            DrainsAll self.old.tag self.old.engine self.new.engine self.old.drainers self.new.drainers) }
+    {
+        let transports = self.drained()?;
+        let out = self.engine.send_envelope(client, envelope)?;
+        Ok(Handed {
+            out,
+            transports: Some(transports),
+        })
+    }
+
     /// Flushes the queues of a client.
     pub(crate) fn flush(&mut self, client: ClientKey) -> Result<Handed<(), T>, Refusal>
         ensures done { IfOk result (λ handed. DrainsAndDoes self.old.tag self.old.engine self.new.engine
@@ -109,6 +130,21 @@ impl<P: EventCallback + Drop, C: Callbacks, T: Drop> Core<P, C, T> {
     {
         let transports = self.drained()?;
         let out = self.engine.flush(client)?;
+        Ok(Handed {
+            out,
+            transports: Some(transports),
+        })
+    }
+
+    /// Tells a client the moment.
+    pub(crate) fn tick(&mut self, client: ClientKey, now: u64) -> Result<Handed<(), T>, Refusal>
+        ensures done { IfOk result (λ handed. DrainsAndDoes self.old.tag self.old.engine self.new.engine
+            self.old.drainers self.new.drainers (Ok handed.out) (clients.tick client now)) }
+        ensures refused { IfErr result (λ _.
+            DrainsAll self.old.tag self.old.engine self.new.engine self.old.drainers self.new.drainers) }
+    {
+        let transports = self.drained()?;
+        let out = self.engine.tick(client, now)?;
         Ok(Handed {
             out,
             transports: Some(transports),
