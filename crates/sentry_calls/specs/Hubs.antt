@@ -23,6 +23,7 @@ use Rattle.sentry_events.specs.Captures.{message_event, capture_event}
 use Rattle.sentry_sending.specs.SessionEnds.{release_session}
 use Rattle.sentry_state.specs.Changes.{next_hub_key, with_new_hub}
 use Rattle.sentry_hub_table.specs.Hubs.{with_session, with_scope}
+use Rattle.sentry_hub_table.specs.declared.hub.Hub.{Hub}
 use Rattle.sentry_state.specs.Clients.{is_enabled_client}
 use Rattle.sentry_span_table.specs.SpanTables.{is_held}
 use Rattle.sentry_span_edits.specs.Setters.{with_edited}
