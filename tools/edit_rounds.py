@@ -12,7 +12,7 @@ from edit_files import pairs_of, read
 ERROR = re.compile(r"^(src/\S+\.rt):(\d+):\d+: error", re.M)
 # A function that isn't proved, by its path, and why not.
 UNPROVED = re.compile(r"^fn (\S+): (?!proved$)(.*)$", re.M)
-CALLS_UNPROVED = re.compile(r"no proof: it calls `[^`]*`, which is not proved$")
+CALLS_UNPROVED = re.compile(r"which (is|are) not proved")
 NOT_PROVED = re.compile(r"^note: (src/\S+\.rt):(\d+):\d+: (it is not proved .*)$", re.M)
 
 
@@ -87,7 +87,7 @@ def refused_of(crate, tried, said):
         notes.setdefault(edit_at(crate, tried, file, int(line)), f"{file}:{line}: {what}")
     refused = {}
     for function, why in UNPROVED.findall(said):
-        if CALLS_UNPROVED.match(why):
+        if CALLS_UNPROVED.search(why):
             continue
         found = edits_of(crate, tried, function)
         if len(found) != 1:
