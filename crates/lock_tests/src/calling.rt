@@ -1,9 +1,8 @@
 //! A transport during whose calls another thread makes a call on the same client: the lock is free then.
-use crate::workshop::{Held, Lock, event, fresh, options};
-use sentry_base::protocol::{Envelope, Log, LogLevel, Refusal, SpanId, TraceId};
+use crate::workshop::{Held, capture_log, event, fresh, options};
+use sentry_base::protocol::{Envelope, Refusal};
 use sentry_lock::client::Client;
-use sentry_lock::core_lock::{Gate, Waiting};
-use sentry_scope::scope::Scope;
+use sentry_lock::core_lock::CoreLock;
 use sentry_transport::transport::Transport;
 use std::alloc::Global;
 use std::sync::{Arc, Mutex, Wait};
@@ -84,24 +83,15 @@ impl<R: Wait + Drop> Transport for Asks<R> {
     }
 }
 
-fn capture_log<T: Transport + Drop, W: Gate + Drop>(
-    alloc: Global,
-    client: &Client<Lock<T, W>>,
-) -> Result<(), Refusal> {
-    let scope = Scope::new(alloc, TraceId([1; 16]), SpanId([2; 8]));
-    client.capture_log(Log::new(alloc, LogLevel::Info, "waits", 1)?, &scope)
-}
-
 /// Captures a log on the client for each call of its transport, until no more come.
-fn answer_all<R: Wait + Drop, T: Transport + Drop, W: Gate + Drop>(
-    alloc: Global,
-    client: &Client<Lock<T, W>>,
+fn answer_all<R: Wait + Drop, L: CoreLock>(
+    client: &Client<L>,
     asks: &Asks<R>,
 ) -> Result<(), Refusal> {
     for _ in asks.rt.forever() {
         let turns = asks.turns();
         if turns.answered < turns.begun {
-            capture_log(alloc, client)?;
+            capture_log(client)?;
             asks.answer();
         } else if turns.is_over {
             return Ok(());
@@ -112,12 +102,12 @@ fn answer_all<R: Wait + Drop, T: Transport + Drop, W: Gate + Drop>(
 }
 
 /// Sends an event, flushes and closes.
-fn call_all<R: Wait + Drop, T: Transport + Drop, W: Gate + Drop>(
-    alloc: Global,
-    client: &Client<Lock<T, W>>,
+fn call_all<R: Wait + Drop, L: CoreLock>(
+    client: &Client<L>,
     asks: &Asks<R>,
 ) -> Result<[bool; 2], Refusal> {
-    client.capture_event(event(alloc, 1)?, None, fresh(1))?;
+    let event = event(client.core().allocator(), 1)?;
+    client.capture_event(event, None, fresh(1))?;
     let is_flushed = client.flush(Some(1))?;
     let is_closed = client.close(Some(1))?;
     asks.end();
@@ -125,21 +115,17 @@ fn call_all<R: Wait + Drop, T: Transport + Drop, W: Gate + Drop>(
 }
 
 /// Does so while another thread answers.
-fn call_in_two_threads<
-    R: Threads + Wait + Sync + Drop,
-    T: Transport + Drop + Send + Sync,
-    W: Gate + Drop + Send + Sync,
->(
+fn call_in_two_threads<R: Threads + Wait + Sync + Drop, L: CoreLock + Send + Sync + 'static>(
     rt: &R,
-    alloc: Global,
-    client: &Client<Lock<T, W>>,
+    client: &Client<L>,
     asks: &Asks<R>,
-) -> Result<[bool; 2], Refusal> {
-    let (ended, answered) = join(
-        rt,
-        || call_all(alloc, client, asks),
-        || answer_all(alloc, client, asks),
-    );
+) -> Result<[bool; 2], Refusal>
+where
+    L::Processor: Send + Sync + 'static,
+    L::Callbacks: Send + Sync + 'static,
+    L::Transport: Send + Sync + 'static,
+{
+    let (ended, answered) = join(rt, || call_all(client, asks), || answer_all(client, asks));
     answered?;
     ended
 }
@@ -149,8 +135,9 @@ fn a_transport_is_called_without_the_lock(rt: HostRuntime) -> Result<(), Fail> {
     let alloc: Global = rt.alloc();
     let asks = Arc::new(alloc, Asks::new(rt))?;
     let transport = Some(asks.clone()?);
-    let held = Held::new(Waiting(rt), alloc, options(alloc, false)?, transport)?;
-    assert!(rt; call_in_two_threads(&rt, alloc, &held.client, &asks)? == [true; 2]);
+    let held = Held::new(rt, alloc, options(alloc, false)?, transport)?;
+    let answers = call_in_two_threads(&rt, &held.client, &asks)?;
+    assert!(rt; answers == [true; 2]);
     // an event, the log that came meanwhile, a flush, the log of that, and a shutdown
     assert!(rt; asks.turns().answered == 5);
     Ok(())

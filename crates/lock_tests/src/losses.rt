@@ -1,17 +1,15 @@
 //! Losses of one client: what is drained, what a report tells, and how the words end.
-use crate::workshop::{Held, Lock, Notebook, Options, event, fresh, options};
+use crate::workshop::{Held, Notebook, event, fresh, options};
 use sentry_base::protocol::{ClientKey, Envelope, Refusal};
-use sentry_lock::core_lock::{Gate, Waiting};
-use sentry_transport::transport::Transport;
+use sentry_lock::core_lock::CoreLock;
+use sentry_options::clientoptions::ClientOptions;
 use std::alloc::Global;
 use std::sync::Arc;
 use std::test::Fail;
 
 /// What comes of a loss while the recorder is held: whether the words are closed, how many errors are pending, how many
 /// are drained then, and how many are pending after that.
-fn lose_while_held<T: Transport + Drop, W: Gate + Drop>(
-    held: &mut Held<Lock<T, W>>,
-) -> Result<(bool, [u64; 3]), Refusal> {
+fn lose_while_held<L: CoreLock>(held: &mut Held<L>) -> Result<(bool, [u64; 3]), Refusal> {
     let is_closed = held.close_losses()?;
     held.lose_error();
     let before = held.pending()?;
@@ -24,9 +22,7 @@ fn lose_while_held<T: Transport + Drop, W: Gate + Drop>(
 
 /// What comes of one more when the recorder is let go: whether the words are closed then, and how many errors are
 /// pending; and both once more.
-fn lose_and_let_go<T: Transport + Drop, W: Gate + Drop>(
-    held: &mut Held<Lock<T, W>>,
-) -> Result<[(bool, u64); 2], Refusal> {
+fn lose_and_let_go<L: CoreLock>(held: &mut Held<L>) -> Result<[(bool, u64); 2], Refusal> {
     held.lose_error();
     held.recorder = None;
     let first = (held.close_losses()?, held.pending()?);
@@ -37,21 +33,21 @@ fn lose_and_let_go<T: Transport + Drop, W: Gate + Drop>(
 fn words_stay_open_while_a_recorder_is_held(rt: HostRuntime) -> Result<(), Fail> {
     let alloc: Global = rt.alloc();
     let transport: Option<Arc<Notebook<HostRuntime>>> = None;
-    let mut held = Held::new(Waiting(rt), alloc, options(alloc, false)?, transport)?;
-    let found = lose_while_held(&mut held)?;
-    assert!(rt; found == (false, [0, 1, 1]));
+    let mut held = Held::new(rt, alloc, options(alloc, false)?, transport)?;
+    let before = lose_while_held(&mut held)?;
+    let after = lose_and_let_go(&mut held)?;
+    assert!(rt; before == (false, [0, 1, 1]));
     // a second time nothing is left to end
-    assert!(rt; lose_and_let_go(&mut held)? == [(true, 1), (true, 0)]);
+    assert!(rt; after == [(true, 1), (true, 0)]);
     Ok(())
 }
 
 /// Why a capture is refused after a loss, and a flush of a client that isn't there after another one; and how many
 /// errors are pending before them, after the first and after the second.
-fn lose_before_refused_calls<T: Transport + Drop, W: Gate + Drop>(
-    alloc: Global,
-    held: &mut Held<Lock<T, W>>,
+fn lose_before_refused_calls<L: CoreLock>(
+    held: &mut Held<L>,
 ) -> Result<([Option<Refusal>; 2], [u64; 3]), Refusal> {
-    let event = event(alloc, 1)?;
+    let event = event(held.client.core().allocator(), 1)?;
     held.lose_error();
     let before = held.pending()?;
     let starved = held.client.capture_event(event, None, fresh(1)).err();
@@ -65,10 +61,8 @@ fn lose_before_refused_calls<T: Transport + Drop, W: Gate + Drop>(
 #[test]
 fn what_was_drained_stays_absorbed_if_the_call_is_refused(rt: HostRuntime) -> Result<(), Fail> {
     let alloc: Global = rt.alloc();
-    let notebook = Arc::new(alloc, Notebook::new(rt, alloc, true))?;
-    let transport = Some(notebook.clone()?);
-    let mut held = Held::new(Waiting(rt), alloc, options(alloc, true)?, transport)?;
-    let (refusals, errors) = lose_before_refused_calls(alloc, &mut held)?;
+    let (mut held, notebook) = Held::noted(rt, alloc, options(alloc, true)?, true)?;
+    let (refusals, errors) = lose_before_refused_calls(&mut held)?;
     assert!(rt; refusals == [Some(Refusal::OutOfMemory), Some(Refusal::Stale)]);
     assert!(rt; errors == [0, 1, 1]);
     assert!(rt; notebook.take(alloc).asked.is_empty());
@@ -77,22 +71,22 @@ fn what_was_drained_stays_absorbed_if_the_call_is_refused(rt: HostRuntime) -> Re
 
 /// Drops a client, whose transport then loses an error. Answers what a flush of another client of the core does, after
 /// an envelope of that one.
-fn drop_and_lose<T: Transport + Drop, W: Gate + Drop>(
-    alloc: Global,
-    held: &mut Held<Lock<T, W>>,
-    options: Options,
-    transport: T,
+fn drop_and_lose<L: CoreLock>(
+    held: &mut Held<L>,
+    options: ClientOptions<L::Callbacks>,
+    transport: L::Transport,
 ) -> Result<bool, Refusal> {
     let core = held.client.core();
+    let empty = Envelope::new(core.allocator());
     let other = Held::on(core, options, Some(transport))?;
     held.client.drop_client()?;
     held.lose_error();
-    other.client.send_envelope(Envelope::new(alloc))?;
+    other.client.send_envelope(empty)?;
     other.client.flush(None)
 }
 
 /// Why the calls on the losses of a client are refused.
-fn refusals<T: Transport + Drop, W: Gate + Drop>(held: &Held<Lock<T, W>>) -> [Option<Refusal>; 3] {
+fn refusals<L: CoreLock>(held: &Held<L>) -> [Option<Refusal>; 3] {
     let mut guard = held.client.core().lock();
     let core = &mut guard.under.core;
     [
@@ -105,12 +99,9 @@ fn refusals<T: Transport + Drop, W: Gate + Drop>(held: &Held<Lock<T, W>>) -> [Op
 #[test]
 fn the_losses_of_a_dropped_client_reach_no_report(rt: HostRuntime) -> Result<(), Fail> {
     let alloc: Global = rt.alloc();
-    let notebook = Arc::new(alloc, Notebook::new(rt, alloc, true))?;
-    let transport = Some(notebook.clone()?);
-    let mut held = Held::new(Waiting(rt), alloc, options(alloc, false)?, transport)?;
-    let (others, transport) = (options(alloc, false)?, notebook.clone()?);
-    assert!(rt; drop_and_lose(alloc, &mut held, others, transport)?);
-    assert!(rt; notebook.take(alloc).errors_told == 0);
+    let (mut held, notebook) = Held::noted(rt, alloc, options(alloc, false)?, true)?;
+    let is_flushed = drop_and_lose(&mut held, options(alloc, false)?, notebook.clone()?)?;
+    assert!(rt; is_flushed && notebook.take(alloc).errors_told == 0);
     assert!(rt; refusals(&held) == [Some(Refusal::ForeignLosses); 3]);
     Ok(())
 }

@@ -1,13 +1,14 @@
 //! What reaches a transport, and what it answers.
 ghost use Rattle.std.specs.Prelude.{◌≡◌, ◌∷◌, [], IfOk};
 
-use crate::quiet::{Passes, Quiet};
-use crate::workshop::{Held, Lock, Note, Notebook, Options, event, options};
+use crate::quiet::Quiet;
+use crate::workshop::{Held, Lock, Note, Options, event, options};
 use sentry_base::protocol::{Envelope, EnvelopeItem, Refusal};
 use sentry_engine::call::{Call, ClientCall};
 use sentry_lock::client::Client;
 use sentry_lock::core_lock::{CoreLock, Waiting};
 use sentry_lock::shared_core::SharedCore;
+use sentry_options::clientoptions::ClientOptions;
 use sentry_plain::Boxed;
 use sentry_transport::transport::{
     BoxedTransport, NoOpTransport, Transport, TransportFactory, TransportOptions,
@@ -31,8 +32,9 @@ fn flush_and_close<L: CoreLock>(client: &Client<L>) -> Result<[bool; 5], Refusal
 fn without_a_transport_flush_and_close_are_true(rt: HostRuntime) -> Result<(), Fail> {
     let alloc: Global = rt.alloc();
     let transport: Option<Arc<NoOpTransport>> = None;
-    let held = Held::new(Waiting(rt), alloc, options(alloc, false)?, transport)?;
-    assert!(rt; flush_and_close(&held.client)? == [true; 5]);
+    let held = Held::new(rt, alloc, options(alloc, false)?, transport)?;
+    let answers = flush_and_close(&held.client)?;
+    assert!(rt; answers == [true; 5]);
     assert!(rt; !held.client.is_enabled()?);
     Ok(())
 }
@@ -40,10 +42,8 @@ fn without_a_transport_flush_and_close_are_true(rt: HostRuntime) -> Result<(), F
 #[test]
 fn the_answers_of_a_shared_transport_are_handed_on(rt: HostRuntime) -> Result<(), Fail> {
     let alloc: Global = rt.alloc();
-    let notebook = Arc::new(alloc, Notebook::new(rt, alloc, false))?;
-    let transport = Some(notebook.clone()?);
     let options = options(alloc, false)?.shutdown_timeout(5);
-    let held = Held::new(Waiting(rt), alloc, options, transport)?;
+    let (held, notebook) = Held::noted(rt, alloc, options, false)?;
     let answers = flush_and_close(&held.client)?;
     // the slot of the client is empty once it was closed
     assert!(rt; answers == [false, false, false, true, true]);
@@ -70,7 +70,8 @@ fn both<P: Drop, C: Drop>(
 }
 
 /// Sends an envelope with the number 1 and one with the number 2, by two calls in one hold of the lock.
-fn send_both<L: CoreLock>(alloc: Global, client: &Client<L>) -> Result<(), Refusal> {
+fn send_both<L: CoreLock>(client: &Client<L>) -> Result<(), Refusal> {
+    let alloc = client.core().allocator();
     let (first, second) = (envelope(alloc, 1)?, envelope(alloc, 2)?);
     let client_key = client.key();
     let first = Call::Client(ClientCall::SendEnvelope {
@@ -88,10 +89,8 @@ fn send_both<L: CoreLock>(alloc: Global, client: &Client<L>) -> Result<(), Refus
 #[test]
 fn a_list_of_calls_reaches_the_transport_in_order(rt: HostRuntime) -> Result<(), Fail> {
     let alloc: Global = rt.alloc();
-    let notebook = Arc::new(alloc, Notebook::new(rt, alloc, true))?;
-    let transport = Some(notebook.clone()?);
-    let held = Held::new(Waiting(rt), alloc, options(alloc, false)?, transport)?;
-    send_both(alloc, &held.client)?;
+    let (held, notebook) = Held::noted(rt, alloc, options(alloc, false)?, true)?;
+    send_both(&held.client)?;
     let expected = [Note::Send(1), Note::Send(2)];
     assert!(rt; notebook.take(alloc).asked.as_slice() == expected.as_slice());
     Ok(())
@@ -133,23 +132,34 @@ fn create(
     Ok((has_recorder, transport.flush(1)))
 }
 
+/// The same of the options that the setup of a client gives for its transport, and whether it gives any a second time;
+/// `None` if it gives none.
+fn create_of<L: CoreLock>(
+    core: &SharedCore<L>,
+    options: ClientOptions<L::Callbacks>,
+    factory: &Arc<NoOpTransport>,
+) -> Result<Option<((bool, bool), bool)>, Refusal> {
+    let mut setup = core.client_setup(options)?;
+    let Some(made) = setup.transport_options()? else {
+        return Ok(None);
+    };
+    let created = create(factory, made)?;
+    Ok(Some((created, setup.transport_options()?.is_some())))
+}
+
 #[test]
 fn a_setup_gives_the_options_of_its_transport_once(rt: HostRuntime) -> Result<(), Fail> {
     let alloc: Global = rt.alloc();
-    let core: SharedCore<Lock<Arc<NoOpTransport>, Waiting<HostRuntime>>> = SharedCore::new(
+    let factory = Arc::new(alloc, NoOpTransport)?;
+    let core: SharedCore<Lock<NoOpTransport, HostRuntime>> = SharedCore::new(
         Waiting(rt),
         alloc,
         1,
     )?;
-    let mut setup = core.client_setup(options(alloc, false)?)?;
-    let Some(made) = setup.transport_options()? else {
-        panic!(rt; "no options")
-    };
-    let factory = Arc::new(alloc, NoOpTransport)?;
-    assert_eq!(rt; create(&factory, made)?, (true, true));
-    assert!(rt; setup.transport_options()?.is_none());
+    let created = create_of(&core, options(alloc, false)?, &factory)?;
+    assert!(rt; created == Some(((true, true), false)));
     let bare = Options::with_callbacks(alloc, Quiet { is_starving: false });
     assert!(rt; TransportOptions::try_from_client_options(&bare)?.is_none());
-    assert!(rt; core.client_setup(bare)?.transport_options()?.is_none());
+    assert!(rt; create_of(&core, bare, &factory)?.is_none());
     Ok(())
 }

@@ -1,15 +1,10 @@
 //! Threads that send, flush and lose errors at once.
-ghost use Rattle.std.specs.Prelude.{◌≡◌};
-
-use crate::workshop::{Held, Lock, Note, Notebook, event, fresh, lose_error, options};
+use crate::workshop::{Held, Note, event, fresh, lose_error, options};
 use sentry_base::protocol::{Envelope, Refusal};
 use sentry_client_reports::client_reports::Recorder;
 use sentry_lock::client::Client;
-use sentry_lock::core_lock::{Gate, Waiting};
-use sentry_scope::scope::Scope;
-use sentry_transport::transport::Transport;
-use std::alloc::{AllocError, Global};
-use std::sync::Arc;
+use sentry_lock::core_lock::CoreLock;
+use std::alloc::Global;
 use std::test::Fail;
 use std::thread::{Threads, join, map_vec};
 
@@ -35,11 +30,8 @@ fn four_recorders(alloc: Global, recorder: Option<Recorder>) -> Result<Vec<Recor
 }
 
 /// Sends a hundred messages from this number on, and after each one an empty envelope, and flushes.
-fn send_hundred<T: Transport + Drop, W: Gate + Drop>(
-    alloc: Global,
-    client: &Client<Lock<T, W>>,
-    first: u64,
-) -> Result<(), Refusal> {
+fn send_hundred<L: CoreLock>(client: &Client<L>, first: u64) -> Result<(), Refusal> {
+    let alloc = client.core().allocator();
     for number in first..first.saturating_add(100) {
         drop(client.capture_event(event(alloc, number)?, None, fresh(number))?);
         drop(client.flush(Some(1))?);
@@ -49,21 +41,17 @@ fn send_hundred<T: Transport + Drop, W: Gate + Drop>(
 }
 
 /// The same of two clients, in threads of their own.
-fn send_in_two_threads<
-    R: Threads + Sync,
-    T: Transport + Drop + Send + Sync,
-    W: Gate + Drop + Send + Sync,
->(
+fn send_in_two_threads<R: Threads + Sync, L: CoreLock + Send + Sync + 'static>(
     rt: &R,
-    alloc: Global,
-    client: &Client<Lock<T, W>>,
-    other: &Client<Lock<T, W>>,
-) -> Result<(), Refusal> {
-    let (first, second) = join(
-        rt,
-        || send_hundred(alloc, client, 1),
-        || send_hundred(alloc, other, 101),
-    );
+    client: &Client<L>,
+    other: &Client<L>,
+) -> Result<(), Refusal>
+where
+    L::Processor: Send + Sync + 'static,
+    L::Callbacks: Send + Sync + 'static,
+    L::Transport: Send + Sync + 'static,
+{
+    let (first, second) = join(rt, || send_hundred(client, 1), || send_hundred(other, 101));
     first?;
     second
 }
@@ -88,35 +76,38 @@ fn is_each_once(asked: &[Note]) -> bool {
     all
 }
 
-/// Splits the recorder of a client for four threads, which lose a thousand errors each, while two more send.
-fn lose_and_send<
-    R: Threads + Sync,
-    T: Transport + Drop + Send + Sync,
-    W: Gate + Drop + Send + Sync,
->(rt: &R, alloc: Global, held: &mut Held<Lock<T, W>>) -> Result<(), Fail> {
+/// Splits the recorder of a client for four threads, which lose a thousand errors each, while two more send. Answers
+/// whether its words are closed then, and how many errors are pending.
+fn lose_and_send<R: Threads + Sync, L: CoreLock + Send + Sync + 'static>(
+    rt: &R,
+    held: &mut Held<L>,
+) -> Result<(bool, u64), Fail>
+where
+    L::Processor: Send + Sync + 'static,
+    L::Callbacks: Send + Sync + 'static,
+    L::Transport: Send + Sync + 'static,
+{
+    let alloc = held.client.core().allocator();
     let recorders = four_recorders(alloc, held.recorder.take())?;
     let other = held.client.clone()?;
     let client = &held.client;
     let (lost, sent) = join(
         rt,
         || map_vec(rt, recorders, &|recorder: Recorder| lose_thousand(recorder)),
-        || send_in_two_threads(rt, alloc, client, &other),
+        || send_in_two_threads(rt, client, &other),
     );
     lost?;
     sent?;
-    Ok(())
+    Ok((held.close_losses()?, held.pending()?))
 }
 
 #[test]
 fn threads_lose_and_send_at_once(rt: HostRuntime) -> Result<(), Fail> {
     let alloc: Global = rt.alloc();
-    let notebook = Arc::new(alloc, Notebook::new(rt, alloc, true))?;
-    let transport = Some(notebook.clone()?);
-    let mut held = Held::new(Waiting(rt), alloc, options(alloc, false)?, transport)?;
-    lose_and_send(&rt, alloc, &mut held)?;
-    assert!(rt; held.close_losses()?);
-    let left = held.pending()?;
+    let (mut held, notebook) = Held::noted(rt, alloc, options(alloc, false)?, true)?;
+    let (is_closed, left) = lose_and_send(&rt, &mut held)?;
     let notes = notebook.take(alloc);
+    assert!(rt; is_closed);
     assert!(rt; notes.errors_told.wrapping_add(left) == 4000);
     assert!(rt; is_each_once(notes.asked.as_slice()));
     Ok(())

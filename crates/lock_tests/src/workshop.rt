@@ -1,22 +1,24 @@
 //! What the tests are made of: a transport that takes notes, clients, events and losses.
 use crate::quiet::{Passes, Quiet};
 use sentry_base::protocol::{
-    Category, ClientReport, Draw, Envelope, EnvelopeItem, Event, Fresh, Label, LossSource, Losses,
-    Reason, Refusal, SpanId, TraceId, Uuid,
+    Category, ClientReport, Draw, Envelope, EnvelopeItem, Event, Fresh, Label, Log, LogLevel,
+    LossSource, Losses, Reason, Refusal, SpanId, TraceId, Uuid,
 };
 use sentry_client_reports::client_reports::{Recorder, TransportLossReason};
 use sentry_lock::client::Client;
-use sentry_lock::core_lock::{CoreLock, Gate, Locked};
+use sentry_lock::core_lock::{CoreLock, Locked, Waiting};
 use sentry_lock::shared_core::SharedCore;
 use sentry_options::clientoptions::ClientOptions;
+use sentry_scope::scope::Scope;
 use sentry_transport::transport::Transport;
 use std::alloc::{AllocError, Global};
-use std::sync::{Mutex, Wait};
+use std::sync::{Arc, Mutex, Wait};
 
 pub(crate) type Options = ClientOptions<Quiet>;
 
-/// The lock of a core over callbacks that do nothing.
-pub(crate) type Lock<T, W> = Locked<Passes, Quiet, T, W>;
+/// The lock of a core over callbacks that do nothing. What acts on clients is generic in the lock, which is proved faster
+/// than over this one.
+pub(crate) type Lock<T, R> = Locked<Passes, Quiet, Arc<T>, Waiting<R>>;
 
 /// What a transport was asked to do.
 #[derive(Clone, Copy, PartialEq)]
@@ -80,12 +82,9 @@ pub(crate) struct Notebook<R: Wait + Drop> {
 }
 
 impl<R: Wait + Drop> Notebook<R> {
-    pub(crate) fn new(rt: R, alloc: Global, answer: bool) -> Notebook<R> {
-        Notebook {
-            rt,
-            notes: Mutex::new(Notes::new(alloc)),
-            answer,
-        }
+    pub(crate) fn new(rt: R, alloc: Global, answer: bool) -> Result<Arc<Notebook<R>>, AllocError> {
+        let notes = Mutex::new(Notes::new(alloc));
+        Ok(Arc::new(alloc, Notebook { rt, notes, answer })?)
     }
 
     /// The notes so far, which are then forgotten.
@@ -140,16 +139,30 @@ impl<L: Drop> Drop for Held<L> {
     }
 }
 
-impl<T: Transport + Drop, W: Gate + Drop> Held<Lock<T, W>> {
+impl<T: Transport + Drop, R: Wait + Drop> Held<Lock<T, R>> {
     /// On a new core.
     pub(crate) fn new(
-        wait: W,
+        rt: R,
         alloc: Global,
         options: Options,
-        transport: Option<T>,
-    ) -> Result<Held<Lock<T, W>>, Refusal> {
-        let core = SharedCore::new(wait, alloc, 1)?;
+        transport: Option<Arc<T>>,
+    ) -> Result<Held<Lock<T, R>>, Refusal> {
+        let core = SharedCore::new(Waiting(rt), alloc, 1)?;
         Held::on(&core, options, transport)
+    }
+}
+
+impl<R: Wait + Drop + Copy> Held<Lock<Notebook<R>, R>> {
+    /// On a new core, and the notebook to which it sends, which gives this answer.
+    pub(crate) fn noted(
+        rt: R,
+        alloc: Global,
+        options: Options,
+        answer: bool,
+    ) -> Result<(Held<Lock<Notebook<R>, R>>, Arc<Notebook<R>>), Refusal> {
+        let notebook = Notebook::new(rt, alloc, answer)?;
+        let held = Held::new(rt, alloc, options, Some(notebook.clone()?))?;
+        Ok((held, notebook))
     }
 }
 
@@ -212,6 +225,13 @@ pub(crate) fn fresh(number: u64) -> Fresh {
         span_id: SpanId([4; 8]),
         draw: Draw::new(0).unwrap(),
     }
+}
+
+/// Captures a log on a client.
+pub(crate) fn capture_log<L: CoreLock>(client: &Client<L>) -> Result<(), Refusal> {
+    let alloc = client.core().allocator();
+    let scope = Scope::new(alloc, TraceId([1; 16]), SpanId([2; 8]));
+    client.capture_log(Log::new(alloc, LogLevel::Info, "waits", 1)?, &scope)
 }
 
 /// An event with the id of a number: different numbers give different ids.
