@@ -8,22 +8,18 @@ use sentry_thread_hub::hub_switch_guard::HubSwitchGuard;
 use sentry_thread_hub::thread_hub::ThreadHub;
 use std::test::Fail;
 
-// The number of the current hub under two guards, under one of them, and after both.
-fn switch_twice<L: CoreLock>(thread: &mut Thread<L>, outer: Hub<L>, inner: Hub<L>) -> [u64; 3] {
+// Switches to the hub 1, and from that to the hub 2. Answers the number of the current hub under both guards, under one
+// of them, and after both.
+fn switch<L: CoreLock>(thread: &mut Thread<L>) -> Result<[u64; 3], Refusal> {
+    let outer = Hub::new_from_top(&thread.current)?;
+    let inner = Hub::new_from_top(&outer)?;
     let mut guard = HubSwitchGuard::new(thread, outer);
     let mut within = HubSwitchGuard::new(guard.thread_hub(), inner);
     let first = within.thread_hub().current.key().number;
     drop(within);
     let second = guard.thread_hub().current.key().number;
     drop(guard);
-    [first, second, thread.current.key().number]
-}
-
-// Switches to the hub 1, and from that to the hub 2.
-fn switch<L: CoreLock>(thread: &mut Thread<L>) -> Result<[u64; 3], Refusal> {
-    let outer = Hub::new_from_top(&thread.current)?;
-    let inner = Hub::new_from_top(&outer)?;
-    Ok(switch_twice(thread, outer, inner))
+    Ok([first, second, thread.current.key().number])
 }
 
 #[test]

@@ -21,18 +21,15 @@ fn log_parameters<L: CoreLock>(thread: &mut Thread<L>) -> Result<(), Refusal> {
     )
 }
 
-// Makes a log of each other level, and one whose level is handed in. Without parameters the text is as it is written.
-fn log_levels<L: CoreLock>(thread: &mut Thread<L>) -> Result<(), Refusal> {
+// Makes these, a log of each other level, and one whose level is handed in. Without parameters the text is as it is
+// written.
+fn log_all<L: CoreLock>(thread: &mut Thread<L>) -> Result<(), Refusal> {
+    log_parameters(thread)?;
     logger_trace!(thread, "{plain}")?;
     logger_debug!(thread, "{plain}")?;
     logger_warn!(thread, "{plain}")?;
     logger_fatal!(thread, "{plain}")?;
     logger_log!(thread, LogLevel::Warn, "{plain}")
-}
-
-fn log_all<L: CoreLock>(thread: &mut Thread<L>) -> Result<(), Refusal> {
-    log_parameters(thread)?;
-    log_levels(thread)
 }
 
 #[test]

@@ -26,22 +26,6 @@ fn send_hundred<L: CoreLock>(job: Job<L>) -> Result<(), Refusal> {
     Ok(())
 }
 
-// Each job in a thread, until all are done.
-fn send_in_threads<R: Threads + Sync, L: CoreLock + Send + Sync + 'static>(
-    rt: &R,
-    jobs: Vec<Job<L>>,
-) -> Result<(), Refusal>
-where
-    L::Processor: Send + Sync + 'static,
-    L::Callbacks: Send + Sync + 'static,
-    L::Transport: Send + Sync + 'static,
-{
-    for done in map_vec(rt, jobs, &|job: Job<L>| send_hundred(job))? {
-        done?;
-    }
-    Ok(())
-}
-
 // The messages 1 to 100 on a hub, and the messages 101 to 200 on another.
 fn make_jobs<L: Drop>(
     alloc: Global,
@@ -57,7 +41,7 @@ fn make_jobs<L: Drop>(
     Ok(jobs)
 }
 
-// Sends these messages on a hub of a client and on one from its top.
+// Sends these messages on a hub of a client and on one from its top, each in a thread, until all are sent.
 fn send_two_hundred<R: Threads + Sync, L: CoreLock + Send + Sync + 'static>(
     rt: &R,
     client: &Client<L>,
@@ -69,7 +53,11 @@ where
 {
     let hub = add_hub(client)?;
     let other = Hub::new_from_top(&hub)?;
-    send_in_threads(rt, make_jobs(client.core().allocator(), hub, other)?)
+    let jobs = make_jobs(client.core().allocator(), hub, other)?;
+    for done in map_vec(rt, jobs, &|job: Job<L>| send_hundred(job))? {
+        done?;
+    }
+    Ok(())
 }
 
 // Whether each id from 1 to 200 is that of an envelope.
