@@ -65,25 +65,27 @@ fn outcome(out: &Out<Uuid>, last: Option<Uuid>) -> Outcome {
     (out.reply, sent, last)
 }
 
-/// Of an event without an id that is captured on a new hub.
+/// The outcome of an event without an id that is captured on a new hub.
 fn capture_on_hub<P: EventCallback + Drop, C: Callbacks>(
+    alloc: Global,
     engine: &mut Engine<P, C>,
     client: Option<ClientKey>,
     scope: Scope<P>,
-    event: Event,
 ) -> Result<Outcome, Refusal> {
     let hub = engine.new_hub(client, scope)?.reply;
+    let event = Event::new(alloc, Uuid::nil(), 1)?;
     let out = engine.capture_event(hub, event, fresh())?;
     Ok(outcome(&out, engine.last_event_id(hub)?.reply))
 }
 
-/// The same by a client itself under the scope, and not on a hub.
+/// The outcome of one that a client captures itself under a scope, and not on a hub.
 fn capture_by_client<P: EventCallback + Drop, C: Callbacks>(
+    alloc: Global,
     engine: &mut Engine<P, C>,
     client: ClientKey,
     scope: &Scope<P>,
-    event: Event,
 ) -> Result<Outcome, Refusal> {
+    let event = Event::new(alloc, Uuid::nil(), 1)?;
     let out = engine.client_capture_event(client, event, Some(scope), fresh())?;
     Ok(outcome(&out, None))
 }
@@ -99,7 +101,7 @@ enum By {
     HubAlone,
 }
 
-/// The same on a new engine.
+/// The outcome of such an event on a new engine.
 fn capture_by<P: EventCallback + Drop, C: Callbacks>(
     alloc: Global,
     by: By,
@@ -107,17 +109,16 @@ fn capture_by<P: EventCallback + Drop, C: Callbacks>(
     scope: Scope<P>,
 ) -> Result<Outcome, Refusal> {
     let mut engine = Engine::new(alloc, 0);
-    let event = Event::new(alloc, Uuid::nil(), 1)?;
     match by {
         By::Hub { transport } => {
             let client = engine.add_client(options, transport, LABEL, 0)?.reply;
-            capture_on_hub(&mut engine, Some(client), scope, event)
+            capture_on_hub(alloc, &mut engine, Some(client), scope)
         }
         By::Client => {
             let client = engine.add_client(options, true, LABEL, 0)?.reply;
-            capture_by_client(&mut engine, client, &scope, event)
+            capture_by_client(alloc, &mut engine, client, &scope)
         }
-        By::HubAlone => capture_on_hub(&mut engine, None, scope, event),
+        By::HubAlone => capture_on_hub(alloc, &mut engine, None, scope),
     }
 }
 
