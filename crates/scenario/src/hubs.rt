@@ -171,7 +171,7 @@ impl<L: CoreLock> Locked<L> {
         }
     }
 
-    // A call that changes nothing.
+    // A call that changes nothing, or as a value one that no function here makes.
     fn ask_hub(&self, call: HubCall<L::Processor>) -> Result<LockReply<L>, Refusal> {
         match call {
             HubCall::LastEventId(hub) => { Ok(Reply::LastEvent(self.hub(hub)?.last_event_id()?)) }
@@ -181,8 +181,7 @@ impl<L: CoreLock> Locked<L> {
             },
             HubCall::IsActive(hub) => Ok(Reply::Decision(self.hub(hub)?.is_active()?)),
             HubCall::Scope(hub) => Ok(Reply::Scope(Boxed::new(self.alloc, self.scope(hub)?)?)),
-            // the calls of the functions above
-            _other => Err(Refusal::Stale),
+            call => self.core.call(Call::Hub(call)),
         }
     }
 
