@@ -67,7 +67,7 @@ impl<
         match call {
             Call::Client(call) => self.change_client(call),
             Call::Hub(call) => self.locked.change_hub(call),
-            Call::Span(call) => self.locked.call_span(call),
+            Call::Span(call) => Ok(Reply::Span(self.locked.call_span(call)?)),
         }
     }
 

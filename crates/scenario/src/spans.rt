@@ -1,5 +1,5 @@
 //! Calls on transactions and spans.
-use crate::locked::{LockReply, Locked, SpanCalls};
+use crate::locked::{Locked, SpanCalls};
 use crate::threads::thread_of;
 use sentry_base::protocol::{
     Fresh, Refusal, Request, SpanId, SpanKey, SpanStatus, TraceContext, TransactionKey,
@@ -38,7 +38,7 @@ macro_rules! call {
 
 impl<L: CoreLock> Locked<L> {
     /// Makes a call that starts a transaction, or one on a transaction or a span.
-    pub(crate) fn call_span(&self, call: SpanCall) -> Result<LockReply<L>, Refusal> {
+    pub(crate) fn call_span(&self, call: SpanCall) -> Result<SpanReply, Refusal> {
         match call {
             SpanCall::StartTransaction {
                 hub,
@@ -47,7 +47,7 @@ impl<L: CoreLock> Locked<L> {
             } => {
                 let hub = self.hub(hub)?;
                 let started = hub.start_transaction(context.into_inner(), fresh)?;
-                Ok(Reply::Span(SpanReply::Transaction(started.key())))
+                Ok(SpanReply::Transaction(started.key()))
             }
             SpanCall::StartTransactionWithTimestamp {
                 hub,
@@ -58,14 +58,14 @@ impl<L: CoreLock> Locked<L> {
                 let hub = self.hub(hub)?;
                 let context = context.into_inner();
                 let started = hub.start_transaction_with_timestamp(context, start, fresh)?;
-                Ok(Reply::Span(SpanReply::Transaction(started.key())))
+                Ok(SpanReply::Transaction(started.key()))
             }
             call => self.change_spans(call),
         }
     }
 
     // A call that starts or ends a span, or ends a transaction.
-    fn change_spans(&self, call: SpanCall) -> Result<LockReply<L>, Refusal> {
+    fn change_spans(&self, call: SpanCall) -> Result<SpanReply, Refusal> {
         match call {
             SpanCall::StartChild {
                 parent,
@@ -100,13 +100,13 @@ impl<L: CoreLock> Locked<L> {
         op: &Text,
         description: &Text,
         fresh: Fresh,
-    ) -> Result<LockReply<L>, Refusal> {
+    ) -> Result<SpanReply, Refusal> {
         let (op, description) = (op.as_str(), description.as_str());
         let child = call!(
             self, parent,
             value => value.start_child(op, description, fresh)
         )?;
-        Ok(Reply::Span(SpanReply::Span(child.key())))
+        Ok(SpanReply::Span(child.key()))
     }
 
     fn start_child_with_details(
@@ -116,13 +116,13 @@ impl<L: CoreLock> Locked<L> {
         description: &Text,
         id: SpanId,
         start: u64,
-    ) -> Result<LockReply<L>, Refusal> {
+    ) -> Result<SpanReply, Refusal> {
         let (op, description) = (op.as_str(), description.as_str());
         let child = call!(
             self, parent,
             value => value.start_child_with_details(op, description, id, start)
         )?;
-        Ok(Reply::Span(SpanReply::Span(child.key())))
+        Ok(SpanReply::Span(child.key()))
     }
 
     fn finish(
@@ -130,27 +130,27 @@ impl<L: CoreLock> Locked<L> {
         span: TransactionOrSpanKey,
         hub: &Hub<L>,
         moment: u64,
-    ) -> Result<LockReply<L>, Refusal> {
+    ) -> Result<SpanReply, Refusal> {
         let mut thread = thread_of(hub, moment)?;
         call!(self, span, value => value.finish(&mut thread))?;
-        Ok(Reply::Span(SpanReply::Done))
+        Ok(SpanReply::Done)
     }
 
     // A span asks for no hub, so that any will do: there is one, since a transaction has started.
-    fn finish_span(&self, span: SpanKey, moment: u64) -> Result<LockReply<L>, Refusal> {
+    fn finish_span(&self, span: SpanKey, moment: u64) -> Result<SpanReply, Refusal> {
         match self.hubs.first() {
             Some(hub) => self.finish(TransactionOrSpanKey::Span(span), hub, moment),
             None => Err(Refusal::Stale),
         }
     }
 
-    fn discard(&self, span: TransactionOrSpanKey) -> Result<LockReply<L>, Refusal> {
+    fn discard(&self, span: TransactionOrSpanKey) -> Result<SpanReply, Refusal> {
         call!(self, span, value => value.discard())?;
-        Ok(Reply::Span(SpanReply::Done))
+        Ok(SpanReply::Done)
     }
 
     // A call of a setter that transactions and spans have.
-    fn edit_span(&self, call: SpanCall) -> Result<LockReply<L>, Refusal> {
+    fn edit_span(&self, call: SpanCall) -> Result<SpanReply, Refusal> {
         match call {
             SpanCall::SetData { span, key, value } => self.set_data(span, &key, value)?,
             SpanCall::SetTag { span, key, value } => self.set_tag(span, &key, &value)?,
@@ -162,7 +162,7 @@ impl<L: CoreLock> Locked<L> {
             }
             call => return self.edit_transaction(call),
         }
-        Ok(Reply::Span(SpanReply::Done))
+        Ok(SpanReply::Done)
     }
 
     fn set_data(&self, span: TransactionOrSpanKey, key: &Text, data: Value) -> Result<(), Refusal> {
@@ -221,7 +221,7 @@ impl<L: CoreLock> Locked<L> {
     }
 
     // A call of a setter that transactions alone have.
-    fn edit_transaction(&self, call: SpanCall) -> Result<LockReply<L>, Refusal> {
+    fn edit_transaction(&self, call: SpanCall) -> Result<SpanReply, Refusal> {
         match call {
             SpanCall::SetExtra {
                 transaction,
@@ -230,7 +230,7 @@ impl<L: CoreLock> Locked<L> {
             } => {
                 let transaction = self.transaction(transaction)?;
                 transaction.set_extra(key.as_str(), value)?;
-                Ok(Reply::Span(SpanReply::Done))
+                Ok(SpanReply::Done)
             }
             SpanCall::SetOrigin {
                 transaction,
@@ -238,7 +238,7 @@ impl<L: CoreLock> Locked<L> {
             } => {
                 let transaction = self.transaction(transaction)?;
                 transaction.set_origin(origin.as_str())?;
-                Ok(Reply::Span(SpanReply::Done))
+                Ok(SpanReply::Done)
             }
             call => self.ask_span(call),
         }
@@ -248,20 +248,19 @@ impl<L: CoreLock> Locked<L> {
         Ok(Transaction::new(&self.core, key)?)
     }
 
-    // A call that changes nothing, or as a value the one that continues a trace, which no function here makes.
-    fn ask_span(&self, call: SpanCall) -> Result<LockReply<L>, Refusal> {
-        let reply = match call {
-            SpanCall::GetStatus(span) => SpanReply::Status(self.get_status(span)?),
+    // A call that changes nothing.
+    fn ask_span(&self, call: SpanCall) -> Result<SpanReply, Refusal> {
+        match call {
+            SpanCall::GetStatus(span) => Ok(SpanReply::Status(self.get_status(span)?)),
             SpanCall::GetTraceContext(span) => {
-                SpanReply::TraceContext(self.get_trace_context(span)?)
+                Ok(SpanReply::TraceContext(self.get_trace_context(span)?))
             }
-            SpanCall::GetSpanId(span) => SpanReply::SpanId(self.get_span_id(span)?),
-            SpanCall::Data(span) => SpanReply::Data(self.data(span)?),
-            SpanCall::IterHeaders(span) => SpanReply::Headers(self.iter_headers(span)?),
-            SpanCall::IsSampled(span) => SpanReply::Decision(self.is_sampled(span)?),
-            call => return self.core.call(Call::Span(call)),
-        };
-        Ok(Reply::Span(reply))
+            SpanCall::GetSpanId(span) => Ok(SpanReply::SpanId(self.get_span_id(span)?)),
+            SpanCall::Data(span) => Ok(SpanReply::Data(self.data(span)?)),
+            SpanCall::IterHeaders(span) => Ok(SpanReply::Headers(self.iter_headers(span)?)),
+            SpanCall::IsSampled(span) => Ok(SpanReply::Decision(self.is_sampled(span)?)),
+            call => self.call_as_value(call),
+        }
     }
 
     fn get_status(&self, span: TransactionOrSpanKey) -> Result<Option<SpanStatus>, Refusal> {
@@ -291,6 +290,15 @@ impl<L: CoreLock> Locked<L> {
 
     fn is_sampled(&self, span: TransactionOrSpanKey) -> Result<bool, Refusal> {
         call!(self, span, value => value.is_sampled())
+    }
+
+    // The call that continues a trace: no value has it.
+    fn call_as_value(&self, call: SpanCall) -> Result<SpanReply, Refusal> {
+        match self.core.call(Call::Span(call))? {
+            Reply::Span(reply) => Ok(reply),
+            // No call on spans replies otherwise.
+            _other => Err(Refusal::Stale),
+        }
     }
 }
 
