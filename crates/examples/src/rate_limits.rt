@@ -9,7 +9,7 @@ use sentry_core::protocol::{Category, Event, Uuid};
 use sentry_core::queueing::QueueTransport;
 use sentry_core::{BoxedEventCallback, ClientCallbacks, Text, Waiting};
 use sentry_lock::client;
-use sentry_lock::core_lock::{CoreLock, Locked};
+use sentry_lock::core_lock::Locked;
 use sentry_lock::shared_core::SharedCore;
 use std::alloc::{AllocError, Global};
 use std::sync::atomic::{AtomicU64, Ordering};
@@ -66,11 +66,7 @@ fn shared<R: Wait + Drop>(alloc: Global, queue: Queue<R>) -> Result<Arc<Queue<R>
 }
 
 // Errors before, during and after a limit.
-fn play<R: Wait + Drop, L: CoreLock>(
-    client: &client::Client<L>,
-    queue: &Queue<R>,
-    moment: &AtomicU64,
-) -> Result<()> {
+fn play<R: Wait + Drop>(client: &Client<R>, queue: &Queue<R>, moment: &AtomicU64) -> Result<()> {
     moment.store(1, Ordering::SeqCst);
     capture(client, moment, "the till is slow")?;
     queue.limit(Some(Category::Error), 10);
@@ -81,11 +77,7 @@ fn play<R: Wait + Drop, L: CoreLock>(
 }
 
 // An event with a message, at the moment.
-fn capture<L: CoreLock>(
-    client: &client::Client<L>,
-    moment: &AtomicU64,
-    message: &str,
-) -> Result<()> {
+fn capture<R: Wait + Drop>(client: &Client<R>, moment: &AtomicU64, message: &str) -> Result<()> {
     let now = moment.load(Ordering::SeqCst);
     let id = u128::from(now);
     let alloc = client.core().allocator();
