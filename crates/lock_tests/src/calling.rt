@@ -1,5 +1,5 @@
 //! A transport during whose calls another thread makes a call on the same client: the lock is free then.
-use crate::workshop::{Held, capture_log, event, fresh, options};
+use crate::workshop::{Held, capture_event, capture_log, options};
 use sentry_base::protocol::{Envelope, Refusal};
 use sentry_lock::client::Client;
 use sentry_lock::core_lock::CoreLock;
@@ -106,8 +106,7 @@ fn call_all<R: Wait + Drop, L: CoreLock>(
     client: &Client<L>,
     asks: &Asks<R>,
 ) -> Result<[bool; 2], Refusal> {
-    let event = event(client.core().allocator(), 1)?;
-    client.capture_event(event, None, fresh(1))?;
+    capture_event(client, 1)?;
     let is_flushed = client.flush(Some(1))?;
     let is_closed = client.close(Some(1))?;
     asks.end();

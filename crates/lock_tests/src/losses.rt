@@ -1,5 +1,5 @@
 //! Losses of one client: what is drained, what a report tells, and how the words end.
-use crate::workshop::{Held, Notebook, event, fresh, options};
+use crate::workshop::{Held, Notebook, capture_event, options};
 use sentry_base::protocol::{ClientKey, Envelope, Refusal};
 use sentry_lock::core_lock::CoreLock;
 use sentry_options::clientoptions::ClientOptions;
@@ -47,10 +47,9 @@ fn words_stay_open_while_a_recorder_is_held(rt: HostRuntime) -> Result<(), Fail>
 fn lose_before_refused_calls<L: CoreLock>(
     held: &mut Held<L>,
 ) -> Result<([Option<Refusal>; 2], [u64; 3]), Refusal> {
-    let event = event(held.client.core().allocator(), 1)?;
     held.lose_error();
     let before = held.pending()?;
-    let starved = held.client.capture_event(event, None, fresh(1)).err();
+    let starved = capture_event(&held.client, 1).err();
     let first = held.pending()?;
     held.lose_error();
     let gone = held.client.core().client(ClientKey { tag: 1, number: 9 })?;

@@ -1,5 +1,5 @@
 //! Threads that send, flush and lose errors at once.
-use crate::workshop::{Held, Note, event, fresh, lose_error, options};
+use crate::workshop::{Held, Note, capture_event, lose_error, options};
 use sentry_base::protocol::{Envelope, Refusal};
 use sentry_client_reports::client_reports::Recorder;
 use sentry_lock::client::Client;
@@ -33,7 +33,7 @@ fn four_recorders(alloc: Global, recorder: Option<Recorder>) -> Result<Vec<Recor
 fn send_hundred<L: CoreLock>(client: &Client<L>, first: u64) -> Result<(), Refusal> {
     let alloc = client.core().allocator();
     for number in first..first.saturating_add(100) {
-        drop(client.capture_event(event(alloc, number)?, None, fresh(number))?);
+        capture_event(client, number)?;
         drop(client.flush(Some(1))?);
         client.send_envelope(Envelope::new(alloc))?;
     }

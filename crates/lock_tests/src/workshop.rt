@@ -234,6 +234,13 @@ pub(crate) fn capture_log<L: CoreLock>(client: &Client<L>) -> Result<(), Refusal
     client.capture_log(Log::new(alloc, LogLevel::Info, "waits", 1)?, &scope)
 }
 
+/// Captures an event of a number on a client.
+pub(crate) fn capture_event<L: CoreLock>(client: &Client<L>, number: u64) -> Result<Uuid, Refusal> {
+    let alloc = client.core().allocator();
+    let scope = Scope::new(alloc, TraceId([1; 16]), SpanId([2; 8]));
+    client.capture_event(event(alloc, number)?, Some(&scope), fresh(number))
+}
+
 /// An event with the id of a number: different numbers give different ids.
 pub(crate) fn event(alloc: Global, number: u64) -> Result<Event, AllocError> {
     Event::new(alloc, Uuid::from_u128(u128::from(number)), number)
