@@ -90,10 +90,11 @@ def refused_of(crate, tried, said):
         if CALLS_UNPROVED.search(why):
             continue
         found = edits_of(crate, tried, function)
-        if len(found) != 1:
+        # Several have this name, as methods of types in one module have: those of which something is noted.
+        found = found if len(found) == 1 else found & notes.keys()
+        if not found:
             return {}
-        (edit,) = found
-        refused[edit] = notes.get(edit, f"{function}: {why}")
+        refused |= {edit: notes.get(edit, f"{function}: {why}") for edit in found}
     return refused
 
 
