@@ -81,7 +81,7 @@ def edits_of(crate, tried, function):
 
 def refused_of(crate, tried, said):
     """Of the edits of a round, by what a check said that did not prove the crate: those whose function isn't proved, other
-    than for what it calls, with why not. None are told if there is such a function that may be no edit's or another's."""
+    than for what it calls, with why not. None are told if the edit of one such function can't be told."""
     notes = {}
     for file, line, what in NOT_PROVED.findall(said):
         notes.setdefault(edit_at(crate, tried, file, int(line)), f"{file}:{line}: {what}")
