@@ -10,7 +10,7 @@ use Rattle.c_base.specs.contracts.outbox.Outbox as Outbox
 use Rattle.c_records.specs.contracts.filters.Filters as FiltersOf
 use Rattle.c_engine.specs.contracts.callbacks.NoProcessor as NoProcessorOf
 use Rattle.c_engine.specs.contracts.outbox_engine.OutboxEngine as OutboxEngine
-use Rattle.sentry_engine.proofs.SentRecords.{Envelope_send}
+use Rattle.sentry_base.proofs.Crossing.{Envelope_send}
 use Rattle.sentry_engine.proofs.SentEngine.{Engine_send}
 
 Outbox_field_send : IsSend (Outbox.the_field).row

@@ -1,5 +1,5 @@
--- Envelopes may go to another thread. Of records that hold a `Value` no library keeps a proof of that, since a `Value`
--- leads back to itself: so each such record follows here from its fields.
+-- Records that hold a `Value` may go to another thread. No library keeps a proof of that, since a `Value` leads back to
+-- itself: so each such record follows here from its fields. Those that lie in a share may be read by several threads, too.
 use denote.Param.Send.{IsSend, IsSync, sendable}
 use Rattle.std.proofs.Crossing as heap
 use Rattle.std.proofs.MapsCrossing as maps
@@ -45,103 +45,115 @@ use Rattle.sentry_base.specs.contracts.protocol.sdk.ClientSdkInfo as Sdk
 use Rattle.sentry_plain.specs.contracts.text.Text as TextOf
 use Rattle.sentry_plain.specs.contracts.text_map.TextMap as TextMapOf
 
-Value_send : IsSend Value.the_row
+pub Value_send : IsSend Value.the_row
 Value_send = search (maps.crosses, heap.crosses, knot.crosses, Text.the_send, sendable) depth 60 fits 20000
 
-ValueMap_send : IsSend ValueMap.the_row
+pub ValueMap_send : IsSend ValueMap.the_row
 ValueMap_send = search (maps.crosses, heap.crosses, knot.crosses, Text.the_send, sendable) depth 60 fits 20000
 
-ValueMap_sync : IsSync ValueMap.the_row
+pub ValueMap_sync : IsSync ValueMap.the_row
 ValueMap_sync = search (maps.crosses, heap.crosses, knot.crosses, Text.the_sync, sendable) depth 60 fits 20000
 
-TraceContext_field_send : IsSend (TraceContext.the_field).row
+pub TraceContext_field_send : IsSend (TraceContext.the_field).row
 TraceContext_field_send = search (Option.the_field_send, Text.the_send, TraceId.the_field_send, SpanId.the_field_send, SpanId.the_send, SpanStatus.the_send, ValueMap_send, sendable) depth 60 fits 20000
 
-TraceContext_send : IsSend TraceContext.the_row
+pub TraceContext_send : IsSend TraceContext.the_row
 TraceContext_send = search (TraceContext_field_send, sendable)
 
-TraceContext_field_sync : IsSync (TraceContext.the_field).row
+pub TraceContext_field_sync : IsSync (TraceContext.the_field).row
 TraceContext_field_sync = search (Option.the_field_sync, Text.the_sync, TraceId.the_field_sync, SpanId.the_field_sync, SpanId.the_sync, SpanStatus.the_sync, ValueMap_sync, sendable) depth 60 fits 20000
 
-Context_field_send : IsSend (Context.the_field).row
+pub Context_field_send : IsSend (Context.the_field).row
 Context_field_send = search (Option.the_field_send, Text.the_send, TraceContext_field_send, ValueMap_send, sendable) depth 60 fits 20000
 
-Context_send : IsSend Context.the_row
+pub Context_send : IsSend Context.the_row
 Context_send = search (Context_field_send, sendable)
 
-Context_field_sync : IsSync (Context.the_field).row
+pub Context_field_sync : IsSync (Context.the_field).row
 Context_field_sync = search (Option.the_field_sync, Text.the_sync, TraceContext_field_sync, ValueMap_sync, sendable) depth 60 fits 20000
 
-Context_sync : IsSync Context.the_row
+pub Context_sync : IsSync Context.the_row
 Context_sync = search (Context_field_sync, sendable)
 
-Tags_send : IsSend (TextMapOf.the_row TextOf.the_row)
+pub Tags_send : IsSend (TextMapOf.the_row TextOf.the_row)
 Tags_send = search (TextMap.the_send, Text.the_send, Text.the_sync, sendable) depth 60 fits 20000
 
-Contexts_send : IsSend (TextMapOf.the_row Context.the_row)
+pub Contexts_send : IsSend (TextMapOf.the_row Context.the_row)
 Contexts_send = search (TextMap.the_send, Context_send, Context_sync, sendable) depth 60 fits 20000
 
-User_field_send : IsSend (User.the_field).row
+pub User_field_send : IsSend (User.the_field).row
 User_field_send = search (Option.the_field_send, Text.the_send, ValueMap_send, sendable) depth 60 fits 20000
 
-User_send : IsSend User.the_row
+pub User_send : IsSend User.the_row
 User_send = search (User_field_send, sendable)
 
-Breadcrumb_field_send : IsSend (Breadcrumb.the_field).row
+pub User_field_sync : IsSync (User.the_field).row
+User_field_sync = search (Option.the_field_sync, Text.the_sync, ValueMap_sync, sendable) depth 60 fits 20000
+
+pub User_sync : IsSync User.the_row
+User_sync = search (User_field_sync, sendable)
+
+pub Breadcrumb_field_send : IsSend (Breadcrumb.the_field).row
 Breadcrumb_field_send = search (Option.the_field_send, Text.the_send, Level.the_field_send, ValueMap_send, sendable) depth 60 fits 20000
 
-Breadcrumb_send : IsSend Breadcrumb.the_row
+pub Breadcrumb_send : IsSend Breadcrumb.the_row
 Breadcrumb_send = search (Breadcrumb_field_send, sendable)
 
-LogAttribute_field_send : IsSend (LogAttribute.the_field).row
+pub Breadcrumb_field_sync : IsSync (Breadcrumb.the_field).row
+Breadcrumb_field_sync = search (Option.the_field_sync, Text.the_sync, Level.the_field_sync, ValueMap_sync, sendable) depth 60 fits 20000
+
+pub Breadcrumb_sync : IsSync Breadcrumb.the_row
+Breadcrumb_sync = search (Breadcrumb_field_sync, sendable)
+
+pub LogAttribute_field_send : IsSend (LogAttribute.the_field).row
 LogAttribute_field_send = search (maps.crosses, heap.crosses, knot.crosses, Text.the_send, sendable) depth 60 fits 20000
 
-LogAttribute_send : IsSend LogAttribute.the_row
+pub LogAttribute_send : IsSend LogAttribute.the_row
 LogAttribute_send = search (LogAttribute_field_send, sendable)
 
-LogAttribute_field_sync : IsSync (LogAttribute.the_field).row
+pub LogAttribute_field_sync : IsSync (LogAttribute.the_field).row
 LogAttribute_field_sync = search (maps.crosses, heap.crosses, knot.crosses, Text.the_sync, sendable) depth 60 fits 20000
 
-LogAttribute_sync : IsSync LogAttribute.the_row
+pub LogAttribute_sync : IsSync LogAttribute.the_row
 LogAttribute_sync = search (LogAttribute_field_sync, sendable)
 
-Log_field_send : IsSend (Log.the_field).row
+pub Log_field_send : IsSend (Log.the_field).row
 Log_field_send = search (Option.the_field_send, Text.the_send, TextMap.the_send, LogAttribute_sync, LogLevel.the_field_send, TraceId.the_send, LogAttribute_send, sendable) depth 60 fits 20000
 
-Log_send : IsSend Log.the_row
+pub Log_send : IsSend Log.the_row
 Log_send = search (Log_field_send, sendable)
 
-Metric_field_send : IsSend (Metric.the_field).row
+pub Metric_field_send : IsSend (Metric.the_field).row
 Metric_field_send = search (Option.the_field_send, Text.the_send, TextMap.the_send, LogAttribute_sync, MetricType.the_field_send, TraceId.the_field_send, SpanId.the_send, Unit.the_send, LogAttribute_send, sendable) depth 60 fits 20000
 
-Metric_send : IsSend Metric.the_row
+pub Metric_send : IsSend Metric.the_row
 Metric_send = search (Metric_field_send, sendable)
 
-Span_field_send : IsSend (Span.the_field).row
+pub Span_field_send : IsSend (Span.the_field).row
 Span_field_send = search (Option.the_field_send, Text.the_send, Tags_send, SpanId.the_field_send, SpanId.the_send, TraceId.the_field_send, SpanStatus.the_send, ValueMap_send, sendable) depth 60 fits 20000
 
-Span_send : IsSend Span.the_row
+pub Span_send : IsSend Span.the_row
 Span_send = search (Span_field_send, sendable)
 
-Sdk_send : IsSend (SharedOf.the_row Sdk.the_row)
+pub Sdk_send : IsSend (SharedOf.the_row Sdk.the_row)
 Sdk_send = search (Shared.the_send, ClientSdkInfo.the_send, ClientSdkInfo.the_sync, sendable) depth 60 fits 20000
 
-Transaction_field_send : IsSend (Transaction.the_field).row
+pub Transaction_field_send : IsSend (Transaction.the_field).row
 Transaction_field_send = search (Option.the_field_send, Text.the_send, Tags_send, Contexts_send, Items.the_send, ValueMap_send, Sdk_send, Span_send, Request.the_send, User_send, sendable) depth 60 fits 20000
 
-Transaction_send : IsSend Transaction.the_row
+pub Transaction_send : IsSend Transaction.the_row
 Transaction_send = search (Transaction_field_send, sendable)
 
-Event_field_send : IsSend (Event.the_field).row
+pub Event_field_send : IsSend (Event.the_field).row
 Event_field_send = search (Option.the_field_send, Text.the_send, Tags_send, Contexts_send, Items.the_send, Level.the_field_send, User_send, Request.the_send, Breadcrumb_send, Exception.the_send, ValueMap_send, Sdk_send, sendable) depth 60 fits 20000
 
-Event_send : IsSend Event.the_row
+pub Event_send : IsSend Event.the_row
 Event_send = search (Event_field_send, sendable)
 
-EnvelopeItem_field_send : IsSend (EnvelopeItem.the_field).row
+pub EnvelopeItem_field_send : IsSend (EnvelopeItem.the_field).row
 EnvelopeItem_field_send = search (Items.the_send, Boxed.the_send, Event_send, SessionUpdate.the_field_send, SessionAggregates.the_field_send, Transaction_send, Attachment.the_field_send, Log_send, Metric_send, ClientReport.the_field_send, sendable) depth 60 fits 20000
 
-EnvelopeItem_send : IsSend EnvelopeItem.the_row
+pub EnvelopeItem_send : IsSend EnvelopeItem.the_row
 EnvelopeItem_send = search (EnvelopeItem_field_send, sendable)
 
 pub Envelope_field_send : IsSend (Envelope.the_field).row

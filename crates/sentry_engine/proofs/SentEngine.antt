@@ -8,7 +8,6 @@ use Rattle.sentry_plain.proofs.shared.Shared.TheSendSync as Shared
 use Rattle.sentry_plain.proofs.table.Table.TheSendSync as Table
 use Rattle.sentry_plain.proofs.text_map.TextMap.TheSendSync as TextMap
 use Rattle.sentry_base.proofs.protocol.keys.Label.TheSendSync as Label
-use Rattle.sentry_base.proofs.protocol.sdk.ClientSdkInfo.TheSendSync as ClientSdkInfo
 use Rattle.sentry_base.proofs.protocol.session.SessionAttributes.TheSendSync as SessionAttributes
 use Rattle.sentry_options.proofs.clientoptions.ClientOptions.TheSendSync as ClientOptions
 use Rattle.sentry_sessions.proofs.session.record.Session.TheSendSync as Session
@@ -17,16 +16,13 @@ use Rattle.sentry_state.proofs.state.NextNumbers.TheSendSync as NextNumbers
 use Rattle.sentry_plain.specs.contracts.shared.Shared as SharedOf
 use Rattle.sentry_plain.specs.contracts.text_map.TextMap as TextMapOf
 use Rattle.sentry_base.specs.contracts.protocol.log.LogAttribute as LogAttribute
-use Rattle.sentry_base.specs.contracts.protocol.sdk.ClientSdkInfo as Sdk
 use Rattle.sentry_base.specs.contracts.protocol.session.SessionAttributes as AttributesOfSessions
 use Rattle.sentry_state.specs.contracts.state.Client as Client
 use Rattle.sentry_state.specs.contracts.state.State as State
 use Rattle.sentry_engine.specs.contracts.engine.Engine as Engine
-use Rattle.sentry_engine.proofs.SentRecords.{LogAttribute_send, LogAttribute_sync, Queues_field_send, SpanTable_field_send}
+use Rattle.sentry_base.proofs.Crossing.{LogAttribute_send, LogAttribute_sync, Sdk_send}
+use Rattle.sentry_engine.proofs.SentRecords.{Queues_field_send, SpanTable_field_send}
 use Rattle.sentry_engine.proofs.SentHubs.{HubTable_send}
-
-Sdk_send : IsSend (SharedOf.the_row Sdk.the_row)
-Sdk_send = search (Shared.the_send, ClientSdkInfo.the_send, ClientSdkInfo.the_sync, sendable) depth 60 fits 20000
 
 SessionAttributes_send : IsSend (SharedOf.the_row AttributesOfSessions.the_row)
 SessionAttributes_send = search (Shared.the_send, SessionAttributes.the_send, SessionAttributes.the_sync, sendable) depth 60 fits 20000

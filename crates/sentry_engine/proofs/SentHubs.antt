@@ -23,7 +23,7 @@ use Rattle.sentry_scope.specs.contracts.scope.stack.StackLayer as StackLayer
 use Rattle.sentry_scope.specs.contracts.scope.stack.Stack as Stack
 use Rattle.sentry_hub_table.specs.contracts.hub.Hub as Hub
 use Rattle.sentry_hub_table.specs.contracts.hub_table.HubTable as HubTable
-use Rattle.sentry_engine.proofs.SentRecords.{Breadcrumb_send, Breadcrumb_sync, Context_send, Context_sync, User_send, User_sync, ValueMap_send, ValueMap_sync}
+use Rattle.sentry_base.proofs.Crossing.{Breadcrumb_send, Breadcrumb_sync, Context_send, Context_sync, User_send, User_sync, ValueMap_send, ValueMap_sync}
 
 module _ (P : RattleType) (ps : IsSend P) (py : IsSync P) where
   pub Scope_field_send : IsSend (Scope.the_field P).row

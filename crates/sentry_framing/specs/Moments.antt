@@ -35,7 +35,7 @@ date_text day =
 abbrev pub time_text : ℕ → Bytes
 time_text seconds = two (seconds / 3_600) ++ 58 ∷ two (seconds / 60 % 60) ++ 58 ∷ two (seconds % 60)
 
--- a moment by RFC 3339: `2020-07-20T14:51:14.296Z`
+-- a moment: `2020-07-20T14:51:14.296Z`
 abbrev pub moment_text : ℕ → Bytes
 moment_text n =
     let seconds = n / 1_000_000_000 in

@@ -158,7 +158,7 @@ fn push_time(text: &mut ArrayString<ROOM>, seconds: u64)
     push_two(text, seconds % 60);
 }
 
-/// A moment, by RFC 3339, in UTC.
+/// A moment in UTC: `2020-07-20T14:51:14.296Z`.
 pub fn moment_text(nanoseconds: u64) -> ArrayString<ROOM>
     ensures text { result.bytes ≡ moment_text nanoseconds }
     ensures dated { HasDate (nanoseconds / 1000000000 / 86400) }

@@ -74,11 +74,20 @@ pub trait CoreLock: Drop {
 }
 
 /// A core under its lock, and what waits for the lock. Whoever takes the core has entered the gate.
-#[derive(Drop)]
 pub struct Locked<P, C, T, W> {
     gate: Mutex<()>,
     core: Mutex<UnderLock<P, C, T>>,
     wait: W,
+}
+
+impl<P: Drop, C: Drop, T: Drop, W: Drop> Drop for Locked<P, C, T, W> {
+    fn drop(self) {
+        let Locked {
+            gate: _,
+            core: _,
+            wait: _,
+        } = self;
+    }
 }
 
 impl<P: EventCallback + Drop, C: Callbacks, T: Transport + Drop, W: Gate + Drop> Locked<
