@@ -13,6 +13,7 @@ ERROR = re.compile(r"^(src/\S+\.rt):(\d+):\d+: error", re.M)
 # A function that isn't proved, by its path, and why not.
 UNPROVED = re.compile(r"^fn (\S+): (?!proved$)(.*)$", re.M)
 CALLS_UNPROVED = re.compile(r"which (is|are) not proved")
+NAME = re.compile(r"fn (\w+)")
 NOT_PROVED = re.compile(r"^note: (src/\S+\.rt):(\d+):\d+: (it is not proved .*)$", re.M)
 
 
@@ -40,16 +41,31 @@ def changes_bodies(edit):
     return True
 
 
+def names_of(edit):
+    """The names of the functions in which the changes of an edit begin."""
+    crate = os.path.dirname(os.path.dirname(edit))
+    texts = [(read(os.path.join(crate, file)), old) for file, old, _ in pairs_of(edit)]
+    heads = [list(FUNCTION.finditer(text, 0, text.find(old) + 1)) for text, old in texts if old in text]
+    return {NAME.search(it[-1][0])[1] for it in heads if it}
+
+
 def rounds_of(edits, size):
-    """The edits in rounds of at most so many. One that changes more than bodies stands alone."""
+    """The edits in rounds of at most so many, none with two of functions of one name, since the prover's words for a
+    method don't always tell its type. An edit that changes more than bodies stands alone."""
     rounds, alone = [], []
     for edit in edits:
+        names = names_of(edit)
         if not changes_bodies(edit):
             alone.append(edit)
-        elif not any(len(it.edits) < size and it.takes(edit) for it in rounds):
-            rounds.append(Round())
-            rounds[-1].takes(edit)
-    return [it.edits for it in rounds] + [[it] for it in alone]
+            continue
+        for tried, taken in rounds:
+            if len(tried.edits) < size and not names & taken and tried.takes(edit):
+                taken |= names
+                break
+        else:
+            rounds.append((Round(), names))
+            rounds[-1][0].takes(edit)
+    return [tried.edits for tried, _ in rounds] + [[it] for it in alone]
 
 
 def edit_at(crate, tried, file, line):
@@ -74,7 +90,7 @@ def edits_of(crate, tried, function):
     depths = {}
     for (path, (head, _)), edit in tried.of_function.items():
         module = module_of(crate, path)
-        if re.search(r"fn (\w+)", head)[1] in [it.lstrip("+") for it in words]:
+        if NAME.search(head)[1] in [it.lstrip("+") for it in words]:
             depths.setdefault(len(module) if words[: len(module)] == module else -1, set()).add(edit)
     return depths[max(depths)] if depths else set()
 
