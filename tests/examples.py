@@ -6,12 +6,12 @@ NAME.scenario.bad and NAME.replay.bad list lines of which each is, by itself, a 
 """
 import glob
 import os
+import subprocess
 import sys
 from collections import namedtuple
 
-from sources import printed_by_examples
+from sources import TOP, printed_by_examples
 
-TOP = os.path.dirname(os.path.dirname(os.path.abspath(__file__)))
 FOLDER = os.path.join(TOP, "examples")
 PROGRAMS = ("scenario", "replay")
 # The argument with which `scenario` plays its input over the lock.
@@ -32,6 +32,8 @@ OF_EACH_ITEM = (
 STARTS = (b"tx ", b"txsampled ", b"txat ", b"txfrom ", b"continue ")
 # The program that runs a part of itself by its name.
 PARTS = "examples"
+# How long a run may take.
+SECONDS = 60
 
 # What a run of a program gives: its exit status, and what it wrote.
 Run = namedtuple("Run", "status out err")
@@ -139,6 +141,16 @@ def runs_by_name():
     ]
     stop_without_programs(found)
     return found
+
+
+def run(program, arguments=(), **streams):
+    """What a run of the program gives, or in words why there is none."""
+    given = {"stdout": subprocess.PIPE, "stderr": subprocess.PIPE, **streams}
+    try:
+        ran = subprocess.run([program_path(program), *arguments], timeout=SECONDS, env={}, **given)
+    except subprocess.TimeoutExpired:
+        return f"it had not ended after {SECONDS} seconds"
+    return Run(ran.returncode, ran.stdout or b"", ran.stderr)
 
 
 def around(line, at):
