@@ -34,6 +34,8 @@ STARTS = (b"tx ", b"txsampled ", b"txat ", b"txfrom ", b"continue ")
 PARTS = "examples"
 # How long a run may take.
 SECONDS = 60
+# The files that its part `spool` writes.
+SPOOL = os.path.join(TOP, "tests", "spool")
 
 # What a run of a program gives: its exit status, and what it wrote.
 Run = namedtuple("Run", "status out err")
@@ -141,6 +143,11 @@ def runs_by_name():
     ]
     stop_without_programs(found)
     return found
+
+
+def files_of(folder):
+    """The bytes of each file of a folder, by the names in order."""
+    return {name: read(os.path.join(folder, name)) for name in sorted(os.listdir(folder))}
 
 
 def run(program, arguments=(), **streams):
