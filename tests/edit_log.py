@@ -13,7 +13,7 @@ import re
 import tempfile
 from collections import namedtuple
 
-from edit_files import TOP, read
+from sources import TOP, read
 
 LOG = "tools/tried-edits.txt"
 VERDICTS = ("refused", "proved", "does-not-compile")

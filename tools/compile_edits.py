@@ -14,6 +14,7 @@ import tempfile
 TOP = os.path.dirname(os.path.dirname(os.path.abspath(__file__)))
 sys.path.insert(0, os.path.join(TOP, "tests"))
 from edit_files import BadEdit, applied, pairs_of
+from sources import read
 
 SOURCES = ("src", "specs", "proofs")
 PROGRAM = "every_library"
@@ -65,11 +66,6 @@ class Round:
             return None
         end = sum(map(len, text.splitlines(True)[:line]))
         return self.of_function.get((path, function_at(text, end)))
-
-
-def read(path):
-    with open(path, encoding="utf-8") as file:
-        return file.read()
 
 
 def rounds_of(edits):
