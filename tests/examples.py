@@ -65,7 +65,7 @@ def plain_example(name, program, path):
 def bad_lines(name, program, path):
     """One example for each line of the file that is no comment: it stands on line 3, and ends the run."""
     wanted = Run(2, b"refused E2\n", b"%s: line 3: bad command\n" % program.encode())
-    for number, line in enumerate(read(path).split(b"\n")[:-1], 1):
+    for number, line in enumerate(read(path).removesuffix(b"\n").split(b"\n"), 1):
         if not line.startswith(b"#"):
             whole = b"message 0 info x\n\n%s\nmessage 0 info y\n" % line
             yield Example(f"{name}.bad line {number}", program, whole, wanted)
@@ -172,9 +172,9 @@ def first_difference(what, got, wanted):
     """Says in which line one text is not the other, and what stands there, if they differ."""
     if got == wanted:
         return None
-    lines = [[*text.decode("utf-8", "backslashreplace").split("\n"), None] for text in (got, wanted)]
+    lines = [[*text.split(b"\n"), None] for text in (got, wanted)]
     number = next(i for i, (a, b) in enumerate(zip(*lines)) if a != b)
-    one, other = lines[0][number], lines[1][number]
+    one, other = (None if it is None else it.decode("utf-8", "backslashreplace") for it in (lines[0][number], lines[1][number]))
     at = len(os.path.commonprefix([one or "", other or ""]))
     return f"line {number + 1} of {what} is {around(one, at)}, and not {around(other, at)}"
 
