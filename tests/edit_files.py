@@ -7,7 +7,7 @@ import glob
 import os
 import re
 
-from sources import TOP, read
+from sources import read
 
 NAME = re.compile(r"[a-z][a-z0-9_]*\.edit")
 
