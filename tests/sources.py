@@ -13,6 +13,14 @@ def read(*path):
         return file.read()
 
 
+def crate_lines(top=TOP):
+    """Of each line of crates.txt the name of the crate with the words beside it, and the libraries that it stands on."""
+    for line in read(top, "crates.txt").splitlines():
+        head, colon, below = line.partition("#")[0].partition(":")
+        if colon:
+            yield head.split(), below.split()
+
+
 def printed_by_examples():
     """What each example of crates/examples prints, by its name: its part of the file stdout."""
     parts = re.split(r"^== (\w+)\n", read("crates", "examples", "stdout"), flags=re.M)
