@@ -56,11 +56,11 @@ class Player:
 
 
 def requests(program, lines, shim, arguments=()):
-    """How many requests for memory a run on the lines makes. Stops where the program fails undisturbed."""
+    """How many requests for memory a run on the lines makes. Stops where the program fails, or refuses a call, undisturbed."""
     with Player(program, lines, shim, arguments) as player:
         undisturbed, _ = player.run(0)
-        if undisturbed.status:
-            sys.exit(f"{' '.join((program, *arguments))} ended with status {undisturbed.status}: {undisturbed.err.decode()}")
+        if undisturbed.status or b"refused" in undisturbed.out:
+            sys.exit(f"{' '.join((program, *arguments))} fails: {undisturbed!s:.1000}")
         few, many = 0, 1
         while player.run(many)[1]:
             few, many = many, 2 * many
