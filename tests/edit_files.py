@@ -1,13 +1,14 @@
 """The edits of crates/NAME/must-fail and crates/NAME/wrong: how they are read, and how they apply.
 
 An edit is a line 'file: src/lib.rt', and then pairs of lines 'old: TEXT' and 'new: TEXT'. Each old text must stand once
-in the file, where further pairs find what the earlier ones made.
+in the file, where further pairs find what the earlier ones made. `rt` reads no other line, so there must be none.
 """
 import glob
 import os
 import re
 
-TOP = os.path.dirname(os.path.dirname(os.path.abspath(__file__)))
+from sources import read
+
 NAME = re.compile(r"[a-z][a-z0-9_]*\.edit")
 
 
@@ -15,13 +16,8 @@ class BadEdit(Exception):
     """Says why an edit can't be applied."""
 
 
-def read(path):
-    with open(path, encoding="utf-8") as file:
-        return file.read()
-
-
 def paths_of(crate, folders=("must-fail", "wrong")):
-    """The edits of the folder of a crate."""
+    """The edits of these folders of a crate."""
     return [path for folder in folders for path in sorted(glob.glob(f"{crate}/{folder}/*.edit"))]
 
 
@@ -34,12 +30,18 @@ def pairs_of(path):
         if line.startswith("file: "):
             file = line[len("file: ") :].strip()
         elif line.startswith("old: "):
+            if old:
+                raise BadEdit(f"no new text follows an old one: {old[:80]}")
             old = line[len("old: ") :]
         elif line.startswith("new:"):
             if not file or not old:
                 raise BadEdit("a new text stands before any file or old text")
             pairs.append((file, old, line[len("new:") :].removeprefix(" ")))
             old = None
+        elif line:
+            raise BadEdit(f"it has another line: {line[:80]}")
+    if old:
+        raise BadEdit(f"no new text follows an old one: {old[:80]}")
     if not pairs:
         raise BadEdit("it has no old and new text")
     return pairs

@@ -10,10 +10,9 @@ import glob
 import hashlib
 import os
 import re
-import tempfile
 from collections import namedtuple
 
-from edit_files import TOP, read
+from sources import TOP, crate_lines, read
 
 LOG = "tools/tried-edits.txt"
 VERDICTS = ("refused", "proved", "does-not-compile")
@@ -30,11 +29,7 @@ Tried = namedtuple("Tried", "verdict date own below said")
 
 def crates_in_order(top=TOP):
     """The crates of crates.txt, lowest first, with those of the repository that each stands on."""
-    stands_on, order = {}, []
-    for line in read(f"{top}/crates.txt").split("\n"):
-        head, _, below = line.partition("#")[0].partition(":")
-        if head.strip():
-            stands_on[head.split()[0]] = below.split()
+    stands_on, order = {words[0]: below for words, below in crate_lines(top)}, []
 
     def add(crate):
         for it in stands_on.get(crate, ()):
@@ -129,9 +124,8 @@ def write_line(key, tried, top=TOP):
         log = read_log(top)[0] | {key: tried}
         here = {key_of(it) for it in edits_to_try(top)}
         lines = [" ".join(filter(None, (it, *log[it]))) for it in sorted(log) if it in here]
-        with tempfile.NamedTemporaryFile("w", encoding="utf-8", dir=f"{top}/tools", delete=False) as file:
+        with open(f"{top}/{LOG}.new", "w", encoding="utf-8") as file:
             file.write(HEAD + "".join(f"{it}\n" for it in lines))
-        os.chmod(file.name, 0o644)
         os.replace(file.name, f"{top}/{LOG}")
     finally:
         os.close(folder)

@@ -6,12 +6,12 @@ NAME.scenario.bad and NAME.replay.bad list lines of which each is, by itself, a 
 """
 import glob
 import os
+import subprocess
 import sys
 from collections import namedtuple
 
-from sources import printed_by_examples
+from sources import TOP, printed_by_examples
 
-TOP = os.path.dirname(os.path.dirname(os.path.abspath(__file__)))
 FOLDER = os.path.join(TOP, "examples")
 PROGRAMS = ("scenario", "replay")
 # The argument with which `scenario` plays its input over the lock.
@@ -32,6 +32,10 @@ OF_EACH_ITEM = (
 STARTS = (b"tx ", b"txsampled ", b"txat ", b"txfrom ", b"continue ")
 # The program that runs a part of itself by its name.
 PARTS = "examples"
+# How long a run may take.
+SECONDS = 60
+# The files that its part `spool` writes.
+SPOOL = os.path.join(TOP, "tests", "spool")
 
 # What a run of a program gives: its exit status, and what it wrote.
 Run = namedtuple("Run", "status out err")
@@ -61,7 +65,7 @@ def plain_example(name, program, path):
 def bad_lines(name, program, path):
     """One example for each line of the file that is no comment: it stands on line 3, and ends the run."""
     wanted = Run(2, b"refused E2\n", b"%s: line 3: bad command\n" % program.encode())
-    for number, line in enumerate(read(path).split(b"\n")[:-1], 1):
+    for number, line in enumerate(read(path).removesuffix(b"\n").split(b"\n"), 1):
         if not line.startswith(b"#"):
             whole = b"message 0 info x\n\n%s\nmessage 0 info y\n" % line
             yield Example(f"{name}.bad line {number}", program, whole, wanted)
@@ -141,6 +145,21 @@ def runs_by_name():
     return found
 
 
+def files_of(folder):
+    """The bytes of each file of a folder, by the names in order."""
+    return {name: read(os.path.join(folder, name)) for name in sorted(os.listdir(folder))}
+
+
+def run(program, arguments=(), **streams):
+    """What a run of the program gives, or in words why there is none."""
+    given = {"stdout": subprocess.PIPE, "stderr": subprocess.PIPE, **streams}
+    try:
+        ran = subprocess.run([program_path(program), *arguments], timeout=SECONDS, env={}, **given)
+    except subprocess.TimeoutExpired:
+        return f"it had not ended after {SECONDS} seconds"
+    return Run(ran.returncode, ran.stdout or b"", ran.stderr)
+
+
 def around(line, at):
     """The line near a column, on one line of a terminal."""
     if line is None:
@@ -153,9 +172,9 @@ def first_difference(what, got, wanted):
     """Says in which line one text is not the other, and what stands there, if they differ."""
     if got == wanted:
         return None
-    lines = [[*text.decode("utf-8", "backslashreplace").split("\n"), None] for text in (got, wanted)]
+    lines = [[*text.split(b"\n"), None] for text in (got, wanted)]
     number = next(i for i, (a, b) in enumerate(zip(*lines)) if a != b)
-    one, other = lines[0][number], lines[1][number]
+    one, other = (None if it is None else it.decode("utf-8", "backslashreplace") for it in (lines[0][number], lines[1][number]))
     at = len(os.path.commonprefix([one or "", other or ""]))
     return f"line {number + 1} of {what} is {around(one, at)}, and not {around(other, at)}"
 

@@ -25,6 +25,8 @@ def object_at(data, start):
 
 def payload_at(data, start, length):
     """A payload of a stated length, and where it goes on: behind a newline, or at the end."""
+    if type(length) is not int or length < 0:
+        raise NotAnEnvelope(f"{length!r} is no length")
     end = start + length
     if len(data) < end or data[end : end + 1] not in (b"", b"\n"):
         raise NotAnEnvelope(f"from byte {start} on a payload isn't {length} bytes long")
@@ -40,3 +42,15 @@ def received(data):
         payload, at = payload_at(data, at, head["length"]) if "length" in head else line_at(data, at)
         items.append((head, payload))
     return header, items
+
+
+def read_item(head, payload):
+    """The type of an item that states its length, and whose payload is an object of JSON if it is no attachment. ValueError
+    where it isn't."""
+    if head.get("length") != len(payload):
+        raise NotAnEnvelope(f"{head} has {len(payload)} bytes")
+    if not isinstance(head.get("type"), str):
+        raise NotAnEnvelope(f"{head} has no type")
+    if head["type"] != "attachment" and not isinstance(json.loads(payload), dict):
+        raise NotAnEnvelope(f"the payload of {head} is no object")
+    return head["type"]

@@ -1,6 +1,7 @@
 """Runs of a program into which a shim is preloaded, such as that of refuse.c, by which a request for memory is refused."""
 import os
 import subprocess
+import sys
 import tempfile
 
 import examples
@@ -55,8 +56,11 @@ class Player:
 
 
 def requests(program, lines, shim, arguments=()):
-    """How many requests for memory a run on the lines makes."""
+    """How many requests for memory a run on the lines makes. Stops where the program fails, or refuses a call, undisturbed."""
     with Player(program, lines, shim, arguments) as player:
+        undisturbed, _ = player.run(0)
+        if undisturbed.status or b"refused" in undisturbed.out:
+            sys.exit(f"{' '.join((program, *arguments))} fails: {undisturbed!s:.1000}")
         few, many = 0, 1
         while player.run(many)[1]:
             few, many = many, 2 * many

@@ -18,7 +18,7 @@ for path in sys.argv[2:]:
     envelope = Envelope.deserialize(open(path, "rb").read())
     items = []
     for item in envelope.items:
-        payload = item.payload.json if item.payload.json is not None else None
+        payload = item.payload.json
         items.append([item.headers, payload, None if payload is not None else item.get_bytes().hex()])
     print(json.dumps([envelope.headers, items]))
 """

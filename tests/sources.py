@@ -8,29 +8,17 @@ CRATES = os.path.join(TOP, "crates")
 ITEM = re.compile(r"^pub (?:const )?(?:struct|enum|trait|type|fn|const) (\w+)", re.M)
 
 
-class Checks:
-    """Counts what holds, and keeps a line for each thing that doesn't."""
-
-    def __init__(self):
-        self.passed, self.faults = 0, []
-
-    def check(self, holds, fault):
-        if holds:
-            self.passed += 1
-        else:
-            self.faults.append(fault)
-
-    def report(self):
-        """Prints the faults and the numbers of both. Answers the exit status."""
-        for fault in self.faults:
-            print(fault)
-        print(f"{self.passed} passed, {len(self.faults)} failed")
-        return 1 if self.faults else 0
-
-
 def read(*path):
     with open(os.path.join(TOP, *path), encoding="utf-8") as file:
         return file.read()
+
+
+def crate_lines(top=TOP):
+    """Of each line of crates.txt the name of the crate with the words beside it, and the libraries that it stands on."""
+    for line in read(top, "crates.txt").splitlines():
+        head, colon, below = line.partition("#")[0].partition(":")
+        if colon:
+            yield head.split(), below.split()
 
 
 def printed_by_examples():

@@ -14,8 +14,9 @@ import tempfile
 TOP = os.path.dirname(os.path.dirname(os.path.abspath(__file__)))
 sys.path.insert(0, os.path.join(TOP, "tests"))
 from edit_files import BadEdit, applied, pairs_of
+from edit_log import SOURCES
+from sources import read
 
-SOURCES = ("src", "specs", "proofs")
 PROGRAM = "every_library"
 MAIN = """//! Uses every library of the repository.
 #![tactic(auto)]
@@ -67,11 +68,6 @@ class Round:
         return self.of_function.get((path, function_at(text, end)))
 
 
-def read(path):
-    with open(path, encoding="utf-8") as file:
-        return file.read()
-
-
 def rounds_of(edits):
     """The edits in as few rounds as come of taking each into the first that has room."""
     rounds = []
@@ -83,14 +79,20 @@ def rounds_of(edits):
     return rounds
 
 
-def make_room(room, libraries):
-    """A copy of the sources, and the program that uses all libraries."""
+def copy_sources(room, parts=SOURCES):
+    """Copies these folders of each crate, and what `rt` reads beside the crates."""
+    for file in ("crates.txt", "HANDLES"):
+        if os.path.isfile(f"{TOP}/{file}"):
+            shutil.copy2(f"{TOP}/{file}", room)
     for crate in os.listdir(f"{TOP}/crates"):
-        for part in SOURCES:
+        for part in parts:
             if os.path.isdir(f"{TOP}/crates/{crate}/{part}"):
                 shutil.copytree(f"{TOP}/crates/{crate}/{part}", f"{room}/crates/{crate}/{part}")
-    if os.path.isfile(f"{TOP}/HANDLES"):
-        shutil.copy2(f"{TOP}/HANDLES", room)
+
+
+def make_room(room, libraries):
+    """A copy of the sources, and the program that uses all libraries."""
+    copy_sources(room)
     os.makedirs(f"{room}/crates/{PROGRAM}/src")
     write(f"{room}/crates/{PROGRAM}/src/main.rt", MAIN)
     write(f"{room}/crates.txt", read(f"{TOP}/crates.txt") + f"{PROGRAM}: {' '.join(libraries)}\n")

@@ -7,7 +7,8 @@ import os
 import re
 
 from compile_edits import FUNCTION, Round
-from edit_files import pairs_of, read
+from edit_files import pairs_of
+from sources import read
 
 ERROR = re.compile(r"^(src/\S+\.rt):(\d+):\d+: error", re.M)
 # A function that isn't proved, by its path, and why not.

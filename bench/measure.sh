@@ -1,0 +1,21 @@
+# What the scripts of this folder measure by; they read it with `.`, and have set `runs`. A command that fails ends them.
+shopt -s inherit_errexit
+
+# the least nanoseconds of `runs` runs of a command
+least() {
+    local best="" start taken
+    for _ in $(seq "$runs"); do
+        start=$(date +%s%N)
+        "$@" >/dev/null
+        taken=$(($(date +%s%N) - start))
+        if [ -z "$best" ] || [ "$taken" -lt "$best" ]; then
+            best=$taken
+        fi
+    done
+    echo "$best"
+}
+
+# the instructions of a run of a command
+instructions() {
+    valgrind --tool=callgrind --callgrind-out-file=/dev/null "$@" 2>&1 >/dev/null | awk '/Collected/ { print $4 }'
+}
