@@ -18,9 +18,12 @@ __attribute__((constructor)) static void start(void) {
     left = number("REFUSE");
 }
 
-// The C library itself relies on errno where its request for the memory of a thread is refused.
+// Whether this is the request, of whichever thread. The C library itself relies on errno where its request for the memory
+// of a thread is refused.
 static int is_refused(void) {
-    if (left <= 0 || --left != 0 || write((int)tells, "!", 1) != 1)
+    if (__atomic_load_n(&left, __ATOMIC_RELAXED) <= 0 || __atomic_sub_fetch(&left, 1, __ATOMIC_RELAXED) != 0)
+        return 0;
+    if (write((int)tells, "!", 1) != 1)
         return 0;
     errno = ENOMEM;
     return 1;
