@@ -77,9 +77,9 @@ class Hub:
 class Client:
     """What `init` makes: an engine with one client, and the thread that posts what it sends."""
 
-    def __init__(self, options, dsn, shutdown_timeout, post, library):
+    def __init__(self, options, dsn, shutdown_timeout, tracks_sessions, post, library):
         self.engine = native.Engine(library)
-        self.shutdown_timeout, self.is_closed = shutdown_timeout, False
+        self.shutdown_timeout, self.tracks_sessions, self.is_closed = shutdown_timeout, tracks_sessions, False
         try:
             self.number = self.engine.number("add_client", options, LABEL, time.time_ns())
             self.main = self.engine.number("new_hub", self.number, native.fresh())
@@ -110,13 +110,15 @@ class Client:
         return is_well
 
     def after_fork(self):
-        """In a process that was forked off: what waits is the parent's to post."""
+        """In a process that was forked off: what waits, also in queues, and the session are the parent's to post."""
         self.engine.lock = threading.RLock()
         with contextlib.suppress(Fault):
+            self.engine.call("end_session", self.main, SESSION_STATUSES.index("exited"), time.time_ns())
+        with contextlib.suppress(Fault):
+            self.engine.call("flush", self.number)
+        with contextlib.suppress(Fault):
             self.engine.call("drop_envelopes")
-        sender = self.sender
-        sender.wake, sender.idle = threading.Event(), threading.Condition()
-        sender.start()
+        self.sender.restart()
 
 
 current = None
@@ -172,7 +174,7 @@ def init(
         if "\n" in (value or ""):
             raise ValueError(f"the option {name} has more than one line")
     text = "".join(f"{name}={value}\n" for name, value in lines.items() if value)
-    made = Client(text, dsn, shutdown_timeout, post, library)
+    made = Client(text, dsn, shutdown_timeout, auto_session_tracking, post, library)
     close()
     current = made
     if auto_session_tracking:
@@ -537,11 +539,34 @@ def report_uncaught_errors():
     sys.excepthook, threading.excepthook = hook, thread_hook
 
 
-def after_fork():
+# The engine whose lock is held while the process forks, so that no other thread is in a call then.
+forking = None
+
+
+def before_fork():
+    global forking
+    client = current
+    if client is not None:
+        client.engine.lock.acquire()
+        forking = client.engine
+
+
+def after_fork_in_parent():
+    global forking
+    engine, forking = forking, None
+    if engine is not None:
+        engine.lock.release()
+
+
+def after_fork_in_child():
+    global forking
+    forking = None
     if current is not None:
         current.after_fork()
+        if current.tracks_sessions:
+            start_session()
 
 
 atexit.register(close)
 if hasattr(os, "register_at_fork"):
-    os.register_at_fork(after_in_child=after_fork)
+    os.register_at_fork(before=before_fork, after_in_parent=after_fork_in_parent, after_in_child=after_fork_in_child)

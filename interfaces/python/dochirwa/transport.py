@@ -96,6 +96,11 @@ class Sender:
         self.thread = threading.Thread(target=self.run, name="dochirwa", daemon=True)
         self.thread.start()
 
+    def restart(self):
+        """In a process that was forked off, which has no other thread, and perhaps their locks."""
+        self.wake, self.idle = threading.Event(), threading.Condition()
+        self.start()
+
     def run(self):
         while not self.is_over:
             self.wake.wait(self.interval)
