@@ -32,6 +32,17 @@ LEVELS = ("debug", "info", "warning", "error", "fatal")
 LOG_LEVELS = ("trace", "debug", "info", "warn", "error", "fatal")
 SESSION_STATUSES = ("ok", "exited", "crashed", "abnormal")
 LABEL = 0
+LOGGER = logging.getLogger("dochirwa")
+
+
+@contextlib.contextmanager
+def tolerated():
+    """A call that fails in the block is logged, and the rest of the block left out. It is a record that the engine
+    doesn't take, a call after `close`, too little memory, or a bug of the package, but never an error of the program."""
+    try:
+        yield
+    except Fault:
+        LOGGER.debug("a call failed", exc_info=True)
 
 
 def plain(value, depth=8):
@@ -101,9 +112,9 @@ class Client:
         if self.is_closed:
             return True
         self.is_closed = True
-        with contextlib.suppress(Fault):
+        with tolerated():
             self.engine.call("end_session", self.main, SESSION_STATUSES.index("exited"), time.time_ns())
-        with contextlib.suppress(Fault):
+        with tolerated():
             self.engine.call("close", self.number)
         is_well = self.sender.stop(self.shutdown_timeout if timeout is None else timeout)
         self.engine.free()
@@ -112,11 +123,11 @@ class Client:
     def after_fork(self):
         """In a process that was forked off: what waits, also in queues, and the session are the parent's to post."""
         self.engine.lock = threading.RLock()
-        with contextlib.suppress(Fault):
+        with tolerated():
             self.engine.call("end_session", self.main, SESSION_STATUSES.index("exited"), time.time_ns())
-        with contextlib.suppress(Fault):
+        with tolerated():
             self.engine.call("flush", self.number)
-        with contextlib.suppress(Fault):
+        with tolerated():
             self.engine.call("drop_envelopes")
         self.sender.restart()
 
@@ -193,31 +204,32 @@ def close(timeout=None):
 
 def flush(timeout=2.0):
     """Posts what waits, also in queues. Answers whether that was done in time."""
-    if current is None:
+    client = current
+    if client is None:
         return True
-    with contextlib.suppress(Fault):
-        current.engine.call("flush", current.number)
-    return current.sender.flush(timeout)
+    with tolerated():
+        client.engine.call("flush", client.number)
+    return client.sender.flush(timeout)
 
 
-def made(name, *arguments):
-    """Makes a call on the hub of this thread, where reporting has begun; a fault is a bug of the package or too little
-    memory, and never an error of the program."""
-    if current is not None:
-        with contextlib.suppress(Fault):
-            current.engine.call(name, current.hub().number, *arguments)
-            current.sender.wake.set()
+def call_hub(name, *arguments):
+    """Makes a call on the hub of this thread, where reporting has begun."""
+    client = current  # another thread may close it meanwhile
+    if client is not None:
+        with tolerated():
+            client.engine.call(name, client.hub().number, *arguments)
+            client.sender.wake.set()
 
 
 def event_id(name, *arguments):
-    if current is None:
-        return None
-    try:
-        it = current.engine.number(name, current.hub().number, *arguments, type=native.Id)
-    except Fault:
-        return None
-    current.sender.wake.set()
-    return str(it) if it.high or it.low else None
+    """The id that a call on the hub of this thread sets, or `None`."""
+    client = current
+    if client is not None:
+        with tolerated():
+            it = client.engine.number(name, client.hub().number, *arguments, type=native.Id)
+            client.sender.wake.set()
+            return str(it) if it.high or it.low else None
+    return None
 
 
 def capture_event(event):
@@ -263,11 +275,11 @@ def last_event_id():
 
 def add_breadcrumb(message=None, category=None, level="info", type=None, data=None):
     crumb = {"message": message, "category": category, "level": level, "type": type, "data": data}
-    made("add_breadcrumb", as_json({key: it for key, it in crumb.items() if it is not None}), time.time_ns())
+    call_hub("add_breadcrumb", as_json({key: it for key, it in crumb.items() if it is not None}), time.time_ns())
 
 
 def edit_scope(edits):
-    made("edit_scope", as_json(edits), time.time_ns())
+    call_hub("edit_scope", as_json(edits), time.time_ns())
 
 
 def set_tag(key, value):
@@ -296,26 +308,26 @@ def set_level(level):
 @contextlib.contextmanager
 def push_scope():
     """A copy of the scope, until the end of the block."""
-    client = current
-    if client is None:
-        yield
-        return
-    hub = client.hub()
-    depth = client.engine.number("push_scope", hub.number, type=native.SIZE)
+    client, hub, depth = current, None, None
+    if client is not None:
+        with tolerated():
+            hub = client.hub().number
+            depth = client.engine.number("push_scope", hub, type=native.SIZE)
     try:
         yield
     finally:
-        with contextlib.suppress(Fault):
-            client.engine.call("pop_scope", hub.number, depth, time.time_ns())
+        if depth is not None:
+            with tolerated():
+                client.engine.call("pop_scope", hub, depth, time.time_ns())
 
 
 def log(level, body, **attributes):
     """Sends a log of a level (`trace`, `debug`, `info`, `warn`, `error` or `fatal`)."""
-    made("capture_log", LOG_LEVELS.index(level), str(body), as_json(attributes), time.time_ns())
+    call_hub("capture_log", LOG_LEVELS.index(level), str(body), as_json(attributes), time.time_ns())
 
 
 def metric(kind, name, value, unit, attributes):
-    made("capture_metric", kind, name, int(value), unit, as_json(attributes), time.time_ns())
+    call_hub("capture_metric", kind, name, int(value), unit, as_json(attributes), time.time_ns())
 
 
 def count(name, value=1, **attributes):
@@ -331,11 +343,11 @@ def distribution(name, value, unit="", **attributes):
 
 
 def start_session():
-    made("start_session", native.fresh())
+    call_hub("start_session", native.fresh())
 
 
 def end_session(status="exited"):
-    made("end_session", SESSION_STATUSES.index(status), time.time_ns())
+    call_hub("end_session", SESSION_STATUSES.index(status), time.time_ns())
 
 
 class Span:
@@ -345,23 +357,21 @@ class Span:
 
     def __init__(self, client, number, transaction=None):
         self.client, self.number, self.transaction = client, number, transaction or self
-        self.children, self.is_finished, self.before = [], False, None
+        self.children, self.is_finished = [], False
 
     def call(self, name, *arguments):
         if self.client is not None and not self.is_finished:
-            with contextlib.suppress(Fault):
+            with tolerated():
                 self.client.engine.call(name, self.is_span, self.number, *arguments)
 
     def start_child(self, op, description=""):
-        if self.client is None:
-            return Span(None, 0)
-        try:
-            number = self.client.engine.number("start_child", self.is_span, self.number, op, description, native.fresh())
-        except Fault:
-            return Span(None, 0)
-        child = Span(self.client, number, self.transaction)
-        self.transaction.children.append(child)
-        return child
+        if self.client is not None:
+            with tolerated():
+                number = self.client.engine.number("start_child", self.is_span, self.number, op, description, native.fresh())
+                child = Span(self.client, number, self.transaction)
+                self.transaction.children.append(child)
+                return child
+        return Span(None, 0)
 
     def set_data(self, key, value):
         self.call("set_span_data", key, as_json(value))
@@ -382,39 +392,43 @@ class Span:
 
     def trace_headers(self):
         """The headers by which another program continues the trace."""
-        if self.client is None or self.is_finished:
-            return {}
-        return {"sentry-trace": self.client.engine.trace_header(self.is_span, self.number)}
+        if self.client is not None and not self.is_finished:
+            with tolerated():
+                return {"sentry-trace": self.client.engine.trace_header(self.is_span, self.number)}
+        return {}
 
     def finish(self):
         if self.client is not None and not self.is_finished:
             self.is_finished = True
-            with contextlib.suppress(Fault):
+            with tolerated():
                 self.client.engine.call("finish_span", self.number, time.time_ns())
 
-    def put(self, span):
-        # the span of the hub's scope
-        hub = self.client.hub().number
-        with contextlib.suppress(Fault):
-            if span is None:
-                self.client.engine.call("clear_span", hub, time.time_ns())
+    def put_innermost(self, hub):
+        """Gives the scope the span whose block runs now."""
+        with tolerated():
+            if hub.spans:
+                span = hub.spans[-1]
+                self.client.engine.call("set_span", hub.number, span.is_span, span.number, time.time_ns())
             else:
-                self.client.engine.call("set_span", hub, span.is_span, span.number, time.time_ns())
+                self.client.engine.call("clear_span", hub.number, time.time_ns())
 
     def __enter__(self):
         if self.client is not None:
-            self.client.hub().spans.append(self)
-            self.put(self)
+            with tolerated():
+                hub = self.client.hub()
+                hub.spans.append(self)
+                self.put_innermost(hub)
         return self
 
     def __exit__(self, kind, error, trace):
         if self.client is not None:
             if kind is not None:
                 self.set_status("internal_error")
-            spans = self.client.hub().spans
-            if self in spans:
-                spans.remove(self)
-            self.put(spans[-1] if spans else None)
+            with tolerated():
+                hub = self.client.hub()
+                if self in hub.spans:
+                    hub.spans.remove(self)
+                self.put_innermost(hub)
         self.finish()
 
 
@@ -428,12 +442,12 @@ class Transaction(Span):
         for child in self.children:
             child.finish()
         self.is_finished = True
-        with contextlib.suppress(Fault):
+        with tolerated():
             engine.call("finish_transaction", self.number, self.client.hub().number, now)
         for child in self.children:
-            with contextlib.suppress(Fault):
+            with tolerated():
                 engine.call("discard", True, child.number)
-        with contextlib.suppress(Fault):
+        with tolerated():
             engine.call("discard", False, self.number)
         self.client.sender.wake.set()
 
@@ -441,21 +455,23 @@ class Transaction(Span):
 def start_transaction(name, op="task", headers=None):
     """Starts a transaction, which goes on with the trace of these headers of a request, if they say one."""
     client = current
-    if client is None:
-        return Transaction(None, 0)
-    found = {key.lower(): it for key, it in (headers or {}).items()}
-    trace, baggage = found.get("sentry-trace", ""), found.get("baggage", "")
-    try:
-        number = client.engine.number("continue_transaction", client.hub().number, name, op, trace, baggage, native.fresh())
-    except Fault:
-        return Transaction(None, 0)
-    return Transaction(client, number)
+    if client is not None:
+        found = {key.lower(): it for key, it in (headers or {}).items()}
+        continued = found.get("sentry-trace", ""), found.get("baggage", "")
+        with tolerated():
+            number = client.engine.number("continue_transaction", client.hub().number, name, op, *continued, native.fresh())
+            return Transaction(client, number)
+    return Transaction(None, 0)
 
 
 def current_span():
     """The innermost span, or the transaction, whose block runs in this thread."""
-    spans = current.hub().spans if current else []
-    return spans[-1] if spans else None
+    client = current
+    if client is not None:
+        with tolerated():
+            spans = client.hub().spans
+            return spans[-1] if spans else None
+    return None
 
 
 class LoggingHandler(logging.Handler):
