@@ -545,12 +545,18 @@ def report_uncaught_errors():
     before, before_thread = sys.excepthook, threading.excepthook
 
     def hook(kind, error, trace):
-        capture_exception(error, "fatal", False, "excepthook")
-        before(kind, error, trace)
+        try:
+            capture_exception(error, "fatal", False, "excepthook")
+        finally:
+            before(kind, error, trace)
 
     def thread_hook(found):
-        capture_exception(found.exc_value, "error", False, "threading")
-        before_thread(found)
+        try:
+            # `sys.exit` ends a thread by an exception that is no error.
+            if found.exc_type is not SystemExit:
+                capture_exception(found.exc_value, "error", False, "threading")
+        finally:
+            before_thread(found)
 
     sys.excepthook, threading.excepthook = hook, thread_hook
 
