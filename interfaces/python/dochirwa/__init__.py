@@ -164,7 +164,7 @@ def init(
     seconds. Raises `Fault`, and ValueError where an option has more than one line.
     """
     global current
-    dsn = dsn if dsn is not None else os.environ.get("SENTRY_DSN")
+    dsn = (dsn if dsn is not None else os.environ.get("SENTRY_DSN", "")).strip()
     lines = {
         "dsn": dsn,
         "release": release if release is not None else os.environ.get("SENTRY_RELEASE"),

@@ -26,8 +26,8 @@ class Address:
     """Where a DSN says that envelopes go."""
 
     def __init__(self, dsn):
-        parts = urllib.parse.urlsplit(dsn)
-        path, _, project = parts.path.rpartition("/")
+        parts = urllib.parse.urlsplit(dsn.strip())
+        path, _, project = parts.path.rstrip("/").rpartition("/")
         host = parts.hostname or ""
         host = f"[{host}]" if ":" in host else host
         port = f":{parts.port}" if parts.port else ""
