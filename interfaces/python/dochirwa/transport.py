@@ -10,7 +10,10 @@ import urllib.request
 from . import native
 
 CATEGORIES = ("error", "transaction", "span", "session", "attachment", "log_item", "metric")
-SEND_ERROR, NETWORK_ERROR, RATE_LIMITED = 4, 6, 7
+REASONS = (
+    "event_processor before_send sample_rate buffer_overflow send_error internal_sdk_error network_error "
+    "ratelimit_backoff queue_overflow"
+).split()
 ITEMS = {
     "event": "error",
     "transaction": "transaction",
@@ -49,6 +52,24 @@ def split(envelope):
         items.append((read, rest[:size]))
         rest = rest[size:].lstrip(b"\n")
     return header, items
+
+
+def losses(item, reason):
+    """What is lost with an item: categories, reasons and quantities. A transaction is also a span, beside its own; what a
+    report says would otherwise never be reported."""
+    header, whole = item
+    kind = header.get("type")
+    if kind in ITEMS:
+        yield ITEMS[kind], reason, header.get("item_count", 1)
+    if kind == "transaction":
+        yield "span", reason, 1 + len(payload(whole).get("spans", ()))
+    if kind == "client_report":
+        for it in payload(whole)["discarded_events"]:
+            yield it["category"], it["reason"], it["quantity"]
+
+
+def payload(whole):
+    return json.loads(whole.partition(b"\n")[2])
 
 
 class Limits:
@@ -126,17 +147,15 @@ class Sender:
             self.send(waiting[1])
 
     def lose(self, items, reason):
-        for header, _ in items:
-            category = ITEMS.get(header.get("type"))
-            if category:
-                quantity = header.get("item_count", 1)
-                self.engine.call("record_loss", self.label, CATEGORIES.index(category), reason, quantity)
+        for item in items:
+            for category, why, quantity in losses(item, reason):
+                self.engine.call("record_loss", self.label, CATEGORIES.index(category), REASONS.index(why), quantity)
 
     def send(self, envelope):
         header, items = split(envelope)
         limited = [it for it in items if self.limits.holds(ITEMS.get(it[0].get("type")))]
         if limited:
-            self.lose(limited, RATE_LIMITED)
+            self.lose(limited, "ratelimit_backoff")
             items = [it for it in items if it not in limited]
             envelope = header + b"\n" + b"\n".join(it[1] for it in items) + b"\n"
         if not items:
@@ -144,11 +163,11 @@ class Sender:
         try:
             status, headers = self.post(envelope)
         except OSError:
-            self.lose(items, NETWORK_ERROR)
+            self.lose(items, "network_error")
             return
         self.limits.read(status, headers)
         if status >= 400 and status != 429:
-            self.lose(items, SEND_ERROR)
+            self.lose(items, "send_error")
 
     def post_by_urllib(self, envelope):
         if self.address is None:
