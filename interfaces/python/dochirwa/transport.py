@@ -14,6 +14,7 @@ REASONS = (
     "event_processor before_send sample_rate buffer_overflow send_error internal_sdk_error network_error "
     "ratelimit_backoff queue_overflow"
 ).split()
+LOGGER = logging.getLogger("dochirwa")
 ITEMS = {
     "event": "error",
     "transaction": "transaction",
@@ -101,13 +102,20 @@ class Limits:
         return any(self.until.get(it, 0) > now for it in (None, category))
 
 
+class NoRedirects(urllib.request.HTTPRedirectHandler):
+    """Leaves a redirection as the answer: urllib would follow it by a GET, without the envelope."""
+
+    def redirect_request(self, *words):
+        return None
+
+
 class Sender:
     """Ticks the client, and posts what waits."""
 
     def __init__(self, engine, client, label, dsn, post=None, interval=1.0):
         self.engine, self.client, self.label = engine, client, label
         self.address = Address(dsn) if dsn else None
-        self.post = post or self.post_by_urllib
+        self.post, self.opener = post or self.post_by_urllib, urllib.request.build_opener(NoRedirects)
         self.interval, self.limits = interval, Limits()
         self.wake, self.idle, self.is_over = threading.Event(), threading.Condition(), False
         self.asked = self.done = 0
@@ -134,7 +142,7 @@ class Sender:
                 if fault.number == native.CLOSED:
                     break
             except Exception:
-                logging.getLogger("dochirwa").debug("an envelope is lost", exc_info=True)
+                LOGGER.debug("an envelope is lost", exc_info=True)
             with self.idle:
                 self.done = max(self.done, asked)
                 self.idle.notify_all()
@@ -162,11 +170,12 @@ class Sender:
             return
         try:
             status, headers = self.post(envelope)
-        except OSError:
+        except Exception:  # also one of http.client, or of the program's `post`
+            LOGGER.debug("an envelope is lost", exc_info=True)
             self.lose(items, "network_error")
             return
         self.limits.read(status, headers)
-        if status >= 400 and status != 429:
+        if not 200 <= status < 300 and status != 429:
             self.lose(items, "send_error")
 
     def post_by_urllib(self, envelope):
@@ -174,7 +183,7 @@ class Sender:
             return 200, {}
         request = urllib.request.Request(self.address.url, envelope, self.address.headers, method="POST")
         try:
-            with urllib.request.urlopen(request, timeout=10) as answer:
+            with self.opener.open(request, timeout=10) as answer:
                 return answer.status, answer.headers
         except urllib.error.HTTPError as answer:
             with answer:
