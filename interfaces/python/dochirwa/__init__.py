@@ -218,7 +218,7 @@ def call_hub(name, *arguments):
     if client is not None:
         with tolerated():
             client.engine.call(name, client.hub().number, *arguments)
-            client.sender.wake.set()
+            client.sender.wake()
 
 
 def event_id(name, *arguments):
@@ -227,7 +227,7 @@ def event_id(name, *arguments):
     if client is not None:
         with tolerated():
             it = client.engine.number(name, client.hub().number, *arguments, type=native.Id)
-            client.sender.wake.set()
+            client.sender.wake()
             return str(it) if it.high or it.low else None
     return None
 
@@ -449,7 +449,7 @@ class Transaction(Span):
                 engine.call("discard", True, child.number)
         with tolerated():
             engine.call("discard", False, self.number)
-        self.client.sender.wake.set()
+        self.client.sender.wake()
 
 
 def start_transaction(name, op="task", headers=None):

@@ -1,6 +1,8 @@
 """Posting envelopes, in a thread of its own, and the rate limits of the server."""
+import contextlib
 import json
 import logging
+import queue
 import threading
 import time
 import urllib.error
@@ -117,7 +119,7 @@ class Sender:
         self.address = Address(dsn) if dsn else None
         self.post, self.opener = post or self.post_by_urllib, urllib.request.build_opener(NoRedirects)
         self.interval, self.limits = interval, Limits()
-        self.wake, self.idle, self.is_over = threading.Event(), threading.Condition(), False
+        self.wakes, self.idle, self.is_over = queue.SimpleQueue(), threading.Condition(), False
         self.asked = self.done = 0
         self.thread = None
 
@@ -127,13 +129,24 @@ class Sender:
 
     def restart(self):
         """In a process that was forked off, which has no other thread, and perhaps their locks."""
-        self.wake, self.idle = threading.Event(), threading.Condition()
+        self.wakes, self.idle = queue.SimpleQueue(), threading.Condition()
         self.start()
+
+    def wake(self):
+        """Has the thread look at once. A signal handler may interrupt this by another call of it, which `put` of this
+        queue allows, and `set` of an Event doesn't."""
+        if self.wakes.empty():
+            self.wakes.put(None)
+
+    def sleep(self):
+        with contextlib.suppress(queue.Empty):
+            self.wakes.get(timeout=self.interval)
+            while True:
+                self.wakes.get_nowait()
 
     def run(self):
         while not self.is_over:
-            self.wake.wait(self.interval)
-            self.wake.clear()
+            self.sleep()
             asked = self.asked
             try:
                 self.engine.call("tick", self.client, time.time_ns())
@@ -194,12 +207,12 @@ class Sender:
         with self.idle:
             self.asked += 1
             wanted = self.asked
-            self.wake.set()
+            self.wake()
             return self.idle.wait_for(lambda: self.done >= wanted, timeout)
 
     def stop(self, timeout):
         is_well = self.flush(timeout)
         self.is_over = True
-        self.wake.set()
+        self.wake()
         self.thread.join(timeout)
         return is_well
