@@ -128,7 +128,7 @@ class Sender:
         self.thread.start()
 
     def restart(self):
-        """In a process that was forked off, which has no other thread, and perhaps their locks."""
+        """In a process that was forked off: the other threads are gone, and may have held these locks."""
         self.wakes, self.idle = queue.SimpleQueue(), threading.Condition()
         self.start()
 
@@ -159,6 +159,9 @@ class Sender:
             with self.idle:
                 self.done = max(self.done, asked)
                 self.idle.notify_all()
+        with self.idle:
+            self.is_over = True
+            self.idle.notify_all()
 
     def send_all(self):
         while True:
@@ -208,11 +211,14 @@ class Sender:
             self.asked += 1
             wanted = self.asked
             self.wake()
-            return self.idle.wait_for(lambda: self.done >= wanted, timeout)
+            self.idle.wait_for(lambda: self.done >= wanted or self.is_over, timeout)
+            return self.done >= wanted
 
     def stop(self, timeout):
+        """A flush after which the thread ends, in this time in all."""
+        start = time.monotonic()
         is_well = self.flush(timeout)
         self.is_over = True
         self.wake()
-        self.thread.join(timeout)
+        self.thread.join(max(0, start + timeout - time.monotonic()))
         return is_well
