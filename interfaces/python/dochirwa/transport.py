@@ -26,6 +26,8 @@ ITEMS = {
     "log": "log_item",
     "trace_metric": "metric",
 }
+# Categories that the server's limits call otherwise than reports of losses do.
+LIMITED = {"trace_metric": "metric"}
 
 
 class Address:
@@ -82,15 +84,16 @@ class Limits:
         self.clock, self.until = clock, {}
 
     def read(self, status, headers):
-        """Keeps what the answer to a request says."""
-        limits = headers.get("X-Sentry-Rate-Limits")
+        """Keeps what the answer to a request says, with its headers in any case."""
+        headers = {name.lower(): it for name, it in headers.items()}
+        limits = headers.get("x-sentry-rate-limits")
         if limits is not None:
             for limit in limits.split(","):
                 seconds, _, rest = limit.strip().partition(":")
                 for category in rest.split(":")[0].split(";"):
-                    self.keep(category or None, seconds)
+                    self.keep(LIMITED.get(category, category) or None, seconds)
         elif status == 429:
-            self.keep(None, headers.get("Retry-After", "60"))
+            self.keep(None, headers.get("retry-after", "60"))
 
     def keep(self, category, seconds):
         try:
