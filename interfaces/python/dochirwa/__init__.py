@@ -88,8 +88,8 @@ class Hub:
 class Client:
     """What `init` makes: an engine with one client, and the thread that posts what it sends."""
 
-    def __init__(self, options, dsn, shutdown_timeout, tracks_sessions, post, library):
-        self.engine = native.Engine(library)
+    def __init__(self, options, dsn, shutdown_timeout, tracks_sessions, left_out, post, library):
+        self.engine, self.left_out = native.Engine(library), left_out
         self.shutdown_timeout, self.tracks_sessions, self.is_closed = shutdown_timeout, tracks_sessions, False
         try:
             self.number = self.engine.number("add_client", options, LABEL, time.time_ns())
@@ -185,7 +185,9 @@ def init(
         if "\n" in (value or ""):
             raise ValueError(f"the option {name} has more than one line")
     text = "".join(f"{name}={value}\n" for name, value in lines.items() if value)
-    made = Client(text, dsn, shutdown_timeout, auto_session_tracking, post, library)
+    # The engine keeps these two options, but captures all the same.
+    left_out = {name for name, is_enabled in (("capture_log", enable_logs), ("capture_metric", enable_metrics)) if not is_enabled}
+    made = Client(text, dsn, shutdown_timeout, auto_session_tracking, left_out, post, library)
     close()
     current = made
     if auto_session_tracking:
@@ -215,7 +217,7 @@ def flush(timeout=2.0):
 def call_hub(name, *arguments):
     """Makes a call on the hub of this thread, where reporting has begun."""
     client = current  # another thread may close it meanwhile
-    if client is not None:
+    if client is not None and name not in client.left_out:
         with tolerated():
             client.engine.call(name, client.hub().number, *arguments)
             client.sender.wake()
