@@ -30,6 +30,7 @@ __all__ = (
 
 LEVELS = ("debug", "info", "warning", "error", "fatal")
 LOG_LEVELS = ("trace", "debug", "info", "warn", "error", "fatal")
+METRIC_KINDS = ("counter", "gauge", "distribution")
 SESSION_STATUSES = ("ok", "exited", "crashed", "abnormal")
 LABEL = 0
 LOGGER = logging.getLogger("dochirwa")
@@ -328,20 +329,34 @@ def log(level, body, **attributes):
     call_hub("capture_log", LOG_LEVELS.index(level), str(body), as_json(attributes), time.time_ns())
 
 
+def whole(value):
+    """The whole number of 64 bits that is next to a value, or `None`."""
+    try:
+        number = round(value)
+    except (ValueError, OverflowError):
+        return None
+    return number if -(2**63) <= number < 2**63 else None
+
+
 def metric(kind, name, value, unit, attributes):
-    call_hub("capture_metric", kind, name, int(value), unit, as_json(attributes), time.time_ns())
+    number = whole(value)
+    if number is None:
+        LOGGER.debug("the metric %s is left out: its value is %r", name, value)
+    else:
+        call_hub("capture_metric", METRIC_KINDS.index(kind), name, number, unit, as_json(attributes), time.time_ns())
 
 
 def count(name, value=1, **attributes):
-    metric(0, name, value, "", attributes)
+    """Adds to a counter. The values of all metrics are rounded to whole numbers, and left out beyond 64 bits."""
+    metric("counter", name, value, "", attributes)
 
 
 def gauge(name, value, unit="", **attributes):
-    metric(1, name, value, unit, attributes)
+    metric("gauge", name, value, unit, attributes)
 
 
 def distribution(name, value, unit="", **attributes):
-    metric(2, name, value, unit, attributes)
+    metric("distribution", name, value, unit, attributes)
 
 
 def start_session():
