@@ -52,12 +52,16 @@ def plain(value, depth=8):
         return value
     if isinstance(value, float) and value.is_integer():
         value = int(value)
-    if isinstance(value, int):
-        return value if -(2**63) <= value < 2**64 else str(value)
+    if isinstance(value, int) and -(2**63) <= value < 2**64:
+        return value
     if depth > 0 and isinstance(value, dict):
         return {str(key): plain(it, depth - 1) for key, it in value.items()}
     if depth > 0 and isinstance(value, (list, tuple)):
         return [plain(it, depth - 1) for it in value]
+    return as_text(value)
+
+
+def as_text(value):
     try:
         return str(value)
     except Exception:
@@ -67,6 +71,27 @@ def plain(value, depth=8):
 def as_json(value):
     # Half of a pair of surrogates is no text.
     return json.dumps(plain(value), ensure_ascii=False).encode("utf-8", "replace")
+
+
+def texts(values):
+    """The entries of a dictionary as texts, without those that are `None`."""
+    return {key: as_text(it) for key, it in values.items() if it is not None}
+
+
+def user_of(user):
+    """A user, with texts where the engine takes nothing else."""
+    return {**user, **texts({key: user.get(key) for key in ("id", "email", "username", "ip_address")})}
+
+
+def event_of(event):
+    """An event, with texts where the engine takes nothing else."""
+    event = dict(event)
+    for key, convert in (("tags", texts), ("user", user_of)):
+        if isinstance(event.get(key), dict):
+            event[key] = convert(event[key])
+    if isinstance(event.get("fingerprint"), (list, tuple)):
+        event["fingerprint"] = [as_text(it) for it in event["fingerprint"]]
+    return event
 
 
 def millionths(rate):
@@ -237,11 +262,11 @@ def event_id(name, *arguments):
 
 def capture_event(event):
     """Sends an event, a dictionary as Sentry writes it. Answers its id, or `None` where it was dropped."""
-    return event_id("capture_event", as_json(event), native.fresh())
+    return event_id("capture_event", as_json(event_of(event)), native.fresh())
 
 
 def capture_message(message, level="info"):
-    return event_id("capture_message", LEVELS.index(level), str(message), native.fresh())
+    return event_id("capture_message", LEVELS.index(level), as_text(message), native.fresh())
 
 
 def links(error):
@@ -287,7 +312,7 @@ def edit_scope(edits):
 
 def set_tag(key, value):
     """Sets a tag, or removes it where the value is `None`."""
-    edit_scope({"tags": {key: None if value is None else str(value)}})
+    edit_scope({"tags": {key: None if value is None else as_text(value)}})
 
 
 def set_extra(key, value):
@@ -300,8 +325,7 @@ def set_context(key, value):
 
 def set_user(user):
     """Sets the user: a dictionary with id, email, username, ip_address and data, or `None`."""
-    texts = ("id", "email", "username", "ip_address")
-    edit_scope({"user": user and {key: str(it) if key in texts and it is not None else it for key, it in user.items()}})
+    edit_scope({"user": None if user is None else user_of(user)})
 
 
 def set_level(level):
@@ -326,7 +350,7 @@ def push_scope():
 
 def log(level, body, **attributes):
     """Sends a log of a level (`trace`, `debug`, `info`, `warn`, `error` or `fatal`)."""
-    call_hub("capture_log", LOG_LEVELS.index(level), str(body), as_json(attributes), time.time_ns())
+    call_hub("capture_log", LOG_LEVELS.index(level), as_text(body), as_json(attributes), time.time_ns())
 
 
 def whole(value):
@@ -394,7 +418,7 @@ class Span:
         self.call("set_span_data", key, as_json(value))
 
     def set_tag(self, key, value):
-        self.call("set_span_tag", key, str(value))
+        self.call("set_span_tag", key, as_text(value))
 
     def set_status(self, status):
         self.call("set_span_status", status)
@@ -505,7 +529,7 @@ class LoggingHandler(logging.Handler):
         try:
             text = record.getMessage()
         except Exception:
-            text = str(record.msg)
+            text = as_text(record.msg)
         named = min(max(record.levelno // 10 - 1, 0), 4)
         error = record.exc_info[1] if record.exc_info else None
         if record.levelno >= self.event_level:
