@@ -94,6 +94,13 @@ def event_of(event):
     return event
 
 
+def number_of(names, name):
+    """The engine's number for a name."""
+    if name not in names:
+        raise ValueError(f"{name!r} is none of {', '.join(names)}")
+    return names.index(name)
+
+
 def millionths(rate):
     number = round(float(rate) * 1000000)
     # In seven digits, since 1 alone stands for all.
@@ -266,7 +273,8 @@ def capture_event(event):
 
 
 def capture_message(message, level="info"):
-    return event_id("capture_message", LEVELS.index(level), as_text(message), native.fresh())
+    """Sends a message of a level (`debug`, `info`, `warning`, `error` or `fatal`). Answers its id, or `None`."""
+    return event_id("capture_message", number_of(LEVELS, level), as_text(message), native.fresh())
 
 
 def links(error):
@@ -350,7 +358,7 @@ def push_scope():
 
 def log(level, body, **attributes):
     """Sends a log of a level (`trace`, `debug`, `info`, `warn`, `error` or `fatal`)."""
-    call_hub("capture_log", LOG_LEVELS.index(level), as_text(body), as_json(attributes), time.time_ns())
+    call_hub("capture_log", number_of(LOG_LEVELS, level), as_text(body), as_json(attributes), time.time_ns())
 
 
 def whole(value):
@@ -388,7 +396,7 @@ def start_session():
 
 
 def end_session(status="exited"):
-    call_hub("end_session", SESSION_STATUSES.index(status), time.time_ns())
+    call_hub("end_session", number_of(SESSION_STATUSES, status), time.time_ns())
 
 
 class Span:
