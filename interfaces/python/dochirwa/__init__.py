@@ -487,12 +487,12 @@ class Transaction(Span):
     def finish(self):
         if self.client is None or self.is_finished:
             return
-        engine, now = self.client.engine, time.time_ns()
+        engine = self.client.engine
         for child in self.children:
             child.finish()
         self.is_finished = True
         with tolerated():
-            engine.call("finish_transaction", self.number, self.client.hub().number, now)
+            engine.call("finish_transaction", self.number, self.client.hub().number, time.time_ns())
         for child in self.children:
             with tolerated():
                 engine.call("discard", True, child.number)
