@@ -298,8 +298,11 @@ def exception_of(error, handled, mechanism):
 
 
 def capture_exception(error=None, level="error", handled=True, mechanism="generic"):
-    """Sends an exception, or the one that is being handled, with its causes."""
-    error = error if error is not None else sys.exc_info()[1]
+    """Sends an exception, also as `sys.exc_info()` has it, or the one that is being handled, with its causes."""
+    if isinstance(error, tuple):
+        error = error[1]
+    elif error is None:
+        error = sys.exc_info()[1]
     if error is None:
         return None
     return capture_event({"level": level, "exception": [exception_of(it, handled, mechanism) for it in links(error)]})
@@ -375,7 +378,7 @@ def metric(kind, name, value, unit, attributes):
     if number is None:
         LOGGER.debug("the metric %s is left out: its value is %r", name, value)
     else:
-        call_hub("capture_metric", METRIC_KINDS.index(kind), name, number, unit, as_json(attributes), time.time_ns())
+        call_hub("capture_metric", METRIC_KINDS.index(kind), name, number, unit or "", as_json(attributes), time.time_ns())
 
 
 def count(name, value=1, **attributes):
@@ -416,7 +419,7 @@ class Span:
     def start_child(self, op, description=""):
         if self.client is not None:
             with tolerated():
-                number = self.client.engine.number("start_child", self.is_span, self.number, op, description, native.fresh())
+                number = self.client.engine.number("start_child", self.is_span, self.number, op, description or "", native.fresh())
                 child = Span(self.client, number, self.transaction)
                 self.transaction.children.append(child)
                 return child
