@@ -474,7 +474,8 @@ class Span:
 
     def __exit__(self, kind, error, trace):
         if self.client is not None:
-            if kind is not None:
+            # Not so where a generator is closed, or the program ends.
+            if kind is not None and issubclass(kind, Exception):
                 self.set_status("internal_error")
             with tolerated():
                 hub = self.client.hub()
@@ -552,6 +553,36 @@ class LoggingHandler(logging.Handler):
         log(LOG_LEVELS[named + 1], text, logger=record.name)
 
 
+# What answers of HTTP say of a transaction, as in the crate `sentry_http`; the others by their first digit.
+SPAN_STATUSES = {
+    "401": "unauthenticated",
+    "403": "permission_denied",
+    "404": "not_found",
+    "409": "already_exists",
+    "413": "failed_precondition",
+    "429": "resource_exhausted",
+    "499": "cancelled",
+    "501": "unimplemented",
+    "503": "unavailable",
+    "504": "deadline_exceeded",
+    "1": "ok",
+    "2": "ok",
+    "3": "ok",
+    "4": "invalid_argument",
+    "5": "internal_error",
+}
+
+
+def span_status(code):
+    return SPAN_STATUSES.get(code) or SPAN_STATUSES.get(code[:1], "unknown_error")
+
+
+def path_of(environ):
+    """The path of a request, whose bytes WSGI has as the characters of Latin-1."""
+    path = environ.get("SCRIPT_NAME", "") + environ.get("PATH_INFO", "")
+    return path.encode("latin-1", "replace").decode("utf-8", "replace")
+
+
 class WsgiMiddleware:
     """Runs each request of a WSGI application in a scope and a transaction of its own, and sends what it raises."""
 
@@ -559,7 +590,7 @@ class WsgiMiddleware:
         self.app = app
 
     def __call__(self, environ, start_response):
-        method, path = environ.get("REQUEST_METHOD", ""), environ.get("PATH_INFO", "")
+        method, path = environ.get("REQUEST_METHOD", ""), path_of(environ)
         headers = {key[5:].replace("_", "-").lower(): it for key, it in environ.items() if key.startswith("HTTP_")}
         transaction = start_transaction(f"{method} {path}", "http.server", headers)
         host = environ.get("HTTP_HOST") or environ.get("SERVER_NAME", "")
@@ -569,7 +600,7 @@ class WsgiMiddleware:
         def respond(status, *rest):
             code = status.partition(" ")[0]
             transaction.set_tag("http.status_code", code)
-            transaction.set_status("ok" if code < "4" else "not_found" if code == "404" else "invalid_argument" if code < "5" else "internal_error")
+            transaction.set_status(span_status(code))
             return start_response(status, *rest)
 
         with push_scope(), transaction:
