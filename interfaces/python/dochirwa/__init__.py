@@ -126,27 +126,31 @@ class Client:
         self.shutdown_timeout, self.tracks_sessions, self.is_closed = shutdown_timeout, tracks_sessions, False
         try:
             self.number = self.engine.number("add_client", options, LABEL, time.time_ns())
-            self.main = self.engine.number("new_hub", self.number, native.fresh())
+            # Kept beside the thread, which may end before the client.
+            self.main = Hub(self, self.engine.number("new_hub", self.number, native.fresh()))
         except Fault:
             self.engine.free()
             raise
         self.local = threading.local()
-        self.local.hub = Hub(self, self.main)
+        self.local.hub = self.main
         self.sender = Sender(self.engine, self.number, LABEL, dsn, post)
         self.sender.start()
 
     def hub(self):
         hub = getattr(self.local, "hub", None)
         if hub is None:
-            hub = self.local.hub = Hub(self, self.engine.number("new_hub_from_top", self.main))
+            hub = self.local.hub = Hub(self, self.engine.number("new_hub_from_top", self.main.number))
         return hub
+
+    def end_session(self):
+        with tolerated():
+            self.engine.call("end_session", self.main.number, SESSION_STATUSES.index("exited"), time.time_ns())
 
     def close(self, timeout=None):
         if self.is_closed:
             return True
         self.is_closed = True
-        with tolerated():
-            self.engine.call("end_session", self.main, SESSION_STATUSES.index("exited"), time.time_ns())
+        self.end_session()
         with tolerated():
             self.engine.call("close", self.number)
         is_well = self.sender.stop(self.shutdown_timeout if timeout is None else timeout)
@@ -156,8 +160,7 @@ class Client:
     def after_fork(self):
         """In a process that was forked off: what waits, also in queues, and the session are the parent's to post."""
         self.engine.lock = threading.RLock()
-        with tolerated():
-            self.engine.call("end_session", self.main, SESSION_STATUSES.index("exited"), time.time_ns())
+        self.end_session()
         with tolerated():
             self.engine.call("flush", self.number)
         with tolerated():
