@@ -1,4 +1,5 @@
 """Posting envelopes, in a thread of its own, and the rate limits of the server."""
+import collections
 import contextlib
 import json
 import logging
@@ -16,6 +17,7 @@ REASONS = (
     "event_processor before_send sample_rate buffer_overflow send_error internal_sdk_error network_error "
     "ratelimit_backoff queue_overflow"
 ).split()
+MOST_WAITING = 1000
 LOGGER = logging.getLogger("dochirwa")
 ITEMS = {
     "event": "error",
@@ -123,6 +125,7 @@ class Sender:
         self.post, self.opener = post or self.post_by_urllib, urllib.request.build_opener(NoRedirects)
         self.interval, self.limits = interval, Limits()
         self.wakes, self.idle, self.is_over = queue.SimpleQueue(), threading.Condition(), False
+        self.waiting = collections.deque()
         self.asked = self.done = 0
         self.thread = None
 
@@ -133,6 +136,7 @@ class Sender:
     def restart(self):
         """In a process that was forked off: the other threads are gone, and may have held these locks."""
         self.wakes, self.idle = queue.SimpleQueue(), threading.Condition()
+        self.waiting.clear()
         self.start()
 
     def wake(self):
@@ -167,11 +171,18 @@ class Sender:
             self.idle.notify_all()
 
     def send_all(self):
-        while True:
-            waiting = self.engine.next_envelope()
-            if waiting is None:
-                return
-            self.send(waiting[1])
+        self.fetch()
+        while self.waiting:
+            self.send(self.waiting.popleft())
+            self.fetch()
+
+    def fetch(self):
+        """Takes what waits in the engine. Beyond the limit, as where the server is slow, the latest envelopes are lost."""
+        while (found := self.engine.next_envelope()) is not None:
+            if len(self.waiting) < MOST_WAITING:
+                self.waiting.append(found[1])
+            else:
+                self.lose(split(found[1])[1], "queue_overflow")
 
     def lose(self, items, reason):
         for item in items:
