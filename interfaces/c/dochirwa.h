@@ -22,7 +22,8 @@
  * - a pointer is not null, also with a length of 0, and what it names is initialized, aligned and not written meanwhile;
  *   what is written through (the engine, room, and the results) overlaps nothing else;
  * - malloc, realloc and free are those of one allocator, with blocks aligned to 16;
- * - no call from a signal handler.
+ * - no call from a signal handler; and no fork while another thread is in a call, if the child is to use the engine. The
+ *   child has a copy of all that waits (dochirwa_flush, and then dropping the envelopes, leaves it to the parent).
  */
 #ifndef DOCHIRWA_H
 #define DOCHIRWA_H

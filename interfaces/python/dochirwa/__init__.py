@@ -218,7 +218,7 @@ def init(
         "drop_metrics": drop_metrics,
     }
     for name, value in lines.items():
-        if "\n" in (value or ""):
+        if "\n" in str(value or ""):
             raise ValueError(f"the option {name} has more than one line")
     text = "".join(f"{name}={value}\n" for name, value in lines.items() if value)
     # The engine keeps these two options, but captures all the same.
