@@ -131,7 +131,7 @@ class Client:
         except Fault:
             self.engine.free()
             raise
-        self.local = threading.local()
+        self.local, self.finished = threading.local(), []
         self.local.hub = self.main
         self.sender = Sender(self.engine, self.number, LABEL, dsn, post)
         self.sender.start()
@@ -141,6 +141,18 @@ class Client:
         if hub is None:
             hub = self.local.hub = Hub(self, self.engine.number("new_hub_from_top", self.main.number))
         return hub
+
+    def discard(self, spans):
+        """Gives spans back: now, or, where a scope still names one, with the next ones."""
+        with self.engine.lock:
+            kept = []
+            for it in self.finished + spans:
+                try:
+                    self.engine.call("discard", it.is_span, it.number)
+                except Fault as fault:
+                    if fault.number == native.STILL_NAMED:
+                        kept.append(it)
+            self.finished = kept
 
     def end_session(self):
         with tolerated():
@@ -207,7 +219,7 @@ def init(
         "environment": environment if environment is not None else os.environ.get("SENTRY_ENVIRONMENT"),
         "server": server_name,
         "rate": millionths(sample_rate),
-        "traces": millionths(traces_sample_rate),
+        "traces": millionths(traces_sample_rate or 0.0),
         "pii": str(int(bool(send_default_pii))),
         "crumbs": None if max_breadcrumbs is None else str(int(max_breadcrumbs)),
         "logs": str(int(bool(enable_logs))),
@@ -494,17 +506,12 @@ class Transaction(Span):
     def finish(self):
         if self.client is None or self.is_finished:
             return
-        engine = self.client.engine
         for child in self.children:
             child.finish()
         self.is_finished = True
         with tolerated():
-            engine.call("finish_transaction", self.number, self.client.hub().number, time.time_ns())
-        for child in self.children:
-            with tolerated():
-                engine.call("discard", True, child.number)
-        with tolerated():
-            engine.call("discard", False, self.number)
+            self.client.engine.call("finish_transaction", self.number, self.client.hub().number, time.time_ns())
+        self.client.discard([*self.children, self])
         self.client.sender.wake()
 
 
