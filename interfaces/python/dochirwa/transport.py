@@ -53,7 +53,7 @@ def split(envelope):
     header, _, rest = envelope.partition(b"\n")
     items = []
     while rest:
-        line, _, after = rest.partition(b"\n")
+        line = rest.partition(b"\n")[0]
         read = json.loads(line)
         size = len(line) + 1 + read["length"]
         items.append((read, rest[:size]))
@@ -122,7 +122,7 @@ class Sender:
     def __init__(self, engine, client, label, dsn, post=None, interval=1.0):
         self.engine, self.client, self.label = engine, client, label
         self.address = Address(dsn) if dsn else None
-        self.post, self.opener = post or self.post_by_urllib, urllib.request.build_opener(NoRedirects)
+        self.post, self.opener = post or self.post_by_urllib, None if post else urllib.request.build_opener(NoRedirects)
         self.interval, self.limits = interval, Limits()
         self.wakes, self.idle, self.is_over = queue.SimpleQueue(), threading.Condition(), False
         self.waiting = collections.deque()
