@@ -128,13 +128,13 @@ class Client:
             self.number = self.engine.number("add_client", options, LABEL, time.time_ns())
             # Kept beside the thread, which may end before the client.
             self.main = Hub(self, self.engine.number("new_hub", self.number, native.fresh()))
-        except Fault:
+            self.sender = Sender(self.engine, self.number, LABEL, dsn, post)
+            self.sender.start()
+        except Exception:
             self.engine.free()
             raise
         self.local, self.finished = threading.local(), []
         self.local.hub = self.main
-        self.sender = Sender(self.engine, self.number, LABEL, dsn, post)
-        self.sender.start()
 
     def hub(self):
         hub = getattr(self.local, "hub", None)
@@ -206,8 +206,10 @@ def init(
 ):
     """Begins to report, in place of what an earlier call began.
 
-    Without a DSN nothing is sent. `drop_events` and its like drop what begins with their text: events and breadcrumbs by
-    their message, logs by their body, metrics by their name. `post` is called with the bytes of each envelope in place of
+    `dsn`, `release` and `environment` are otherwise those of SENTRY_DSN, SENTRY_RELEASE and SENTRY_ENVIRONMENT; without a
+    DSN nothing is sent. Rates are from 0 to 1. `drop_events` and its like drop what begins with their text: events and
+    breadcrumbs by their message, logs by their body, metrics by their name. `auto_session_tracking` begins a session, and
+    `report_uncaught` sends what ends the program or a thread. `post` is called with the bytes of each envelope in place of
     a request by urllib, and answers a status and headers. `library` is the path of libdochirwa.so. Timeouts are in
     seconds. Raises `Fault`, and ValueError where an option has more than one line.
     """
