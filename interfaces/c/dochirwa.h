@@ -22,8 +22,8 @@
  * - a pointer is not null, also with a length of 0, and what it names is initialized, aligned and not written meanwhile;
  *   what is written through (the engine, room, and the results) overlaps nothing else;
  * - malloc, realloc and free are those of one allocator, with blocks aligned to 16;
- * - no call from a signal handler; and no fork while another thread is in a call, if the child is to use the engine. The
- *   child has a copy of all that waits (dochirwa_flush, and then dropping the envelopes, leaves it to the parent).
+ * - no call from a signal handler, and no fork while another thread is in a call, unless the child makes none. A child
+ *   has a copy of all that waits: dochirwa_flush on each client, and dochirwa_drop_envelopes, leave it to the parent.
  */
 #ifndef DOCHIRWA_H
 #define DOCHIRWA_H
@@ -60,11 +60,11 @@ void dochirwa_free(dochirwa *engine);
 
 /* Adds a client of the options in a text, a line NAME=VALUE each: dsn, release, environment and server are texts; rate
  * (of events, by default all) and traces (of transactions, by default none) are in millionths, but 1 is all; strict, pii,
- * logs and metrics are 0 or 1 (the last two for other SDKs: logs and metrics that are captured are sent either way); mode
- * is application or request; org, crumbs, maxspans and maxbatch are numbers. In place of callbacks, drop_events and
- * drop_breadcrumbs (by their message), drop_logs (by their body) and drop_metrics (by their name) drop what begins with
- * their text, and nothing where it is empty; what is dropped, but for breadcrumbs, is reported as lost. Clients of one
- * label count their losses together. Faults: 6, 7 (a rate above 1000000), 9, 11. */
+ * logs and metrics are 0 or 1 (the last two change nothing here: what is captured is sent); mode is application or
+ * request; org, crumbs, maxspans and maxbatch are numbers. In place of callbacks, drop_events and drop_breadcrumbs (by
+ * their message), drop_logs (by their body) and drop_metrics (by their name) drop what begins with their text, and
+ * nothing where it is empty; what is dropped, but for breadcrumbs, is reported as lost. Clients of one label count their
+ * losses together. Faults: 6, 7 (a rate above 1000000), 9, 11. */
 uint32_t dochirwa_add_client(dochirwa *engine, const uint8_t *options, size_t options_length, uint64_t label, uint64_t now, uint64_t *client);
 /* Adds a client with the options and the label of another, and queues of its own. Faults: 2, 9. */
 uint32_t dochirwa_clone_client(dochirwa *engine, uint64_t client, uint64_t now, uint64_t *clone);
