@@ -1,6 +1,7 @@
-/* dochirwa.h: the engine of Dochirwa for C. Link libdochirwa.a, and liblibc_c.a of the toolchain (docs/INTERFACES.md).
+/* dochirwa.h: the engine of Dochirwa for C. Link what interfaces/c/install installs, or libdochirwa.a, and liblibc_c.a
+ * and libos_c.a of the toolchain (docs/INTERFACES.md).
  *
- * Every function but dochirwa_free answers 0, or the number of a fault:
+ * Every function but dochirwa_free answers 0, or the number of a fault (DOCHIRWA_FAULT_STALE and the like):
  *
  *    1 out of memory      5 scopes open     9 full                        13 the engine is open already
  *    2 stale              6 invalid DSN    10 a text isn't UTF-8
@@ -21,7 +22,8 @@
  * - a pointer is not null, also with a length of 0, and what it names is initialized, aligned and not written meanwhile;
  *   what is written through (the engine, room, and the results) overlaps nothing else;
  * - malloc, realloc and free are those of one allocator, with blocks aligned to 16;
- * - no call from a signal handler.
+ * - no call from a signal handler, and no fork while another thread is in a call, unless the child makes none. A child
+ *   has a copy of all that waits: dochirwa_flush on each client, and dochirwa_drop_envelopes, leave it to the parent.
  */
 #ifndef DOCHIRWA_H
 #define DOCHIRWA_H
@@ -41,6 +43,7 @@ typedef struct { uint64_t high, low; } dochirwa_id;
  * of a span, and a random number below a million, which decides what is sampled (otherwise 11). */
 typedef struct { uint64_t now; dochirwa_id id, trace; uint64_t span; uint32_t draw; } dochirwa_fresh;
 
+enum { DOCHIRWA_FAULT_OUT_OF_MEMORY = 1, DOCHIRWA_FAULT_STALE, DOCHIRWA_FAULT_OUT_OF_ORDER, DOCHIRWA_FAULT_STILL_NAMED, DOCHIRWA_FAULT_SCOPES_OPEN, DOCHIRWA_FAULT_INVALID_DSN, DOCHIRWA_FAULT_INVALID_RATE, DOCHIRWA_FAULT_FOREIGN_LOSSES, DOCHIRWA_FAULT_FULL, DOCHIRWA_FAULT_NOT_UTF8, DOCHIRWA_FAULT_UNKNOWN, DOCHIRWA_FAULT_CLOSED, DOCHIRWA_FAULT_OPEN };
 enum { DOCHIRWA_DEBUG, DOCHIRWA_INFO, DOCHIRWA_WARNING, DOCHIRWA_ERROR, DOCHIRWA_FATAL };
 enum { DOCHIRWA_LOG_TRACE, DOCHIRWA_LOG_DEBUG, DOCHIRWA_LOG_INFO, DOCHIRWA_LOG_WARN, DOCHIRWA_LOG_ERROR, DOCHIRWA_LOG_FATAL };
 enum { DOCHIRWA_COUNTER, DOCHIRWA_GAUGE, DOCHIRWA_DISTRIBUTION };
@@ -56,11 +59,12 @@ void dochirwa_free(dochirwa *engine);
 /* Clients */
 
 /* Adds a client of the options in a text, a line NAME=VALUE each: dsn, release, environment and server are texts; rate
- * (of events) and traces (of transactions) are in millionths, but 1 is all; strict, pii, logs and metrics are 0 or 1;
- * mode is application or request; org, crumbs, maxspans and maxbatch are numbers. In place of callbacks, drop_events and
- * drop_breadcrumbs (by their message), drop_logs (by their body) and drop_metrics (by their name) drop what begins with
- * their text, and nothing where it is empty; what is dropped, but for breadcrumbs, is reported as lost. Clients of one
- * label count their losses together. Faults: 6, 7 (a rate above 1000000), 9, 11. */
+ * (of events, by default all) and traces (of transactions, by default none) are in millionths, but 1 is all; strict, pii,
+ * logs and metrics are 0 or 1 (the last two change nothing here: what is captured is sent); mode is application or
+ * request; org, crumbs, maxspans and maxbatch are numbers. In place of callbacks, drop_events and drop_breadcrumbs (by
+ * their message), drop_logs (by their body) and drop_metrics (by their name) drop what begins with their text, and
+ * nothing where it is empty; what is dropped, but for breadcrumbs, is reported as lost. Clients of one label count their
+ * losses together. Faults: 6, 7 (a rate above 1000000), 9, 11. */
 uint32_t dochirwa_add_client(dochirwa *engine, const uint8_t *options, size_t options_length, uint64_t label, uint64_t now, uint64_t *client);
 /* Adds a client with the options and the label of another, and queues of its own. Faults: 2, 9. */
 uint32_t dochirwa_clone_client(dochirwa *engine, uint64_t client, uint64_t now, uint64_t *clone);

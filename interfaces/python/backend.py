@@ -6,6 +6,7 @@ The library is dochirwa/libdochirwa.so, if it is there. Otherwise it is linked f
 import base64
 import hashlib
 import os
+import shlex
 import subprocess
 import sysconfig
 import tempfile
@@ -34,7 +35,8 @@ def linked_library():
     with tempfile.TemporaryDirectory() as folder:
         path = os.path.join(folder, LIBRARY)
         whole = "-Wl,--whole-archive", archive, "-Wl,--no-whole-archive"
-        subprocess.run([os.environ.get("CC", "cc"), "-shared", "-o", path, *whole, *others], check=True)
+        compiler = shlex.split(os.environ.get("CC") or "cc")
+        subprocess.run([*compiler, "-shared", "-o", path, *whole, *others], check=True)
         with open(path, "rb") as file:
             return file.read()
 

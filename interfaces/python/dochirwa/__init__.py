@@ -30,8 +30,20 @@ __all__ = (
 
 LEVELS = ("debug", "info", "warning", "error", "fatal")
 LOG_LEVELS = ("trace", "debug", "info", "warn", "error", "fatal")
+METRIC_KINDS = ("counter", "gauge", "distribution")
 SESSION_STATUSES = ("ok", "exited", "crashed", "abnormal")
 LABEL = 0
+LOGGER = logging.getLogger("dochirwa")
+
+
+@contextlib.contextmanager
+def tolerated():
+    """A call that fails in the block is logged, and the rest of the block left out. It is a record that the engine
+    doesn't take, a call after `close`, too little memory, or a bug of the package, but never an error of the program."""
+    try:
+        yield
+    except Fault:
+        LOGGER.debug("a call failed", exc_info=True)
 
 
 def plain(value, depth=8):
@@ -40,12 +52,16 @@ def plain(value, depth=8):
         return value
     if isinstance(value, float) and value.is_integer():
         value = int(value)
-    if isinstance(value, int):
-        return value if -(2**63) <= value < 2**64 else str(value)
+    if isinstance(value, int) and -(2**63) <= value < 2**64:
+        return value
     if depth > 0 and isinstance(value, dict):
         return {str(key): plain(it, depth - 1) for key, it in value.items()}
     if depth > 0 and isinstance(value, (list, tuple)):
         return [plain(it, depth - 1) for it in value]
+    return as_text(value)
+
+
+def as_text(value):
     try:
         return str(value)
     except Exception:
@@ -55,6 +71,34 @@ def plain(value, depth=8):
 def as_json(value):
     # Half of a pair of surrogates is no text.
     return json.dumps(plain(value), ensure_ascii=False).encode("utf-8", "replace")
+
+
+def texts(values):
+    """The entries of a dictionary as texts, without those that are `None`."""
+    return {key: as_text(it) for key, it in values.items() if it is not None}
+
+
+def user_of(user):
+    """A user, with texts where the engine takes nothing else."""
+    return {**user, **texts({key: user.get(key) for key in ("id", "email", "username", "ip_address")})}
+
+
+def event_of(event):
+    """An event, with texts where the engine takes nothing else."""
+    event = dict(event)
+    for key, convert in (("tags", texts), ("user", user_of)):
+        if isinstance(event.get(key), dict):
+            event[key] = convert(event[key])
+    if isinstance(event.get("fingerprint"), (list, tuple)):
+        event["fingerprint"] = [as_text(it) for it in event["fingerprint"]]
+    return event
+
+
+def number_of(names, name):
+    """The engine's number for a name."""
+    if name not in names:
+        raise ValueError(f"{name!r} is none of {', '.join(names)}")
+    return names.index(name)
 
 
 def millionths(rate):
@@ -77,46 +121,63 @@ class Hub:
 class Client:
     """What `init` makes: an engine with one client, and the thread that posts what it sends."""
 
-    def __init__(self, options, dsn, shutdown_timeout, post, library):
-        self.engine = native.Engine(library)
-        self.shutdown_timeout, self.is_closed = shutdown_timeout, False
+    def __init__(self, options, dsn, shutdown_timeout, tracks_sessions, left_out, post, library):
+        self.engine, self.left_out = native.Engine(library), left_out
+        self.shutdown_timeout, self.tracks_sessions, self.is_closed = shutdown_timeout, tracks_sessions, False
         try:
             self.number = self.engine.number("add_client", options, LABEL, time.time_ns())
-            self.main = self.engine.number("new_hub", self.number, native.fresh())
-        except Fault:
+            # Kept beside the thread, which may end before the client.
+            self.main = Hub(self, self.engine.number("new_hub", self.number, native.fresh()))
+            self.sender = Sender(self.engine, self.number, LABEL, dsn, post)
+            self.sender.start()
+        except Exception:
             self.engine.free()
             raise
-        self.local = threading.local()
-        self.local.hub = Hub(self, self.main)
-        self.sender = Sender(self.engine, self.number, LABEL, dsn, post)
-        self.sender.start()
+        self.local, self.finished = threading.local(), []
+        self.local.hub = self.main
 
     def hub(self):
         hub = getattr(self.local, "hub", None)
         if hub is None:
-            hub = self.local.hub = Hub(self, self.engine.number("new_hub_from_top", self.main))
+            hub = self.local.hub = Hub(self, self.engine.number("new_hub_from_top", self.main.number))
         return hub
+
+    def discard(self, spans):
+        """Gives spans back: now, or, where a scope still names one, with the next ones."""
+        with self.engine.lock:
+            kept = []
+            for it in self.finished + spans:
+                try:
+                    self.engine.call("discard", it.is_span, it.number)
+                except Fault as fault:
+                    if fault.number == native.STILL_NAMED:
+                        kept.append(it)
+            self.finished = kept
+
+    def end_session(self):
+        with tolerated():
+            self.engine.call("end_session", self.main.number, SESSION_STATUSES.index("exited"), time.time_ns())
 
     def close(self, timeout=None):
         if self.is_closed:
             return True
         self.is_closed = True
-        with contextlib.suppress(Fault):
-            self.engine.call("end_session", self.main, SESSION_STATUSES.index("exited"), time.time_ns())
-        with contextlib.suppress(Fault):
+        self.end_session()
+        with tolerated():
             self.engine.call("close", self.number)
         is_well = self.sender.stop(self.shutdown_timeout if timeout is None else timeout)
         self.engine.free()
         return is_well
 
     def after_fork(self):
-        """In a process that was forked off: what waits is the parent's to post."""
+        """In a process that was forked off: what waits, also in queues, and the session are the parent's to post."""
         self.engine.lock = threading.RLock()
-        with contextlib.suppress(Fault):
+        self.end_session()
+        with tolerated():
+            self.engine.call("flush", self.number)
+        with tolerated():
             self.engine.call("drop_envelopes")
-        sender = self.sender
-        sender.wake, sender.idle = threading.Event(), threading.Condition()
-        sender.start()
+        self.sender.restart()
 
 
 current = None
@@ -145,20 +206,22 @@ def init(
 ):
     """Begins to report, in place of what an earlier call began.
 
-    Without a DSN nothing is sent. `drop_events` and its like drop what begins with their text: events and breadcrumbs by
-    their message, logs by their body, metrics by their name. `post` is called with the bytes of each envelope in place of
+    `dsn`, `release` and `environment` are otherwise those of SENTRY_DSN, SENTRY_RELEASE and SENTRY_ENVIRONMENT; without a
+    DSN nothing is sent. Rates are from 0 to 1. `drop_events` and its like drop what begins with their text: events and
+    breadcrumbs by their message, logs by their body, metrics by their name. `auto_session_tracking` begins a session, and
+    `report_uncaught` sends what ends the program or a thread. `post` is called with the bytes of each envelope in place of
     a request by urllib, and answers a status and headers. `library` is the path of libdochirwa.so. Timeouts are in
     seconds. Raises `Fault`, and ValueError where an option has more than one line.
     """
     global current
-    dsn = dsn if dsn is not None else os.environ.get("SENTRY_DSN")
+    dsn = (dsn if dsn is not None else os.environ.get("SENTRY_DSN", "")).strip()
     lines = {
         "dsn": dsn,
         "release": release if release is not None else os.environ.get("SENTRY_RELEASE"),
         "environment": environment if environment is not None else os.environ.get("SENTRY_ENVIRONMENT"),
         "server": server_name,
         "rate": millionths(sample_rate),
-        "traces": millionths(traces_sample_rate),
+        "traces": millionths(traces_sample_rate or 0.0),
         "pii": str(int(bool(send_default_pii))),
         "crumbs": None if max_breadcrumbs is None else str(int(max_breadcrumbs)),
         "logs": str(int(bool(enable_logs))),
@@ -169,10 +232,12 @@ def init(
         "drop_metrics": drop_metrics,
     }
     for name, value in lines.items():
-        if "\n" in (value or ""):
+        if "\n" in str(value or ""):
             raise ValueError(f"the option {name} has more than one line")
     text = "".join(f"{name}={value}\n" for name, value in lines.items() if value)
-    made = Client(text, dsn, shutdown_timeout, post, library)
+    # The engine keeps these two options, but captures all the same.
+    left_out = {name for name, is_enabled in (("capture_log", enable_logs), ("capture_metric", enable_metrics)) if not is_enabled}
+    made = Client(text, dsn, shutdown_timeout, auto_session_tracking, left_out, post, library)
     close()
     current = made
     if auto_session_tracking:
@@ -191,40 +256,42 @@ def close(timeout=None):
 
 def flush(timeout=2.0):
     """Posts what waits, also in queues. Answers whether that was done in time."""
-    if current is None:
+    client = current
+    if client is None:
         return True
-    with contextlib.suppress(Fault):
-        current.engine.call("flush", current.number)
-    return current.sender.flush(timeout)
+    with tolerated():
+        client.engine.call("flush", client.number)
+    return client.sender.flush(timeout)
 
 
-def made(name, *arguments):
-    """Makes a call on the hub of this thread, where reporting has begun; a fault is a bug of the package or too little
-    memory, and never an error of the program."""
-    if current is not None:
-        with contextlib.suppress(Fault):
-            current.engine.call(name, current.hub().number, *arguments)
-            current.sender.wake.set()
+def call_hub(name, *arguments):
+    """Makes a call on the hub of this thread, where reporting has begun."""
+    client = current  # another thread may close it meanwhile
+    if client is not None and name not in client.left_out:
+        with tolerated():
+            client.engine.call(name, client.hub().number, *arguments)
+            client.sender.wake()
 
 
 def event_id(name, *arguments):
-    if current is None:
-        return None
-    try:
-        it = current.engine.number(name, current.hub().number, *arguments, type=native.Id)
-    except Fault:
-        return None
-    current.sender.wake.set()
-    return str(it) if it.high or it.low else None
+    """The id that a call on the hub of this thread sets, or `None`."""
+    client = current
+    if client is not None:
+        with tolerated():
+            it = client.engine.number(name, client.hub().number, *arguments, type=native.Id)
+            client.sender.wake()
+            return str(it) if it.high or it.low else None
+    return None
 
 
 def capture_event(event):
     """Sends an event, a dictionary as Sentry writes it. Answers its id, or `None` where it was dropped."""
-    return event_id("capture_event", as_json(event), native.fresh())
+    return event_id("capture_event", as_json(event_of(event)), native.fresh())
 
 
 def capture_message(message, level="info"):
-    return event_id("capture_message", LEVELS.index(level), str(message), native.fresh())
+    """Sends a message of a level (`debug`, `info`, `warning`, `error` or `fatal`). Answers its id, or `None`."""
+    return event_id("capture_message", number_of(LEVELS, level), as_text(message), native.fresh())
 
 
 def links(error):
@@ -248,8 +315,11 @@ def exception_of(error, handled, mechanism):
 
 
 def capture_exception(error=None, level="error", handled=True, mechanism="generic"):
-    """Sends an exception, or the one that is being handled, with its causes."""
-    error = error if error is not None else sys.exc_info()[1]
+    """Sends an exception, also as `sys.exc_info()` has it, or the one that is being handled, with its causes."""
+    if isinstance(error, tuple):
+        error = error[1]
+    elif error is None:
+        error = sys.exc_info()[1]
     if error is None:
         return None
     return capture_event({"level": level, "exception": [exception_of(it, handled, mechanism) for it in links(error)]})
@@ -261,16 +331,16 @@ def last_event_id():
 
 def add_breadcrumb(message=None, category=None, level="info", type=None, data=None):
     crumb = {"message": message, "category": category, "level": level, "type": type, "data": data}
-    made("add_breadcrumb", as_json({key: it for key, it in crumb.items() if it is not None}), time.time_ns())
+    call_hub("add_breadcrumb", as_json({key: it for key, it in crumb.items() if it is not None}), time.time_ns())
 
 
 def edit_scope(edits):
-    made("edit_scope", as_json(edits), time.time_ns())
+    call_hub("edit_scope", as_json(edits), time.time_ns())
 
 
 def set_tag(key, value):
     """Sets a tag, or removes it where the value is `None`."""
-    edit_scope({"tags": {key: None if value is None else str(value)}})
+    edit_scope({"tags": {key: None if value is None else as_text(value)}})
 
 
 def set_extra(key, value):
@@ -283,8 +353,7 @@ def set_context(key, value):
 
 def set_user(user):
     """Sets the user: a dictionary with id, email, username, ip_address and data, or `None`."""
-    texts = ("id", "email", "username", "ip_address")
-    edit_scope({"user": user and {key: str(it) if key in texts and it is not None else it for key, it in user.items()}})
+    edit_scope({"user": None if user is None else user_of(user)})
 
 
 def set_level(level):
@@ -294,46 +363,60 @@ def set_level(level):
 @contextlib.contextmanager
 def push_scope():
     """A copy of the scope, until the end of the block."""
-    client = current
-    if client is None:
-        yield
-        return
-    hub = client.hub()
-    depth = client.engine.number("push_scope", hub.number, type=native.SIZE)
+    client, hub, depth = current, None, None
+    if client is not None:
+        with tolerated():
+            hub = client.hub().number
+            depth = client.engine.number("push_scope", hub, type=native.SIZE)
     try:
         yield
     finally:
-        with contextlib.suppress(Fault):
-            client.engine.call("pop_scope", hub.number, depth, time.time_ns())
+        if depth is not None:
+            with tolerated():
+                client.engine.call("pop_scope", hub, depth, time.time_ns())
 
 
 def log(level, body, **attributes):
     """Sends a log of a level (`trace`, `debug`, `info`, `warn`, `error` or `fatal`)."""
-    made("capture_log", LOG_LEVELS.index(level), str(body), as_json(attributes), time.time_ns())
+    call_hub("capture_log", number_of(LOG_LEVELS, level), as_text(body), as_json(attributes), time.time_ns())
+
+
+def whole(value):
+    """The whole number of 64 bits that is next to a value, or `None`."""
+    try:
+        number = round(value)
+    except (ValueError, OverflowError):
+        return None
+    return number if -(2**63) <= number < 2**63 else None
 
 
 def metric(kind, name, value, unit, attributes):
-    made("capture_metric", kind, name, int(value), unit, as_json(attributes), time.time_ns())
+    number = whole(value)
+    if number is None:
+        LOGGER.debug("the metric %s is left out: its value is %r", name, value)
+    else:
+        call_hub("capture_metric", METRIC_KINDS.index(kind), name, number, unit or "", as_json(attributes), time.time_ns())
 
 
 def count(name, value=1, **attributes):
-    metric(0, name, value, "", attributes)
+    """Adds to a counter. The values of all metrics are rounded to whole numbers, and left out beyond 64 bits."""
+    metric("counter", name, value, "", attributes)
 
 
 def gauge(name, value, unit="", **attributes):
-    metric(1, name, value, unit, attributes)
+    metric("gauge", name, value, unit, attributes)
 
 
 def distribution(name, value, unit="", **attributes):
-    metric(2, name, value, unit, attributes)
+    metric("distribution", name, value, unit, attributes)
 
 
 def start_session():
-    made("start_session", native.fresh())
+    call_hub("start_session", native.fresh())
 
 
 def end_session(status="exited"):
-    made("end_session", SESSION_STATUSES.index(status), time.time_ns())
+    call_hub("end_session", number_of(SESSION_STATUSES, status), time.time_ns())
 
 
 class Span:
@@ -343,29 +426,27 @@ class Span:
 
     def __init__(self, client, number, transaction=None):
         self.client, self.number, self.transaction = client, number, transaction or self
-        self.children, self.is_finished, self.before = [], False, None
+        self.children, self.is_finished = [], False
 
     def call(self, name, *arguments):
         if self.client is not None and not self.is_finished:
-            with contextlib.suppress(Fault):
+            with tolerated():
                 self.client.engine.call(name, self.is_span, self.number, *arguments)
 
     def start_child(self, op, description=""):
-        if self.client is None:
-            return Span(None, 0)
-        try:
-            number = self.client.engine.number("start_child", self.is_span, self.number, op, description, native.fresh())
-        except Fault:
-            return Span(None, 0)
-        child = Span(self.client, number, self.transaction)
-        self.transaction.children.append(child)
-        return child
+        if self.client is not None:
+            with tolerated():
+                number = self.client.engine.number("start_child", self.is_span, self.number, op, description or "", native.fresh())
+                child = Span(self.client, number, self.transaction)
+                self.transaction.children.append(child)
+                return child
+        return Span(None, 0)
 
     def set_data(self, key, value):
         self.call("set_span_data", key, as_json(value))
 
     def set_tag(self, key, value):
-        self.call("set_span_tag", key, str(value))
+        self.call("set_span_tag", key, as_text(value))
 
     def set_status(self, status):
         self.call("set_span_status", status)
@@ -380,39 +461,44 @@ class Span:
 
     def trace_headers(self):
         """The headers by which another program continues the trace."""
-        if self.client is None or self.is_finished:
-            return {}
-        return {"sentry-trace": self.client.engine.trace_header(self.is_span, self.number)}
+        if self.client is not None and not self.is_finished:
+            with tolerated():
+                return {"sentry-trace": self.client.engine.trace_header(self.is_span, self.number)}
+        return {}
 
     def finish(self):
         if self.client is not None and not self.is_finished:
             self.is_finished = True
-            with contextlib.suppress(Fault):
+            with tolerated():
                 self.client.engine.call("finish_span", self.number, time.time_ns())
 
-    def put(self, span):
-        # the span of the hub's scope
-        hub = self.client.hub().number
-        with contextlib.suppress(Fault):
-            if span is None:
-                self.client.engine.call("clear_span", hub, time.time_ns())
+    def put_innermost(self, hub):
+        """Gives the scope the span whose block runs now."""
+        with tolerated():
+            if hub.spans:
+                span = hub.spans[-1]
+                self.client.engine.call("set_span", hub.number, span.is_span, span.number, time.time_ns())
             else:
-                self.client.engine.call("set_span", hub, span.is_span, span.number, time.time_ns())
+                self.client.engine.call("clear_span", hub.number, time.time_ns())
 
     def __enter__(self):
         if self.client is not None:
-            self.client.hub().spans.append(self)
-            self.put(self)
+            with tolerated():
+                hub = self.client.hub()
+                hub.spans.append(self)
+                self.put_innermost(hub)
         return self
 
     def __exit__(self, kind, error, trace):
         if self.client is not None:
-            if kind is not None:
+            # Not so where a generator is closed, or the program ends.
+            if kind is not None and issubclass(kind, Exception):
                 self.set_status("internal_error")
-            spans = self.client.hub().spans
-            if self in spans:
-                spans.remove(self)
-            self.put(spans[-1] if spans else None)
+            with tolerated():
+                hub = self.client.hub()
+                if self in hub.spans:
+                    hub.spans.remove(self)
+                self.put_innermost(hub)
         self.finish()
 
 
@@ -422,38 +508,35 @@ class Transaction(Span):
     def finish(self):
         if self.client is None or self.is_finished:
             return
-        engine, now = self.client.engine, time.time_ns()
         for child in self.children:
             child.finish()
         self.is_finished = True
-        with contextlib.suppress(Fault):
-            engine.call("finish_transaction", self.number, self.client.hub().number, now)
-        for child in self.children:
-            with contextlib.suppress(Fault):
-                engine.call("discard", True, child.number)
-        with contextlib.suppress(Fault):
-            engine.call("discard", False, self.number)
-        self.client.sender.wake.set()
+        with tolerated():
+            self.client.engine.call("finish_transaction", self.number, self.client.hub().number, time.time_ns())
+        self.client.discard([*self.children, self])
+        self.client.sender.wake()
 
 
 def start_transaction(name, op="task", headers=None):
     """Starts a transaction, which goes on with the trace of these headers of a request, if they say one."""
     client = current
-    if client is None:
-        return Transaction(None, 0)
-    found = {key.lower(): it for key, it in (headers or {}).items()}
-    trace, baggage = found.get("sentry-trace", ""), found.get("baggage", "")
-    try:
-        number = client.engine.number("continue_transaction", client.hub().number, name, op, trace, baggage, native.fresh())
-    except Fault:
-        return Transaction(None, 0)
-    return Transaction(client, number)
+    if client is not None:
+        found = {key.lower(): it for key, it in (headers or {}).items()}
+        continued = found.get("sentry-trace", ""), found.get("baggage", "")
+        with tolerated():
+            number = client.engine.number("continue_transaction", client.hub().number, name, op, *continued, native.fresh())
+            return Transaction(client, number)
+    return Transaction(None, 0)
 
 
 def current_span():
     """The innermost span, or the transaction, whose block runs in this thread."""
-    spans = current.hub().spans if current else []
-    return spans[-1] if spans else None
+    client = current
+    if client is not None:
+        with tolerated():
+            spans = client.hub().spans
+            return spans[-1] if spans else None
+    return None
 
 
 class LoggingHandler(logging.Handler):
@@ -470,7 +553,7 @@ class LoggingHandler(logging.Handler):
         try:
             text = record.getMessage()
         except Exception:
-            text = str(record.msg)
+            text = as_text(record.msg)
         named = min(max(record.levelno // 10 - 1, 0), 4)
         error = record.exc_info[1] if record.exc_info else None
         if record.levelno >= self.event_level:
@@ -482,6 +565,36 @@ class LoggingHandler(logging.Handler):
         log(LOG_LEVELS[named + 1], text, logger=record.name)
 
 
+# What answers of HTTP say of a transaction, as in the crate `sentry_http`; the others by their first digit.
+SPAN_STATUSES = {
+    "401": "unauthenticated",
+    "403": "permission_denied",
+    "404": "not_found",
+    "409": "already_exists",
+    "413": "failed_precondition",
+    "429": "resource_exhausted",
+    "499": "cancelled",
+    "501": "unimplemented",
+    "503": "unavailable",
+    "504": "deadline_exceeded",
+    "1": "ok",
+    "2": "ok",
+    "3": "ok",
+    "4": "invalid_argument",
+    "5": "internal_error",
+}
+
+
+def span_status(code):
+    return SPAN_STATUSES.get(code) or SPAN_STATUSES.get(code[:1], "unknown_error")
+
+
+def path_of(environ):
+    """The path of a request, whose bytes WSGI has as the characters of Latin-1."""
+    path = environ.get("SCRIPT_NAME", "") + environ.get("PATH_INFO", "")
+    return path.encode("latin-1", "replace").decode("utf-8", "replace")
+
+
 class WsgiMiddleware:
     """Runs each request of a WSGI application in a scope and a transaction of its own, and sends what it raises."""
 
@@ -489,7 +602,7 @@ class WsgiMiddleware:
         self.app = app
 
     def __call__(self, environ, start_response):
-        method, path = environ.get("REQUEST_METHOD", ""), environ.get("PATH_INFO", "")
+        method, path = environ.get("REQUEST_METHOD", ""), path_of(environ)
         headers = {key[5:].replace("_", "-").lower(): it for key, it in environ.items() if key.startswith("HTTP_")}
         transaction = start_transaction(f"{method} {path}", "http.server", headers)
         host = environ.get("HTTP_HOST") or environ.get("SERVER_NAME", "")
@@ -499,7 +612,7 @@ class WsgiMiddleware:
         def respond(status, *rest):
             code = status.partition(" ")[0]
             transaction.set_tag("http.status_code", code)
-            transaction.set_status("ok" if code < "4" else "not_found" if code == "404" else "invalid_argument" if code < "5" else "internal_error")
+            transaction.set_status(span_status(code))
             return start_response(status, *rest)
 
         with push_scope(), transaction:
@@ -527,21 +640,50 @@ def report_uncaught_errors():
     before, before_thread = sys.excepthook, threading.excepthook
 
     def hook(kind, error, trace):
-        capture_exception(error, "fatal", False, "excepthook")
-        before(kind, error, trace)
+        try:
+            capture_exception(error, "fatal", False, "excepthook")
+        finally:
+            before(kind, error, trace)
 
     def thread_hook(found):
-        capture_exception(found.exc_value, "error", False, "threading")
-        before_thread(found)
+        try:
+            # `sys.exit` ends a thread by an exception that is no error.
+            if found.exc_type is not SystemExit:
+                capture_exception(found.exc_value, "error", False, "threading")
+        finally:
+            before_thread(found)
 
     sys.excepthook, threading.excepthook = hook, thread_hook
 
 
-def after_fork():
+# The engine whose lock is held while the process forks, so that no other thread is in a call then.
+forking = None
+
+
+def before_fork():
+    global forking
+    client = current
+    if client is not None:
+        client.engine.lock.acquire()
+        forking = client.engine
+
+
+def after_fork_in_parent():
+    global forking
+    engine, forking = forking, None
+    if engine is not None:
+        engine.lock.release()
+
+
+def after_fork_in_child():
+    global forking
+    forking = None
     if current is not None:
         current.after_fork()
+        if current.tracks_sessions:
+            start_session()
 
 
 atexit.register(close)
 if hasattr(os, "register_at_fork"):
-    os.register_at_fork(after_in_child=after_fork)
+    os.register_at_fork(before=before_fork, after_in_parent=after_fork_in_parent, after_in_child=after_fork_in_child)

@@ -6,7 +6,7 @@ import threading
 import time
 
 U32, U64, I64, SIZE, BOOL = ctypes.c_uint32, ctypes.c_uint64, ctypes.c_int64, ctypes.c_size_t, ctypes.c_bool
-CLOSED = 12
+STILL_NAMED, CLOSED = 4, 12
 FAULTS = (
     "out of memory|stale|out of order|still named|scopes open|invalid DSN|invalid rate|foreign losses|full|not UTF-8|"
     "a number or a word stands for nothing|the engine is closed|the engine is open already"

@@ -10,7 +10,7 @@ use std::sync::atomic::{AtomicU64, Ordering};
 use std::sync::{Arc, Mutex};
 use std::time::{Duration, Instant, SystemTime, UNIX_EPOCH};
 
-use dochirwa::{Engine, Fresh, Id};
+use dochirwa::{Engine, Fresh, Id, MetricKind, SessionStatus};
 use sentry_core::protocol::{Log, LogLevel, Map};
 use sentry_core::{metrics, Client, ClientOptions, Envelope, Hub, Level, Scope, TransactionContext, Transport, TransportFactory, TransportOptions};
 
@@ -150,7 +150,7 @@ fn log() -> Log {
 
 fn message<S: Source>(to: &Locked, source: S) {
     for _ in 0..N {
-        black_box(to.with(|e, hub| e.capture_message(hub, 1, black_box("hello world"), &source.fresh())).unwrap());
+        black_box(to.with(|e, hub| e.capture_message(hub, dochirwa::Level::Info, black_box("hello world"), &source.fresh())).unwrap());
     }
 }
 fn tag<S: Source>(to: &Locked, source: S) {
@@ -162,18 +162,18 @@ fn tag<S: Source>(to: &Locked, source: S) {
 }
 fn logs<S: Source>(to: &Locked, source: S) {
     for _ in 0..N {
-        to.with(|e, hub| e.capture_log(hub, 2, black_box("hello world"), "", source.now())).unwrap();
+        to.with(|e, hub| e.capture_log(hub, dochirwa::LogLevel::Info, black_box("hello world"), "", source.now())).unwrap();
     }
 }
 fn counters<S: Source>(to: &Locked, source: S) {
     for _ in 0..N {
-        to.with(|e, hub| e.capture_metric(hub, 0, black_box("name"), 1, "", "", source.now())).unwrap();
+        to.with(|e, hub| e.capture_metric(hub, MetricKind::Counter, black_box("name"), 1, "", "", source.now())).unwrap();
     }
 }
 fn sessions<S: Source>(to: &Locked, source: S) {
     for _ in 0..N {
         to.with(|e, hub| e.start_session(hub, &source.fresh())).unwrap();
-        to.with(|e, hub| e.end_session(hub, 1, source.now())).unwrap();
+        to.with(|e, hub| e.end_session(hub, SessionStatus::Exited, source.now())).unwrap();
         // the crate's worker sends the ended sessions; here a flush each 100
     }
     to.with(|e, _| e.flush(to.client)).unwrap();

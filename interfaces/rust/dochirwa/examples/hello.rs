@@ -1,4 +1,4 @@
-use dochirwa::{Engine, Fault, Fresh, Id};
+use dochirwa::{Engine, Fault, Fresh, Id, Level};
 
 fn main() -> Result<(), Fault> {
     let mut engine = Engine::new()?;
@@ -6,7 +6,7 @@ fn main() -> Result<(), Fault> {
     let client = engine.add_client("dsn=https://public@sentry.invalid/1\nrelease=shop@1.0.0\n", 0, 1)?;
     let hub = engine.new_hub(client, &fresh(2))?;
     engine.set_tag(hub, "os", "linux", 3)?;
-    engine.capture_message(hub, 2, "hello from Rust", &fresh(4))?;
+    engine.capture_message(hub, Level::Warning, "hello from Rust", &fresh(4))?;
     while let Some((client, envelope)) = engine.next_envelope()? {
         println!("{client}: {}", String::from_utf8_lossy(&envelope));
     }

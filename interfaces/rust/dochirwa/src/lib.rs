@@ -1,12 +1,12 @@
 //! Safe Rust over `libdochirwa.a`. tests/c_interface compares these declarations with the header's; each `unsafe` says why
 //! the call is what the library requires.
-use std::marker::PhantomData;
 
 #[repr(C)]
 struct Raw {
     at: *mut u8,
 }
 
+/// 128 bits: of an event, of a trace.
 #[repr(C)]
 #[derive(Clone, Copy, Debug, Default, PartialEq, Eq)]
 pub struct Id {
@@ -20,6 +20,13 @@ impl From<u128> for Id {
     }
 }
 
+/// As 32 hexadecimal digits.
+impl std::fmt::Display for Id {
+    fn fmt(&self, f: &mut std::fmt::Formatter<'_>) -> std::fmt::Result {
+        write!(f, "{:016x}{:016x}", self.high, self.low)
+    }
+}
+
 /// The moment (nanoseconds since the epoch), ids and draw (below a million) of a call.
 #[repr(C)]
 #[derive(Clone, Copy, Debug, Default)]
@@ -29,6 +36,73 @@ pub struct Fresh {
     pub trace: Id,
     pub span: u64,
     pub draw: u32,
+}
+
+/// How bad an event is.
+#[repr(u32)]
+#[derive(Clone, Copy, Debug, PartialEq, Eq)]
+pub enum Level {
+    Debug,
+    Info,
+    Warning,
+    Error,
+    Fatal,
+}
+
+#[repr(u32)]
+#[derive(Clone, Copy, Debug, PartialEq, Eq)]
+pub enum LogLevel {
+    Trace,
+    Debug,
+    Info,
+    Warn,
+    Error,
+    Fatal,
+}
+
+#[repr(u32)]
+#[derive(Clone, Copy, Debug, PartialEq, Eq)]
+pub enum MetricKind {
+    Counter,
+    Gauge,
+    Distribution,
+}
+
+#[repr(u32)]
+#[derive(Clone, Copy, Debug, PartialEq, Eq)]
+pub enum SessionStatus {
+    Ok,
+    Exited,
+    Crashed,
+    Abnormal,
+}
+
+/// What is lost.
+#[repr(u32)]
+#[derive(Clone, Copy, Debug, PartialEq, Eq)]
+pub enum Category {
+    Error,
+    Transaction,
+    Span,
+    Session,
+    Attachment,
+    LogItem,
+    Metric,
+}
+
+/// Why it is lost.
+#[repr(u32)]
+#[derive(Clone, Copy, Debug, PartialEq, Eq)]
+pub enum Reason {
+    EventProcessor,
+    BeforeSend,
+    SampleRate,
+    BufferOverflow,
+    SendError,
+    InternalSdkError,
+    NetworkError,
+    RatelimitBackoff,
+    QueueOverflow,
 }
 
 #[rustfmt::skip]
@@ -82,13 +156,38 @@ unsafe extern "C" {
     fn dochirwa_drop_envelopes(engine: *mut Raw) -> u32;
 }
 
-/// 1 to 9: the engine's refusals. 10: a text that isn't UTF-8. 11: a number or a word that stands for nothing.
+/// A call that failed, and changed nothing, by the number that dochirwa.h has for it.
 #[derive(Clone, Copy, Debug, PartialEq, Eq)]
 pub struct Fault(pub u32);
 
+impl Fault {
+    pub const OUT_OF_MEMORY: Fault = Fault(1);
+    pub const STALE: Fault = Fault(2);
+    pub const OUT_OF_ORDER: Fault = Fault(3);
+    pub const STILL_NAMED: Fault = Fault(4);
+    pub const SCOPES_OPEN: Fault = Fault(5);
+    pub const INVALID_DSN: Fault = Fault(6);
+    pub const INVALID_RATE: Fault = Fault(7);
+    pub const FOREIGN_LOSSES: Fault = Fault(8);
+    pub const FULL: Fault = Fault(9);
+    pub const UNKNOWN: Fault = Fault(11);
+}
+
 impl std::fmt::Display for Fault {
     fn fmt(&self, f: &mut std::fmt::Formatter<'_>) -> std::fmt::Result {
-        write!(f, "fault {}", self.0)
+        f.write_str(match *self {
+            Fault::OUT_OF_MEMORY => "out of memory",
+            Fault::STALE => "stale",
+            Fault::OUT_OF_ORDER => "out of order",
+            Fault::STILL_NAMED => "still named",
+            Fault::SCOPES_OPEN => "scopes open",
+            Fault::INVALID_DSN => "invalid DSN",
+            Fault::INVALID_RATE => "invalid rate",
+            Fault::FOREIGN_LOSSES => "foreign losses",
+            Fault::FULL => "full",
+            Fault::UNKNOWN => "a number or a word stands for nothing",
+            Fault(number) => return write!(f, "fault {number}"),
+        })
     }
 }
 
@@ -98,11 +197,10 @@ fn checked(number: u32) -> Result<(), Fault> {
     if number == 0 { Ok(()) } else { Err(Fault(number)) }
 }
 
-/// An engine. A call takes it by `&mut`, so one call at a time is made on it.
+/// An engine. A call takes it by `&mut`, so one call at a time is made on it. Clients, hubs, transactions and spans are
+/// numbers, each kind counted on its own. The numbers after "Faults" are those of [`Fault`].
 pub struct Engine {
     raw: Raw,
-    // It is sent to other threads only by `Send` below, and is not `Sync`.
-    _alone: PhantomData<*mut u8>,
 }
 
 // SAFETY: it holds plain data on the heap of malloc, which any thread may use and free.
@@ -114,10 +212,10 @@ impl Engine {
     pub fn new() -> Result<Engine, Fault> {
         let mut raw = Raw { at: std::ptr::null_mut() };
         checked(unsafe { dochirwa_open(&mut raw) })?;
-        Ok(Engine { raw, _alone: PhantomData })
+        Ok(Engine { raw })
     }
 
-    /// Adds a client of the options in a text, a line NAME=VALUE each: dsn, release, environment and server are texts; rate (of events) and traces (of transactions) are in millionths, but 1 is all; strict, pii, logs and metrics are 0 or 1; mode is application or request; org, crumbs, maxspans and maxbatch are numbers. In place of callbacks, drop_events and drop_breadcrumbs (by their message), drop_logs (by their body) and drop_metrics (by their name) drop what begins with their text, and nothing where it is empty; what is dropped, but for breadcrumbs, is reported as lost. Clients of one label count their losses together. Faults: 6, 7 (a rate above 1000000), 9, 11.
+    /// Adds a client of the options in a text, a line NAME=VALUE each: dsn, release, environment and server are texts; rate (of events, by default all) and traces (of transactions, by default none) are in millionths, but 1 is all; strict, pii, logs and metrics are 0 or 1 (the last two change nothing here: what is captured is sent); mode is application or request; org, crumbs, maxspans and maxbatch are numbers. In place of callbacks, drop_events and drop_breadcrumbs (by their message), drop_logs (by their body) and drop_metrics (by their name) drop what begins with their text, and nothing where it is empty; what is dropped, but for breadcrumbs, is reported as lost. Clients of one label count their losses together. Faults: 6, 7 (a rate above 1000000), 9, 11.
     pub fn add_client(&mut self, options: &str, label: u64, now: u64) -> Result<u64, Fault> {
         let mut client = 0;
         checked(unsafe { dochirwa_add_client(&mut self.raw, options.as_ptr(), options.len(), label, now, &mut client) })?;
@@ -136,11 +234,11 @@ impl Engine {
         checked(unsafe { dochirwa_drop_client(&mut self.raw, client) })
     }
 
-    /// Sets 1 where a client sends, and 0 where it has no DSN or was closed. Faults: 2.
-    pub fn is_enabled(&mut self, client: u64) -> Result<u32, Fault> {
+    /// Whether a client sends: not where it has no DSN, or was closed. Faults: 2.
+    pub fn is_enabled(&mut self, client: u64) -> Result<bool, Fault> {
         let mut enabled = 0;
         checked(unsafe { dochirwa_is_enabled(&mut self.raw, client, &mut enabled) })?;
-        Ok(enabled)
+        Ok(enabled == 1)
     }
 
     /// Sends what waits in the client's queues: ended sessions, logs, metrics. Faults: 2.
@@ -158,9 +256,9 @@ impl Engine {
         checked(unsafe { dochirwa_close(&mut self.raw, client) })
     }
 
-    /// Counts what your transport lost of a category (DOCHIRWA_LOST_ERROR and the like) for a reason (DOCHIRWA_BY_SEND_ERROR and the like), under the label of its client; a later envelope reports it. Faults: 8 (no client has the label), 11.
-    pub fn record_loss(&mut self, label: u64, category: u32, reason: u32, quantity: u64) -> Result<(), Fault> {
-        checked(unsafe { dochirwa_record_loss(&mut self.raw, label, category, reason, quantity) })
+    /// Counts what your transport lost of a category for a reason, under the label of its client; a later envelope reports it. Faults: 8 (no client has the label).
+    pub fn record_loss(&mut self, label: u64, category: Category, reason: Reason, quantity: u64) -> Result<(), Fault> {
+        checked(unsafe { dochirwa_record_loss(&mut self.raw, label, category as u32, reason as u32, quantity) })
     }
 
     /// Adds a hub on a client, whose scope has the trace and the span of `fresh`. Faults: 2, 9, 11.
@@ -187,7 +285,7 @@ impl Engine {
         checked(unsafe { dochirwa_release_hub(&mut self.raw, hub, now) })
     }
 
-    /// Pushes a copy of the top scope, and sets the depth, by which dochirwa_pop_scope pops it. Faults: 2.
+    /// Pushes a copy of the top scope, and answers the depth, by which `pop_scope` pops it. Faults: 2.
     pub fn push_scope(&mut self, hub: u64) -> Result<usize, Fault> {
         let mut depth = 0;
         checked(unsafe { dochirwa_push_scope(&mut self.raw, hub, &mut depth) })?;
@@ -244,36 +342,36 @@ impl Engine {
         checked(unsafe { dochirwa_clear_attachments(&mut self.raw, hub, now) })
     }
 
-    /// Captures a message of a level (DOCHIRWA_DEBUG and the like), and sets the id of its event: 0 where none was sent. Faults: 2, 11.
-    pub fn capture_message(&mut self, hub: u64, level: u32, message: &str, fresh: &Fresh) -> Result<Id, Fault> {
+    /// Captures a message of a level, and answers the id of its event: 0 where none was sent. Faults: 2, 11.
+    pub fn capture_message(&mut self, hub: u64, level: Level, message: &str, fresh: &Fresh) -> Result<Id, Fault> {
         let mut id = Id::default();
-        checked(unsafe { dochirwa_capture_message(&mut self.raw, hub, level, message.as_ptr(), message.len(), fresh, &mut id) })?;
+        checked(unsafe { dochirwa_capture_message(&mut self.raw, hub, level as u32, message.as_ptr(), message.len(), fresh, &mut id) })?;
         Ok(id)
     }
 
-    /// Captures the event of a JSON object, as Sentry writes events: level (a name), message, transaction, fingerprint, server_name, release, environment, user (as in dochirwa_edit_scope), request (method, url, data, query_string, cookies, headers and env), contexts, breadcrumbs, exception, tags and extra. `exception` and `breadcrumbs` are lists, or objects with a list `values`; an exception has type, value and mechanism (type and handled), the innermost error first. Other members are passed over. Sets the id: 0 where none was sent. Faults: 2, 11.
+    /// Captures the event of a JSON object, as Sentry writes events: level (a name), message, transaction, fingerprint, server_name, release, environment, user (as in `edit_scope`), request (method, url, data, query_string, cookies, headers and env), contexts, breadcrumbs, exception, tags and extra. `exception` and `breadcrumbs` are lists, or objects with a list `values`; an exception has type, value and mechanism (type and handled), the innermost error first. Other members are passed over. Answers the id: 0 where none was sent. Faults: 2, 11.
     pub fn capture_event(&mut self, hub: u64, event: &str, fresh: &Fresh) -> Result<Id, Fault> {
         let mut id = Id::default();
         checked(unsafe { dochirwa_capture_event(&mut self.raw, hub, event.as_ptr(), event.len(), fresh, &mut id) })?;
         Ok(id)
     }
 
-    /// Sets the id that the last capture on a hub answered: 0 where there was none. Faults: 2.
+    /// The id that the last capture on a hub answered: 0 where there was none. Faults: 2.
     pub fn last_event_id(&mut self, hub: u64) -> Result<Id, Fault> {
         let mut id = Id::default();
         checked(unsafe { dochirwa_last_event_id(&mut self.raw, hub, &mut id) })?;
         Ok(id)
     }
 
-    /// Captures a log of a level (DOCHIRWA_LOG_TRACE and the like), with the attributes of a JSON object. Faults: 2, 11.
-    pub fn capture_log(&mut self, hub: u64, level: u32, body: &str, attributes: &str, now: u64) -> Result<(), Fault> {
-        checked(unsafe { dochirwa_capture_log(&mut self.raw, hub, level, body.as_ptr(), body.len(), attributes.as_ptr(), attributes.len(), now) })
+    /// Captures a log of a level, with the attributes of a JSON object. Faults: 2, 11.
+    pub fn capture_log(&mut self, hub: u64, level: LogLevel, body: &str, attributes: &str, now: u64) -> Result<(), Fault> {
+        checked(unsafe { dochirwa_capture_log(&mut self.raw, hub, level as u32, body.as_ptr(), body.len(), attributes.as_ptr(), attributes.len(), now) })
     }
 
-    /// Captures a metric of a kind (DOCHIRWA_COUNTER and the like), with a unit (empty: none) and the attributes of a JSON object. Faults: 2, 11.
+    /// Captures a metric of a kind, with a unit (empty: none) and the attributes of a JSON object. Faults: 2, 11.
     #[allow(clippy::too_many_arguments)]
-    pub fn capture_metric(&mut self, hub: u64, kind: u32, name: &str, value: i64, unit: &str, attributes: &str, now: u64) -> Result<(), Fault> {
-        checked(unsafe { dochirwa_capture_metric(&mut self.raw, hub, kind, name.as_ptr(), name.len(), value, unit.as_ptr(), unit.len(), attributes.as_ptr(), attributes.len(), now) })
+    pub fn capture_metric(&mut self, hub: u64, kind: MetricKind, name: &str, value: i64, unit: &str, attributes: &str, now: u64) -> Result<(), Fault> {
+        checked(unsafe { dochirwa_capture_metric(&mut self.raw, hub, kind as u32, name.as_ptr(), name.len(), value, unit.as_ptr(), unit.len(), attributes.as_ptr(), attributes.len(), now) })
     }
 
     /// Starts a session, in place of the one that the top scope has; nothing where the client has no release. Faults: 2, 9, 11.
@@ -281,9 +379,9 @@ impl Engine {
         checked(unsafe { dochirwa_start_session(&mut self.raw, hub, fresh) })
     }
 
-    /// Ends the session of the top scope with a status (DOCHIRWA_SESSION_EXITED and the like). Faults: 2, 11.
-    pub fn end_session(&mut self, hub: u64, status: u32, now: u64) -> Result<(), Fault> {
-        checked(unsafe { dochirwa_end_session(&mut self.raw, hub, status, now) })
+    /// Ends the session of the top scope with a status. Faults: 2.
+    pub fn end_session(&mut self, hub: u64, status: SessionStatus, now: u64) -> Result<(), Fault> {
+        checked(unsafe { dochirwa_end_session(&mut self.raw, hub, status as u32, now) })
     }
 
     /// Starts a transaction of a name and an operation, in the trace of `fresh`. Faults: 2, 9, 11.
@@ -332,7 +430,7 @@ impl Engine {
         checked(unsafe { dochirwa_set_span_status(&mut self.raw, is_span, number, name.as_ptr(), name.len()) })
     }
 
-    /// Sets the request of a JSON object (dochirwa_capture_event). Faults: 2, 11.
+    /// Sets the request of a JSON object, as in `capture_event`. Faults: 2, 11.
     pub fn set_span_request(&mut self, is_span: bool, number: u64, request: &str) -> Result<(), Fault> {
         checked(unsafe { dochirwa_set_span_request(&mut self.raw, is_span, number, request.as_ptr(), request.len()) })
     }
