@@ -7,6 +7,7 @@ use c_base::numbers::text;
 use sentry_plain::{Value, ValueMap};
 use sentry_span_edits::json::read_json;
 use std::alloc::Global;
+use std::mem;
 
 /// The value of a JSON text.
 pub fn value(alloc: Global, bytes: &[u8]) -> Result<Value, CallFault>
@@ -25,8 +26,9 @@ pub fn object(alloc: Global, bytes: &[u8]) -> Result<ValueMap, CallFault>
     if bytes.is_empty() {
         return Ok(ValueMap::new(alloc));
     }
-    match value(alloc, bytes)? {
-        Value::Map(members) => Ok(members),
-        _other => Err(CallFault::Unknown),
+    let mut read = value(alloc, bytes)?;
+    match &mut read {
+        Value::Map(members) => Ok(mem::replace(members, ValueMap::new(alloc))),
+        _ => Err(CallFault::Unknown),
     }
 }
