@@ -12,8 +12,9 @@ from sources import read
 
 ERROR = re.compile(r"^(src/\S+\.rt):(\d+):\d+: error", re.M)
 # A function that isn't proved, by its path, and why not.
-UNPROVED = re.compile(r"^fn (\S+): (?!proved$)(.*)$", re.M)
-CALLS_UNPROVED = re.compile(r"which (is|are) not proved")
+UNPROVED = re.compile(r"^fn (\S+): (?!proved(?:,|$))(.*)$", re.M)
+# Reasons that say nothing of an edit: an unproved callee alone, or a form of code that the prover doesn't cover.
+NO_REFUSAL = re.compile(r"which (is|are) not proved|which has no proof|does not cover this function")
 NAME = re.compile(r"fn (\w+)")
 NOT_PROVED = re.compile(r"^note: (src/\S+\.rt):(\d+):\d+: (it is not proved .*)$", re.M)
 
@@ -104,7 +105,7 @@ def refused_of(crate, tried, said):
         notes.setdefault(edit_at(crate, tried, file, int(line)), f"{file}:{line}: {what}")
     refused = {}
     for function, why in UNPROVED.findall(said):
-        if CALLS_UNPROVED.search(why):
+        if NO_REFUSAL.search(why):
             continue
         found = edits_of(crate, tried, function)
         # Several have this name, as methods of types in one module have: those of which something is noted.
