@@ -13,8 +13,9 @@ from sources import read
 ERROR = re.compile(r"^(src/\S+\.rt):(\d+):\d+: error", re.M)
 # A function that isn't proved, by its path, and why not.
 UNPROVED = re.compile(r"^fn (\S+): (?!proved(?:,|$))(.*)$", re.M)
-# Reasons that say nothing of an edit: an unproved callee alone, or a form of code that the prover doesn't cover.
-NO_REFUSAL = re.compile(r"which (is|are) not proved|which has no proof|does not cover this function")
+CALLS_UNPROVED = re.compile(r"which (is|are) not proved|which has no proof")
+# A form of code that the prover doesn't cover says nothing of an edit, and hides those of what calls the function.
+UNCOVERED = re.compile(r"does not cover this function")
 NAME = re.compile(r"fn (\w+)")
 NOT_PROVED = re.compile(r"^note: (src/\S+\.rt):(\d+):\d+: (it is not proved .*)$", re.M)
 
@@ -105,7 +106,7 @@ def refused_of(crate, tried, said):
         notes.setdefault(edit_at(crate, tried, file, int(line)), f"{file}:{line}: {what}")
     refused = {}
     for function, why in UNPROVED.findall(said):
-        if NO_REFUSAL.search(why):
+        if CALLS_UNPROVED.search(why) or UNCOVERED.search(why):
             continue
         found = edits_of(crate, tried, function)
         # Several have this name, as methods of types in one module have: those of which something is noted.
@@ -114,6 +115,13 @@ def refused_of(crate, tried, said):
             return {}
         refused |= {edit: notes.get(edit, f"{function}: {why}") for edit in found}
     return refused
+
+
+def uncovered_of(crate, tried, said):
+    """The edits of a round whose functions the prover doesn't cover."""
+    functions = [function for function, why in UNPROVED.findall(said) if UNCOVERED.search(why)]
+    found = set().union(*(edits_of(crate, tried, it) for it in functions))
+    return [it for it in tried.edits if it in found]
 
 
 def bad_of(crate, tried, said):
