@@ -7,27 +7,16 @@ use Rattle.sentry_plain.specs.Texts.{Bytes}
 use Rattle.sentry_base.specs.declared.protocol.event.Event.{Event}
 use Rattle.sentry_base.specs.declared.protocol.attachment.Attachment.{Attachment}
 use Rattle.sentry_base.specs.Losses.{category_name, reason_name}
+use Rattle.sentry_base.specs.Names.{level_name, session_status_name}
 use Rattle.sentry_base.specs.declared.protocol.client_report.ClientReport.{ClientReport}
 use Rattle.sentry_base.specs.declared.protocol.client_report.ClientReportItem.{ClientReportItem}
 use Rattle.sentry_base.specs.declared.protocol.envelope.Envelope.{Envelope}
 use Rattle.sentry_base.specs.declared.protocol.envelope.EnvelopeItem.{EnvelopeItem}
 use Rattle.sentry_base.specs.declared.protocol.envelope.EnvelopeItem.TheVariants as item
 use Rattle.sentry_base.specs.declared.protocol.keys.ClientKey.{ClientKey}
-use Rattle.sentry_base.specs.declared.protocol.level.Level.{Level}
-use Rattle.sentry_base.specs.declared.protocol.level.Level.TheVariants.{Debug, Info, Warning, Error, Fatal}
 use Rattle.sentry_base.specs.declared.protocol.session.SessionAggregates.{SessionAggregates}
-use Rattle.sentry_base.specs.declared.protocol.session.SessionStatus.{SessionStatus}
-use Rattle.sentry_base.specs.declared.protocol.session.SessionStatus.TheVariants as session_status
 use Rattle.sentry_base.specs.declared.protocol.session.SessionUpdate.{SessionUpdate}
 use Rattle.sentry_base.specs.declared.protocol.transaction.Transaction.{Transaction}
-
--- the word for a level
-abbrev pub level_word : Level → Bytes
-level_word Debug = codes "debug"
-level_word Info = codes "info"
-level_word Warning = codes "warning"
-level_word Error = codes "error"
-level_word Fatal = codes "fatal"
 
 abbrev pub tag_text : Bytes × Bytes → Bytes
 tag_text tag = tag.0 ++ codes "=" ++ tag.1
@@ -40,14 +29,8 @@ tags_text (tag ∷ tags) = join_by tag_text (codes ",") (tag ∷ tags)
 -- the id in hexadecimal digits, the level, the tags and the message
 abbrev pub event_text : Event → Bytes
 event_text event =
-    codes "event " ++ simple_text lower event.event_id ++ codes " " ++ level_word event.level
+    codes "event " ++ simple_text lower event.event_id ++ codes " " ++ level_name event.level
     ++ codes " " ++ tags_text event.tags ++ codes " " ++ unwrap_or event.message []
-
-abbrev pub status_word : SessionStatus → Bytes
-status_word session_status.Ok = codes "ok"
-status_word session_status.Exited = codes "exited"
-status_word session_status.Crashed = codes "crashed"
-status_word session_status.Abnormal = codes "abnormal"
 
 abbrev pub bool_word : Bool → Bytes
 bool_word true = codes "true"
@@ -56,7 +39,7 @@ bool_word false = codes "false"
 -- the status, the number of errors, and whether it is the first update
 abbrev pub session_text : SessionUpdate → Bytes
 session_text update =
-    codes "session " ++ status_word update.status ++ codes " errors=" ++ decimal update.errors
+    codes "session " ++ session_status_name update.status ++ codes " errors=" ++ decimal update.errors
     ++ codes " init=" ++ bool_word update.init
 
 -- how many counts there are; no command makes any

@@ -2,13 +2,12 @@
 ghost use Rattle.std.specs.Prelude.{◌≡◌, ◌++◌, OnOk, codes, string_bytes, unwrap_or};
 ghost use Rattle.std.specs.List.{join_by};
 ghost use Rattle.sentry_plain.specs.Texts.{Bytes};
-ghost use Rattle.replay_print.specs.Printing.{level_word};
-ghost use Rattle.replay_print.specs.Printing.{status_word, bool_word, session_text, aggregates_text};
+ghost use Rattle.replay_print.specs.Printing.{bool_word, session_text, aggregates_text};
 ghost use Rattle.replay_print.specs.Printing.{tag_text, tags_text, event_text, spans_text, transaction_text, attachment_text, batch_text, loss_text, report_text, item_text, envelope_line};
 
 use sentry_base::protocol::{
-    Attachment, ClientKey, ClientReport, ClientReportItem, Envelope, EnvelopeItem, Event, Level,
-    SessionAggregates, SessionStatus, SessionUpdate, Transaction,
+    Attachment, ClientKey, ClientReport, ClientReportItem, Envelope, EnvelopeItem, Event,
+    SessionAggregates, SessionUpdate, Transaction,
 };
 use sentry_plain::{Text, TextMap};
 use std::alloc::AllocError;
@@ -35,18 +34,6 @@ fn print_joined<T: Print>(items: &[T], separator: &str, text: &mut String) -> Re
         item.print(text)?;
     }
     Ok(())
-}
-
-fn level_word(level: Level) -> &'static str
-    ensures { result.now ≡ level_word level }
-{
-    match level {
-        Level::Debug => "debug",
-        Level::Info => "info",
-        Level::Warning => "warning",
-        Level::Error => "error",
-        Level::Fatal => "fatal",
-    }
 }
 
 fn print_tag(key: &str, value: &str, text: &mut String) -> Result<(), AllocError>
@@ -78,7 +65,7 @@ impl Print for Event {
 
     fn print(&self, text: &mut String) -> Result<(), AllocError> {
         let id = self.event_id.simple();
-        let level = level_word(self.level);
+        let level = self.level.as_str();
         write!(text, "event {id} {level} ")?;
         print_tags(&self.tags, text)?;
         text.push_str(" ")?;
@@ -86,17 +73,6 @@ impl Print for Event {
             Some(message) => text.push_str(message.as_str()),
             None => Ok(()),
         }
-    }
-}
-
-fn status_word(status: SessionStatus) -> &'static str
-    ensures { result.now ≡ status_word status }
-{
-    match status {
-        SessionStatus::Ok => "ok",
-        SessionStatus::Exited => "exited",
-        SessionStatus::Crashed => "crashed",
-        SessionStatus::Abnormal => "abnormal",
     }
 }
 
@@ -110,7 +86,7 @@ impl Print for SessionUpdate {
     ghost shown = { session_text };
 
     fn print(&self, text: &mut String) -> Result<(), AllocError> {
-        let status = status_word(self.status);
+        let status = self.status.as_str();
         let errors = self.errors;
         let init = bool_word(self.init);
         write!(text, "session {status} errors={errors} init={init}")

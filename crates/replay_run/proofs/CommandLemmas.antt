@@ -9,7 +9,7 @@ use Rattle.sentry_plain.specs.Texts.{Bytes}
 use Rattle.sentry_base.specs.declared.protocol.level.Level.{Level}
 use Rattle.replay_run.specs.declared.command.Command.{Command}
 use Rattle.replay_run.specs.declared.command.Command.TheVariants.{Client, Hub, Tag, Message, Empty, Release, Session, End, Flush, Log, Close}
-use Rattle.replay_print.specs.Printing.{level_word}
+use Rattle.sentry_base.specs.Names.{level_name}
 use Rattle.replay_run.specs.Commands.{IsWord, IsNumber, IsRelease, HasForm}
 use Rattle.replay_run.specs.Reading.{◌>>=◌, cut, is_word, number_of, level_of, client_of, hub_of, tag_of, message_of, empty_of, release_of, session_of, end_of, flush_of, log_of, close_of, form_of, command_of}
 use Rattle.replay_run.proofs.ReadingLemmas.{cut-solid, cut_some, number_some, number-is, number_solid, level_some, level-is, level_solid, is_word_some, is_word-is}
@@ -55,12 +55,12 @@ tag-is number key value hub h word =
     (rw (cut-solid key value word.solid)
     (cond-true (nat_lt 0 (length key)) _ _ (lt-ltb 0 (length key) word.some))))
 
-message-is : (number text : Bytes) (hub : ℕ) (level : Level) → IsNumber number hub → message_of (number ++ (32 ∷ (level_word level ++ (32 ∷ text)))) ≡ Some (Message hub level text)
+message-is : (number text : Bytes) (hub : ℕ) (level : Level) → IsNumber number hub → message_of (number ++ (32 ∷ (level_name level ++ (32 ∷ text)))) ≡ Some (Message hub level text)
 unfolding message_of
 message-is number text hub level h =
-    rw (cut-solid number (level_word level ++ (32 ∷ text)) (number_solid number hub h))
+    rw (cut-solid number (level_name level ++ (32 ∷ text)) (number_solid number hub h))
     (rw (number-is number hub h)
-    (rw (cut-solid (level_word level) text (level_solid level))
+    (rw (cut-solid (level_name level) text (level_solid level))
     (rw (level-is level) refl)))
 
 log-is : (number text : Bytes) (hub : ℕ) → IsNumber number hub → log_of (number ++ (32 ∷ text)) ≡ Some (Log hub text)
@@ -80,7 +80,7 @@ command-is line (Hub client) h = ap command_of h.2 ∙ numbered-is Hub h.0 clien
 command-is line (Tag hub key value) h =
     ap command_of (h.3 ∙ ap (λ rest. codes "tag " ++ rest) (spaced h.0 key value)) ∙ tag-is h.0 key value hub h.1 h.2
 command-is line (Message hub level text) h =
-    ap command_of (h.2 ∙ ap (λ rest. codes "message " ++ rest) (spaced h.0 (level_word level) text)) ∙ message-is h.0 text hub level h.1
+    ap command_of (h.2 ∙ ap (λ rest. codes "message " ++ rest) (spaced h.0 (level_name level) text)) ∙ message-is h.0 text hub level h.1
 command-is line (Empty client) h = ap command_of h.2 ∙ numbered-is Empty h.0 client h.1
 command-is line (Release hub) h = ap command_of h.2 ∙ numbered-is Release h.0 hub h.1
 command-is line (Session hub) h = ap command_of h.2 ∙ numbered-is Session h.0 hub h.1
@@ -136,7 +136,7 @@ message_built text number rest word message hub level first digits second named 
     let back = cut_some rest word message second in (
       number,
       number_some number hub digits,
-      ap (λ t. codes "message " ++ t) (front.0 ∙ ap (λ r. number ++ (32 ∷ r)) (back.0 ∙ ap (λ w. w ++ (32 ∷ message)) (level_some word level named)) ∙ sym (spaced number (level_word level) message)),
+      ap (λ t. codes "message " ++ t) (front.0 ∙ ap (λ r. number ++ (32 ∷ r)) (back.0 ∙ ap (λ w. w ++ (32 ∷ message)) (level_some word level named)) ∙ sym (spaced number (level_name level) message)),
     )
 
 message_form : (text : Bytes) (command : Command) → message_of text ≡ Some command → HasForm (codes "message " ++ text) command

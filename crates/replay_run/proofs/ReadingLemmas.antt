@@ -16,7 +16,7 @@ use Rattle.sentry_plain.specs.Texts.{Bytes}
 use Rattle.sentry_base.specs.declared.protocol.level.Level.{Level}
 use Rattle.sentry_base.specs.declared.protocol.level.Level.TheVariants.{Debug, Info, Warning, Error, Fatal}
 use Rattle.replay_run.specs.Reading.{cut, is_word, number_of, level_of}
-use Rattle.replay_print.specs.Printing.{level_word}
+use Rattle.sentry_base.specs.Names.{level_name}
 use Rattle.replay_run.specs.Commands.{IsWord, IsNumber}
 
 -- no space
@@ -145,11 +145,11 @@ find_passes p (y ∷ ys) x e =
       | inr fails ↦ find_passes p ys x (sym (cond-false (p y) _ _ fails) ∙ e)
     ]
 
-pub level_some : (text : Bytes) (level : Level) → level_of text ≡ Some level → text ≡ level_word level
+pub level_some : (text : Bytes) (level : Level) → level_of text ≡ Some level → text ≡ level_name level
 unfolding level_of
-level_some text level e = (bytes_eq-Decides text (level_word level)).0 (find_passes (λ l. bytes_eq text (level_word l)) (Debug ∷ Info ∷ Warning ∷ Error ∷ Fatal ∷ []) level e)
+level_some text level e = (bytes_eq-Decides text (level_name level)).0 (find_passes (λ l. bytes_eq text (level_name l)) (Debug ∷ Info ∷ Warning ∷ Error ∷ Fatal ∷ []) level e)
 
-pub level-is : (level : Level) → level_of (level_word level) ≡ Some level
+pub level-is : (level : Level) → level_of (level_name level) ≡ Some level
 unfolding level_of
 level-is Debug = refl
 level-is Info = refl
@@ -157,7 +157,7 @@ level-is Warning = refl
 level-is Error = refl
 level-is Fatal = refl
 
-pub level_solid : (level : Level) → Solid (level_word level)
+pub level_solid : (level : Level) → Solid (level_name level)
 level_solid Debug = cut_none (codes "debug") refl
 level_solid Info = cut_none (codes "info") refl
 level_solid Warning = cut_none (codes "warning") refl

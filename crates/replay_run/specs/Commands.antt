@@ -4,7 +4,7 @@ use Rattle.std.specs.List.{AllByRecursion}
 use Rattle.std.specs.Str.{IsUtf8}
 use Rattle.std.specs.Str.Parse.{IsNumeral, digits_value}
 use Rattle.sentry_plain.specs.Texts.{Bytes}
-use Rattle.replay_print.specs.Printing.{level_word}
+use Rattle.sentry_base.specs.Names.{level_name}
 use Rattle.replay_run.specs.declared.command.Command.{Command}
 use Rattle.replay_run.specs.declared.command.Command.TheVariants.{Client, Hub, Tag, Message, Empty, Release, Session, End, Flush, Log, Close}
 
@@ -35,7 +35,7 @@ HasForm line (Tag hub key value) =
     × (line ≡ codes "tag " ++ number ++ codes " " ++ key ++ codes " " ++ value)
 HasForm line (Message hub level text) =
     (number : Bytes) × IsNumber number hub
-    × (line ≡ codes "message " ++ number ++ codes " " ++ level_word level ++ codes " " ++ text)
+    × (line ≡ codes "message " ++ number ++ codes " " ++ level_name level ++ codes " " ++ text)
 HasForm line (Empty client) =
     (number : Bytes) × IsNumber number client × (line ≡ codes "empty " ++ number)
 HasForm line (Release hub) =

@@ -6,7 +6,7 @@ use Rattle.std.specs.Str.Parse.{digits_value}
 use Rattle.sentry_plain.specs.Texts.{Bytes}
 use Rattle.sentry_base.specs.declared.protocol.level.Level.{Level}
 use Rattle.sentry_base.specs.declared.protocol.level.Level.TheVariants.{Debug, Info, Warning, Error, Fatal}
-use Rattle.replay_print.specs.Printing.{level_word}
+use Rattle.sentry_base.specs.Names.{level_name}
 use Rattle.replay_run.specs.declared.command.Command.{Command}
 use Rattle.replay_run.specs.declared.command.Command.TheVariants.{Client, Hub, Tag, Message, Empty, Release, Session, End, Flush, Log, Close}
 
@@ -34,7 +34,7 @@ number_of text =
 
 -- the level that a word names
 unfoldable pub level_of : Bytes → Option Level
-level_of text = find (λ level. bytes_eq text (level_word level)) (Debug ∷ Info ∷ Warning ∷ Error ∷ Fatal ∷ [])
+level_of text = find (λ level. bytes_eq text (level_name level)) (Debug ∷ Info ∷ Warning ∷ Error ∷ Fatal ∷ [])
 
 unfoldable pub client_of : Bytes → Option Command
 client_of text =

@@ -45,24 +45,6 @@ impl Shown for SpanId {
 
 impl Shown for SpanStatus {
     fn push_to(&self, text: &mut String) -> Result<(), AllocError> {
-        text.push_str(match self {
-            SpanStatus::Ok => "ok",
-            SpanStatus::DeadlineExceeded => "deadline_exceeded",
-            SpanStatus::Unauthenticated => "unauthenticated",
-            SpanStatus::PermissionDenied => "permission_denied",
-            SpanStatus::NotFound => "not_found",
-            SpanStatus::ResourceExhausted => "resource_exhausted",
-            SpanStatus::InvalidArgument => "invalid_argument",
-            SpanStatus::Unimplemented => "unimplemented",
-            SpanStatus::Unavailable => "unavailable",
-            SpanStatus::InternalError => "internal_error",
-            SpanStatus::UnknownError => "unknown_error",
-            SpanStatus::Cancelled => "cancelled",
-            SpanStatus::AlreadyExists => "already_exists",
-            SpanStatus::FailedPrecondition => "failed_precondition",
-            SpanStatus::Aborted => "aborted",
-            SpanStatus::OutOfRange => "out_of_range",
-            SpanStatus::DataLoss => "data_loss",
-        })
+        text.push_str(self.as_str())
     }
 }

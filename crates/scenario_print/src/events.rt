@@ -46,13 +46,7 @@ fn push_details(text: &mut String, event: &Event) -> Result<(), AllocError> {
 
 impl Shown for Level {
     fn push_to(&self, text: &mut String) -> Result<(), AllocError> {
-        text.push_str(match self {
-            Level::Debug => "debug",
-            Level::Info => "info",
-            Level::Warning => "warning",
-            Level::Error => "error",
-            Level::Fatal => "fatal",
-        })
+        text.push_str(self.as_str())
     }
 }
 

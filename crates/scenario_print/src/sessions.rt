@@ -11,12 +11,7 @@ const MINUTE: u64 = 60_000_000_000;
 
 impl Shown for SessionStatus {
     fn push_to(&self, text: &mut String) -> Result<(), AllocError> {
-        text.push_str(match self {
-            SessionStatus::Ok => "ok",
-            SessionStatus::Exited => "exited",
-            SessionStatus::Crashed => "crashed",
-            SessionStatus::Abnormal => "abnormal",
-        })
+        text.push_str(self.as_str())
     }
 }
 

@@ -51,45 +51,18 @@ impl Shown for LogAttribute {
 
 impl Shown for LogLevel {
     fn push_to(&self, text: &mut String) -> Result<(), AllocError> {
-        text.push_str(match self {
-            LogLevel::Trace => "trace",
-            LogLevel::Debug => "debug",
-            LogLevel::Info => "info",
-            LogLevel::Warn => "warn",
-            LogLevel::Error => "error",
-            LogLevel::Fatal => "fatal",
-        })
+        text.push_str(self.as_str())
     }
 }
 
 impl Shown for MetricType {
     fn push_to(&self, text: &mut String) -> Result<(), AllocError> {
-        text.push_str(match self {
-            MetricType::Counter => "counter",
-            MetricType::Gauge => "gauge",
-            MetricType::Distribution => "distribution",
-        })
+        text.push_str(self.as_str())
     }
 }
 
 impl Shown for Unit {
     fn push_to(&self, text: &mut String) -> Result<(), AllocError> {
-        text.push_str(match self {
-            Unit::Nanosecond => "nanosecond",
-            Unit::Microsecond => "microsecond",
-            Unit::Millisecond => "millisecond",
-            Unit::Second => "second",
-            Unit::Minute => "minute",
-            Unit::Hour => "hour",
-            Unit::Day => "day",
-            Unit::Week => "week",
-            Unit::Bit => "bit",
-            Unit::Byte => "byte",
-            Unit::Kilobyte => "kilobyte",
-            Unit::Megabyte => "megabyte",
-            Unit::Ratio => "ratio",
-            Unit::Percent => "percent",
-            Unit::Other(name) => name.as_str(),
-        })
+        text.push_str(self.as_str())
     }
 }

@@ -8,7 +8,8 @@ use Rattle.sentry_base.specs.declared.protocol.exception.Mechanism.{Mechanism}
 use Rattle.sentry_base.specs.declared.protocol.event.Event.{Event}
 use Rattle.sentry_framing.specs.Json.{optional, items_of}
 use Rattle.sentry_framing.specs.Moments.{seconds_text}
-use Rattle.sentry_envelope.specs.Breadcrumbs.{level_name, put_values, breadcrumb_json}
+use Rattle.sentry_base.specs.Names.{level_name}
+use Rattle.sentry_envelope.specs.Breadcrumbs.{put_values, breadcrumb_json}
 use Rattle.sentry_envelope.specs.Contexts.{context_json}
 use Rattle.sentry_envelope.specs.Members.{put_map}
 use Rattle.sentry_envelope.specs.Requests.{request_json}

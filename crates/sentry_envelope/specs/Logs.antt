@@ -1,23 +1,13 @@
 -- The JSON of logs.
 use Rattle.std.specs.Prelude.{codes, List}
 use Rattle.json.specs.Json.{Json, number, string, array, object, no_members, member}
-use Rattle.sentry_plain.specs.Texts.{Bytes}
 use Rattle.sentry_base.specs.declared.protocol.log.Log.{Log}
-use Rattle.sentry_base.specs.declared.protocol.log.LogLevel.{LogLevel}
-use Rattle.sentry_base.specs.declared.protocol.log.LogLevel.TheVariants as level
+use Rattle.sentry_base.specs.Names.{log_level_name}
 use Rattle.sentry_framing.specs.Json.{optional, items_of}
 use Rattle.sentry_framing.specs.Moments.{seconds_text}
 use Rattle.sentry_envelope.specs.Attributes.{attribute_json}
 use Rattle.sentry_envelope.specs.Ids.{trace_id_json}
 use Rattle.sentry_envelope.specs.Members.{put_map}
-
-abbrev pub log_level_name : LogLevel → Bytes
-log_level_name level.Trace = codes "trace"
-log_level_name level.Debug = codes "debug"
-log_level_name level.Info = codes "info"
-log_level_name level.Warn = codes "warn"
-log_level_name level.Error = codes "error"
-log_level_name level.Fatal = codes "fatal"
 
 abbrev pub log_json : Log → Json
 log_json log = object

@@ -1,28 +1,15 @@
 //! Breadcrumbs.
-ghost use Rattle.std.specs.Prelude.{◌≡◌, OnOk};
+ghost use Rattle.std.specs.Prelude.{OnOk};
 ghost use Rattle.json.specs.Tree.{json_tokens};
 ghost use Rattle.sentry_framing.specs.Json.{Adds, Puts};
-ghost use Rattle.sentry_envelope.specs.Breadcrumbs.{level_name, put_values, breadcrumb_json};
+ghost use Rattle.sentry_envelope.specs.Breadcrumbs.{put_values, breadcrumb_json};
 
 use crate::texts::put_optional;
 use crate::values::write_map;
 use json::Writer;
-use sentry_base::protocol::{Breadcrumb, Level, ValueMap};
+use sentry_base::protocol::{Breadcrumb, ValueMap};
 use sentry_framing::members::{put_seconds, put_text};
 use std::alloc::AllocError;
-
-/// The name of a level.
-pub fn level_name(level: Level) -> &'static str
-    ensures { result.now ≡ level_name level }
-{
-    match level {
-        Level::Debug => "debug",
-        Level::Info => "info",
-        Level::Warning => "warning",
-        Level::Error => "error",
-        Level::Fatal => "fatal",
-    }
-}
 
 /// Writes values by key, if there are any.
 pub fn put_values(out: &mut Writer, key: &str, values: &ValueMap) -> Result<(), AllocError>
@@ -44,7 +31,7 @@ pub fn write_breadcrumb(out: &mut Writer, breadcrumb: &Breadcrumb) -> Result<(),
     put_seconds(out, "timestamp", breadcrumb.timestamp)?;
     put_text(out, "type", breadcrumb.ty.as_str())?;
     put_optional(out, "category", &breadcrumb.category)?;
-    put_text(out, "level", level_name(breadcrumb.level))?;
+    put_text(out, "level", breadcrumb.level.as_str())?;
     put_optional(out, "message", &breadcrumb.message)?;
     put_values(out, "data", &breadcrumb.data_)?;
     out.end_object()?;

@@ -6,7 +6,7 @@ ghost use Rattle.sentry_framing.specs.Json.{Adds, Puts, items_of, optional};
 ghost use Rattle.sentry_envelope.specs.Breadcrumbs.{breadcrumb_json};
 ghost use Rattle.sentry_envelope.specs.Events.{put_list, mechanism_json, exception_json, event_json};
 
-use crate::breadcrumbs::{level_name, put_values, write_breadcrumb};
+use crate::breadcrumbs::{put_values, write_breadcrumb};
 use crate::collections::{put_text_map, write_texts};
 use crate::contexts::put_contexts;
 use crate::requests::put_request;
@@ -120,7 +120,7 @@ pub fn write_event(out: &mut Writer, event: &Event) -> Result<(), AllocError>
 {
     out.begin_object()?;
     put_simple(out, "event_id", event.event_id)?;
-    put_text(out, "level", level_name(event.level))?;
+    put_text(out, "level", event.level.as_str())?;
     out.key("fingerprint")?;
     write_texts(out, event.fingerprint.as_slice())?;
     put_optional(out, "transaction", &event.transaction)?;

@@ -1,35 +1,22 @@
 //! Logs.
-ghost use Rattle.std.specs.Prelude.{◌≡◌, OnOk};
+ghost use Rattle.std.specs.Prelude.{OnOk};
 ghost use Rattle.json.specs.Json.{array};
 ghost use Rattle.json.specs.Tree.{json_tokens};
 ghost use Rattle.sentry_framing.specs.Json.{Adds, items_of};
-ghost use Rattle.sentry_envelope.specs.Logs.{log_json, log_level_name, logs_json};
+ghost use Rattle.sentry_envelope.specs.Logs.{log_json, logs_json};
 
 use crate::attributes::put_attributes;
 use crate::ids::put_optional_trace_id;
 use json::Writer;
-use sentry_base::protocol::{Log, LogLevel};
+use sentry_base::protocol::Log;
 use sentry_framing::members::{put_seconds, put_text};
 use std::alloc::{AllocError, Global};
-
-fn log_level_name(level: LogLevel) -> &'static str
-    ensures { result.now ≡ log_level_name level }
-{
-    match level {
-        LogLevel::Trace => "trace",
-        LogLevel::Debug => "debug",
-        LogLevel::Info => "info",
-        LogLevel::Warn => "warn",
-        LogLevel::Error => "error",
-        LogLevel::Fatal => "fatal",
-    }
-}
 
 fn write_log(out: &mut Writer, alloc: Global, log: &Log) -> Result<(), AllocError>
     ensures { OnOk result (Adds out.old out.new (json_tokens (log_json log.now))) }
 {
     out.begin_object()?;
-    put_text(out, "level", log_level_name(log.level))?;
+    put_text(out, "level", log.level.as_str())?;
     put_text(out, "body", log.body.as_str())?;
     put_optional_trace_id(out, "trace_id", log.trace_id)?;
     put_seconds(out, "timestamp", log.timestamp)?;

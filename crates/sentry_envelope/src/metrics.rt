@@ -1,49 +1,17 @@
 //! Metrics.
-ghost use Rattle.std.specs.Prelude.{◌≡◌, OnOk, codes};
+ghost use Rattle.std.specs.Prelude.{OnOk, codes};
 ghost use Rattle.std.specs.Fmt.{signed_decimal};
 ghost use Rattle.json.specs.Json.{array, member, number};
 ghost use Rattle.json.specs.Tree.{json_tokens};
 ghost use Rattle.sentry_framing.specs.Json.{Adds, Puts, items_of, optional};
-ghost use Rattle.sentry_envelope.specs.Metrics.{metric_json, metric_type_name, metrics_json, unit_json, unit_name};
+ghost use Rattle.sentry_envelope.specs.Metrics.{metric_json, metrics_json, unit_json};
 
 use crate::attributes::put_attributes;
 use crate::ids::{put_optional_span_id, put_trace_id};
 use json::Writer;
-use sentry_base::protocol::{Metric, MetricType, Unit};
+use sentry_base::protocol::{Metric, Unit};
 use sentry_framing::members::{put_seconds, put_text};
 use std::alloc::{AllocError, Global};
-
-fn metric_type_name(metric_type: MetricType) -> &'static str
-    ensures { result.now ≡ metric_type_name metric_type }
-{
-    match metric_type {
-        MetricType::Counter => "counter",
-        MetricType::Gauge => "gauge",
-        MetricType::Distribution => "distribution",
-    }
-}
-
-fn unit_name(unit: &Unit) -> &str
-    ensures { result.now ≡ unit_name unit.now }
-{
-    match unit {
-        Unit::Nanosecond => "nanosecond",
-        Unit::Microsecond => "microsecond",
-        Unit::Millisecond => "millisecond",
-        Unit::Second => "second",
-        Unit::Minute => "minute",
-        Unit::Hour => "hour",
-        Unit::Day => "day",
-        Unit::Week => "week",
-        Unit::Bit => "bit",
-        Unit::Byte => "byte",
-        Unit::Kilobyte => "kilobyte",
-        Unit::Megabyte => "megabyte",
-        Unit::Ratio => "ratio",
-        Unit::Percent => "percent",
-        Unit::Other(name) => name.as_str(),
-    }
-}
 
 fn put_unit(out: &mut Writer, unit: &Option<Unit>) -> Result<(), AllocError>
     ensures { OnOk result (Puts out.old out.new (optional unit_json (codes "unit") unit.now)) }
@@ -51,7 +19,7 @@ fn put_unit(out: &mut Writer, unit: &Option<Unit>) -> Result<(), AllocError>
     match unit {
         None => Ok(()),
         Some(unit) => {
-            put_text(out, "unit", unit_name(unit))?;
+            put_text(out, "unit", unit.as_str())?;
             Ok(())
         }
     }
@@ -70,7 +38,7 @@ fn write_metric(out: &mut Writer, alloc: Global, metric: &Metric) -> Result<(), 
     ensures { OnOk result (Adds out.old out.new (json_tokens (metric_json metric.now))) }
 {
     out.begin_object()?;
-    put_text(out, "type", metric_type_name(metric.metric_type))?;
+    put_text(out, "type", metric.metric_type.as_str())?;
     put_text(out, "name", metric.name.as_str())?;
     put_amount(out, metric)?;
     put_seconds(out, "timestamp", metric.timestamp)?;

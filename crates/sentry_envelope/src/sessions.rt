@@ -1,25 +1,14 @@
 //! Session updates.
-ghost use Rattle.std.specs.Prelude.{◌≡◌, OnOk};
+ghost use Rattle.std.specs.Prelude.{OnOk};
 ghost use Rattle.json.specs.Tree.{json_tokens};
 ghost use Rattle.sentry_framing.specs.Json.{Adds, Puts};
-ghost use Rattle.sentry_envelope.specs.Sessions.{status_name, attributes_json, put_if_true, session_json};
+ghost use Rattle.sentry_envelope.specs.Sessions.{attributes_json, put_if_true, session_json};
 
 use crate::texts::{put_hyphenated, put_optional};
 use json::Writer;
-use sentry_base::protocol::{SessionAttributes, SessionStatus, SessionUpdate};
+use sentry_base::protocol::{SessionAttributes, SessionUpdate};
 use sentry_framing::members::{put_boolean, put_moment, put_optional_seconds, put_text, put_whole};
 use std::alloc::AllocError;
-
-fn status_name(status: SessionStatus) -> &'static str
-    ensures { result.now ≡ status_name status }
-{
-    match status {
-        SessionStatus::Ok => "ok",
-        SessionStatus::Exited => "exited",
-        SessionStatus::Crashed => "crashed",
-        SessionStatus::Abnormal => "abnormal",
-    }
-}
 
 fn put_if_true(out: &mut Writer, key: &str, b: bool) -> Result<(), AllocError>
     ensures { OnOk result (Puts out.old out.new (put_if_true key.now b)) }
@@ -51,7 +40,7 @@ pub fn write_session(out: &mut Writer, session: &SessionUpdate) -> Result<(), Al
     put_moment(out, "started", session.started)?;
     put_if_true(out, "init", session.init)?;
     put_optional_seconds(out, "duration", session.duration)?;
-    put_text(out, "status", status_name(session.status))?;
+    put_text(out, "status", session.status.as_str())?;
     put_whole(out, "errors", session.errors)?;
     out.key("attrs")?;
     write_attributes(out, session.attributes.get())?;

@@ -1,6 +1,7 @@
 //! The options of a transport.
 
-ghost use Rattle.std.specs.Prelude.{◌≡◌, IfOk};
+ghost use Rattle.std.specs.Prelude.{◌≡◌, IfErr, IfOk};
+ghost use Rattle.sentry_base.specs.declared.protocol.refusal.Refusal.TheVariants.{OutOfMemory};
 ghost use Rattle.sentry_transport.specs.Transports.{transport_options};
 
 use sentry_base::protocol::Refusal;
@@ -37,7 +38,8 @@ impl TransportOptions {
     pub fn try_from_client_options<C>(
         options: &ClientOptions<C>,
     ) -> Result<Option<TransportOptions>, Refusal>
-        ensures { IfOk result (λ made. made ≡ transport_options options.now) }
+        ensures made { IfOk result (λ made. made ≡ transport_options options.now) }
+        ensures refused { IfErr result (λ refusal. refusal ≡ OutOfMemory) }
     {
         let plain = &options.plain;
         let Some(dsn) = &plain.dsn else {

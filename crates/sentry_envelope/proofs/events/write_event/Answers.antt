@@ -20,9 +20,9 @@ returns c =
     let exceptions = same_members c.in_ok-put_exceptions.ensures
     (λ rest. ap (λ (xs : List Exception). put_list exception_json (codes "exception") xs rest) c.as_slice-3.ensures) in
     made c.in_ok-begin_object.ensures
-    (then c.in_ok-put_simple.ensures (then (says c.in_ok-put_text.ensures c.level_name.ensures)
+    (then c.in_ok-put_simple.ensures (then (says c.in_ok-put_text.ensures c.as_str.ensures)
     (then fingerprint (then c.in_ok-put_optional.ensures (then c.in_ok-put_optional-2.ensures
-    (then (says c.in_ok-put_text-2.ensures c.as_str.ensures) (then c.in_ok-put_seconds.ensures
+    (then (says c.in_ok-put_text-2.ensures c.as_str-2.ensures) (then c.in_ok-put_seconds.ensures
     (then c.in_ok-put_optional-3.ensures (then c.in_ok-put_optional-4.ensures
     (then c.in_ok-put_optional-5.ensures (then c.in_ok-put_user.ensures (then c.in_ok-put_request.ensures
     (then c.in_ok-put_contexts.ensures (then breadcrumbs (then exceptions (then c.in_ok-put_text_map.ensures

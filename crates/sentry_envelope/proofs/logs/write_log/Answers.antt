@@ -4,7 +4,7 @@ use Rattle.sentry_envelope.proofs.logs.write_log.Goals as goal
 pub returns : goal.returns
 returns c =
     made c.in_ok-begin_object.ensures
-    (then (says c.in_ok-put_text.ensures c.log_level_name.ensures)
-    (then (says c.in_ok-put_text-2.ensures c.as_str.ensures) (then c.in_ok-put_optional_trace_id.ensures
+    (then (says c.in_ok-put_text.ensures c.as_str.ensures)
+    (then (says c.in_ok-put_text-2.ensures c.as_str-2.ensures) (then c.in_ok-put_optional_trace_id.ensures
     (then c.in_ok-put_seconds.ensures c.in_ok-put_attributes.ensures))))
     c.in_ok-end_object.ensures
