@@ -108,8 +108,8 @@ uint32_t dochirwa_set_span(dochirwa *engine, uint64_t hub, bool is_span, uint64_
 uint32_t dochirwa_clear_span(dochirwa *engine, uint64_t hub, uint64_t now);
 /* Does the edits of a JSON object, all or none: `tags` (texts), `extra` (any values) and `contexts` (objects) are objects
  * whose entries are set, or removed where they are null; `user` is an object with id, email, username, ip_address and
- * data, `level` a name as warning, `fingerprint` a list of texts, `transaction` a text; null takes them away. Faults: 2,
- * 11 (also a member of another name). */
+ * data, `level` a name such as warning, `fingerprint` a list of texts, `transaction` a text; null takes them away.
+ * Faults: 2, 11 (also a member of another name). */
 uint32_t dochirwa_edit_scope(dochirwa *engine, uint64_t hub, const uint8_t *edits, size_t edits_length, uint64_t now);
 /* Clears the scope to the trace and the span of `fresh`. Faults: 2, 11. */
 uint32_t dochirwa_clear_scope(dochirwa *engine, uint64_t hub, const dochirwa_fresh *fresh);
@@ -164,7 +164,7 @@ uint32_t dochirwa_set_span_tag(dochirwa *engine, bool is_span, uint64_t number, 
 uint32_t dochirwa_set_span_name(dochirwa *engine, bool is_span, uint64_t number, const uint8_t *name, size_t name_length);
 /* Sets the operation. Faults: 2. */
 uint32_t dochirwa_set_span_op(dochirwa *engine, bool is_span, uint64_t number, const uint8_t *op, size_t op_length);
-/* Sets the status of this name, as ok, internal_error or deadline_exceeded. Faults: 2, 11. */
+/* Sets the status of this name, such as ok, internal_error or deadline_exceeded. Faults: 2, 11. */
 uint32_t dochirwa_set_span_status(dochirwa *engine, bool is_span, uint64_t number, const uint8_t *name, size_t name_length);
 /* Sets the request of a JSON object (dochirwa_capture_event). Faults: 2, 11. */
 uint32_t dochirwa_set_span_request(dochirwa *engine, bool is_span, uint64_t number, const uint8_t *request, size_t request_length);

@@ -312,7 +312,7 @@ impl Engine {
         checked(unsafe { dochirwa_clear_span(&mut self.raw, hub, now) })
     }
 
-    /// Does the edits of a JSON object, all or none: `tags` (texts), `extra` (any values) and `contexts` (objects) are objects whose entries are set, or removed where they are null; `user` is an object with id, email, username, ip_address and data, `level` a name as warning, `fingerprint` a list of texts, `transaction` a text; null takes them away. Faults: 2, 11 (also a member of another name).
+    /// Does the edits of a JSON object, all or none: `tags` (texts), `extra` (any values) and `contexts` (objects) are objects whose entries are set, or removed where they are null; `user` is an object with id, email, username, ip_address and data, `level` a name such as warning, `fingerprint` a list of texts, `transaction` a text; null takes them away. Faults: 2, 11 (also a member of another name).
     pub fn edit_scope(&mut self, hub: u64, edits: &str, now: u64) -> Result<(), Fault> {
         checked(unsafe { dochirwa_edit_scope(&mut self.raw, hub, edits.as_ptr(), edits.len(), now) })
     }
@@ -425,7 +425,7 @@ impl Engine {
         checked(unsafe { dochirwa_set_span_op(&mut self.raw, is_span, number, op.as_ptr(), op.len()) })
     }
 
-    /// Sets the status of this name, as ok, internal_error or deadline_exceeded. Faults: 2, 11.
+    /// Sets the status of this name, such as ok, internal_error or deadline_exceeded. Faults: 2, 11.
     pub fn set_span_status(&mut self, is_span: bool, number: u64, name: &str) -> Result<(), Fault> {
         checked(unsafe { dochirwa_set_span_status(&mut self.raw, is_span, number, name.as_ptr(), name.len()) })
     }
