@@ -1,5 +1,6 @@
 //! Members of objects by their kind. A member that is null counts as absent.
-ghost use Rattle.std.specs.Prelude.{◌≡◌, None, IfErr};
+ghost use Rattle.std.specs.Prelude.{◌≡◌, None, IfOk, IfErr, IfSome};
+ghost use Rattle.sentry_base.specs.Names.{level_name};
 ghost use Rattle.c_base.specs.Faults.{refusal_of};
 
 use c_base::fault::CallFault;
@@ -116,8 +117,10 @@ pub fn text_items(alloc: Global, values: &[Value]) -> Result<Items<Text>, CallFa
     Ok(texts)
 }
 
-// A level by its name.
-fn level_named(name: &str) -> Option<Level> {
+// The level of this name, if one has it.
+fn level_named(name: &str) -> Option<Level>
+    ensures { IfSome result (λ level. level_name level ≡ name.now) }
+{
     match name {
         "debug" => Some(Level::Debug),
         "info" => Some(Level::Info),
@@ -129,8 +132,11 @@ fn level_named(name: &str) -> Option<Level> {
 }
 
 /// A level, by its name.
+///
+/// `Unknown`: the value is no text, or no level has this name.
 pub fn level_of(value: &Value) -> Result<Level, CallFault>
-    ensures { IfErr result (λ fault. refusal_of fault ≡ None) }
+    ensures level { IfOk result (λ level. value.now ≡ Value.Text (level_name level)) }
+    ensures err { IfErr result (λ fault. refusal_of fault ≡ None) }
 {
     let Value::Text(name) = value else {
         return Err(CallFault::Unknown);

@@ -1,6 +1,8 @@
 //! The types and units of metrics.
-ghost use Rattle.std.specs.Prelude.{◌≡◌, None, IfErr};
+ghost use Rattle.std.specs.Prelude.{◌≡◌, None, IfOk, IfErr, IfSome};
+ghost use Rattle.sentry_base.specs.Names.{unit_name};
 ghost use Rattle.c_base.specs.Faults.{refusal_of};
+ghost use Rattle.c_records.specs.Metrics.{metric_type_number};
 
 use c_base::fault::CallFault;
 use sentry_base::protocol::{MetricType, Unit};
@@ -8,8 +10,11 @@ use sentry_plain::Text;
 use std::alloc::Global;
 
 /// 0 to 2: `Counter`, `Gauge`, `Distribution`.
+///
+/// `Unknown`: the number is another one.
 pub fn metric_type(number: u32) -> Result<MetricType, CallFault>
-    ensures { IfErr result (λ fault. refusal_of fault ≡ None) }
+    ensures metric_type { IfOk result (λ metric_type. metric_type_number metric_type ≡ number) }
+    ensures err { IfErr result (λ fault. refusal_of fault ≡ None) }
 {
     match number {
         0 => Ok(MetricType::Counter),
@@ -19,8 +24,10 @@ pub fn metric_type(number: u32) -> Result<MetricType, CallFault>
     }
 }
 
-// A unit of time by its name.
-fn time_unit(name: &str) -> Option<Unit> {
+// The unit of time of this name, if one has it.
+fn time_unit(name: &str) -> Option<Unit>
+    ensures { IfSome result (λ unit. unit_name unit ≡ name.now) }
+{
     match name {
         "nanosecond" => Some(Unit::Nanosecond),
         "microsecond" => Some(Unit::Microsecond),
@@ -34,8 +41,10 @@ fn time_unit(name: &str) -> Option<Unit> {
     }
 }
 
-// A unit by its name, if it isn't one of the program's own.
-fn known_unit(name: &str) -> Option<Unit> {
+// The unit of this name, if it isn't one of the program's own.
+fn known_unit(name: &str) -> Option<Unit>
+    ensures { IfSome result (λ unit. unit_name unit ≡ name.now) }
+{
     match name {
         "bit" => Some(Unit::Bit),
         "byte" => Some(Unit::Byte),
@@ -47,9 +56,12 @@ fn known_unit(name: &str) -> Option<Unit> {
     }
 }
 
-/// The unit of this name; none where it is empty.
+/// The unit of this name, which may be one of the program's own; none where the name is empty.
+///
+/// `OutOfMemory`.
 pub fn unit_named(alloc: Global, name: &str) -> Result<Option<Unit>, CallFault>
-    ensures { IfErr result (λ fault. refusal_of fault ≡ None) }
+    ensures unit { IfOk result (λ found. IfSome found (λ unit. unit_name unit ≡ name.now)) }
+    ensures err { IfErr result (λ fault. refusal_of fault ≡ None) }
 {
     if name.is_empty() {
         return Ok(None);
