@@ -1,9 +1,9 @@
 -- What a call from another language does, by what the seat holds before and after.
-use Rattle.std.specs.Prelude.{◌≡◌, ◌<◌, ℕ, List, Option, Some, None, Ok, []}
+use Rattle.std.specs.Prelude.{◌≡◌, ◌<◌, ℕ, Option, Some, None, []}
 use Rattle.sentry_state.specs.Outcomes.{Outcome}
 use Rattle.sentry_state.specs.Worlds.{World, Stands, first_world}
 use Rattle.c_base.specs.Faults.{answer_of}
-use Rattle.c_base.specs.Outboxes.{waiting, View, Asks}
+use Rattle.c_base.specs.Outboxes.{waiting}
 use Rattle.c_engine.specs.declared.callbacks.NoProcessor.{NoProcessor}
 use Rattle.c_records.specs.declared.filters.Filters.{Filters}
 use Rattle.c_engine.specs.declared.outbox_engine.OutboxEngine.{OutboxEngine}
@@ -35,19 +35,8 @@ IsOpened (Some old) new number = (number ≡ 13) × (new ≡ Some old)
 IsOpened None None number = number ≡ 1
 IsOpened None (Some new) number = (number ≡ 0) × (waiting new.outbox ≡ []) × Stands new.engine (first_world 0)
 
--- what becomes of the engine and of the views where the next envelope is asked for: nothing but what `Asks` says
-abbrev pub IsFetched : Option OutboxEngine → Option OutboxEngine → ℕ → ℕ × ℕ → List ℕ × List ℕ → ℕ → Type 0
-IsFetched None new number client room length = (number ≡ 12) × (new ≡ None) × (room.1 ≡ room.0)
-IsFetched (Some old) None number client room length = ⊥
-IsFetched (Some old) (Some new) number client room length =
-    (new.engine ≡ old.engine)
-    × ((number ≡ 0 → ⊥) → IsUnchanged old new)
-    × (number ≡ 0 → Asks (waiting old.outbox)
-    (record { waits = waiting old.outbox; client = client.0; room = room.0 })
-    (record { waits = waiting new.outbox; client = client.1; room = room.1 }) length)
-
--- the engine is kept, and no envelope waits
-abbrev pub IsEmptied : Option OutboxEngine → Option OutboxEngine → Type 0
-IsEmptied None new = new ≡ None
-IsEmptied (Some old) None = ⊥
-IsEmptied (Some old) (Some new) = (new.engine ≡ old.engine) × (waiting new.outbox ≡ [])
+-- a closed seat stays closed, and answers 12; an open one answers 0, keeps its engine, and no envelope waits
+abbrev pub IsEmptied : Option OutboxEngine → Option OutboxEngine → ℕ → Type 0
+IsEmptied None new number = (number ≡ 12) × (new ≡ None)
+IsEmptied (Some old) None number = ⊥
+IsEmptied (Some old) (Some new) number = (number ≡ 0) × (new.engine ≡ old.engine) × (waiting new.outbox ≡ [])

@@ -26,7 +26,7 @@ pub extern "C" fn dochirwa_next_envelope(
 /// Forgets the envelopes that wait.
 #[unsafe(no_mangle)]
 pub extern "C" fn dochirwa_drop_envelopes(seat: &mut Seat) -> u32
-    ensures { IsEmptied seat.old.engine seat.new.engine }
+    ensures { IsEmptied seat.old.engine seat.new.engine result }
 {
     if seat.is_closed() {
         return CLOSED;
