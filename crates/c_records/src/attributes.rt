@@ -7,7 +7,9 @@ use sentry_base::protocol::LogAttribute;
 use sentry_plain::{Text, TextMap, ValueMap};
 use std::alloc::Global;
 
-/// The attributes that an object describes.
+/// The attributes that an object describes: each of its members, of any kind.
+///
+/// `OutOfMemory`.
 pub fn attributes_of(alloc: Global, members: &ValueMap) -> Result<TextMap<LogAttribute>, CallFault>
     ensures { IfErr result (λ fault. refusal_of fault ≡ None) }
 {

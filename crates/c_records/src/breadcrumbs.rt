@@ -8,7 +8,10 @@ use sentry_base::protocol::{Breadcrumb, Level};
 use sentry_plain::{Items, Value, ValueMap};
 use std::alloc::Global;
 
-/// The breadcrumb that an object describes, of this moment (nanoseconds since the epoch).
+/// The breadcrumb that an object describes, of this moment (nanoseconds since the epoch). Other members are passed
+/// over.
+///
+/// `Unknown`: a member is of another kind, or the level has no such name; `OutOfMemory`.
 pub fn breadcrumb_of(alloc: Global, members: &ValueMap, now: u64) -> Result<Breadcrumb, CallFault>
     ensures { IfErr result (λ fault. refusal_of fault ≡ None) }
 {
@@ -35,8 +38,8 @@ fn breadcrumbs_of(alloc: Global, values: &[Value], now: u64) -> Result<Items<Bre
     Ok(breadcrumbs)
 }
 
-/// The member `breadcrumbs`; none where it is absent.
-pub fn breadcrumbs_member(
+/// The member `breadcrumbs`, each of this moment; none where it is absent.
+pub(crate) fn breadcrumbs_member(
     alloc: Global,
     members: &ValueMap,
     now: u64,

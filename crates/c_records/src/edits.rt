@@ -53,6 +53,7 @@ enum Entries {
     Contexts,
 }
 
+// The edit of one entry.
 fn entry_edit<P: Drop>(
     entries: Entries,
     key: Text,
@@ -83,7 +84,6 @@ fn push_entries<P: Drop>(
     Ok(())
 }
 
-// The edit of what a scope has one of.
 fn user_edit<P: Drop>(alloc: Global, value: &Value) -> Result<ScopeEdit<P>, CallFault>
     ensures { IfErr result (λ fault. refusal_of fault ≡ None) }
 {
@@ -124,7 +124,7 @@ fn transaction_edit<P: Drop>(value: &Value) -> Result<ScopeEdit<P>, CallFault>
     Ok(ScopeEdit::SetTransaction(Some(name)))
 }
 
-// The edit of a member that is no map of entries.
+// The edit of what a scope has one of.
 fn single_edit<P: Drop>(alloc: Global, name: &str, value: &Value) -> Result<ScopeEdit<P>, CallFault>
     ensures { IfErr result (λ fault. refusal_of fault ≡ None) }
 {
@@ -159,7 +159,9 @@ fn push_member<P: Drop>(
     }
 }
 
-/// The edits that an object describes. A member of another name is a fault.
+/// The edits that an object describes.
+///
+/// `Unknown`: a member has another name or is of another kind; `OutOfMemory`.
 pub fn edits_of<P: Drop>(alloc: Global, members: &ValueMap) -> Result<Vec<ScopeEdit<P>>, CallFault>
     ensures { IfErr result (λ fault. refusal_of fault ≡ None) }
 {

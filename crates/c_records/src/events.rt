@@ -90,8 +90,8 @@ fn exceptions_member(alloc: Global, members: &ValueMap) -> Result<Items<Exceptio
     }
 }
 
-/// The contexts that an object describes, each an object of any members.
-pub(crate) fn contexts_of(alloc: Global, members: &ValueMap) -> Result<TextMap<Context>, CallFault>
+// The contexts that an object describes, each an object of any members.
+fn contexts_of(alloc: Global, members: &ValueMap) -> Result<TextMap<Context>, CallFault>
     ensures { IfErr result (λ fault. refusal_of fault ≡ None) }
 {
     let mut contexts = TextMap::new(alloc);
@@ -174,7 +174,10 @@ fn set_records(
     Ok(())
 }
 
-/// The event that an object describes, of this moment (nanoseconds since the epoch).
+/// The event that an object describes, of this moment (nanoseconds since the epoch), with the nil id. Other members are
+/// passed over.
+///
+/// `Unknown`: a member is of another kind, an exception has no `type`, or a level has no such name; `OutOfMemory`.
 pub fn event_of(alloc: Global, members: &ValueMap, now: u64) -> Result<Event, CallFault>
     ensures { IfErr result (λ fault. refusal_of fault ≡ None) }
 {

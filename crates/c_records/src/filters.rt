@@ -1,5 +1,5 @@
 //! What a client drops. An export takes no callback, so an option says by which text what is dropped begins.
-ghost use Rattle.std.specs.Prelude.{◌≡◌, ◌++◌, List, IfOk, OnOk};
+ghost use Rattle.std.specs.Prelude.{◌≡◌, ◌++◌, List, None, IfOk, OnOk};
 ghost use Rattle.std.specs.List.{cons_option, filter_map};
 ghost use Rattle.std.specs.Option.{option_and_then, option_to_list};
 ghost use Rattle.sentry_base.specs.declared.protocol.breadcrumb.Breadcrumb.{Breadcrumb};
@@ -12,12 +12,15 @@ use sentry_plain::{Boxed, Few, Items, Text};
 use sentry_trace::performance::TransactionContext;
 use std::alloc::{AllocError, Global};
 
-/// The texts by which what a client drops begins: events and breadcrumbs by their message, logs by their body, and metrics
-/// by their name. Where there is no text, nothing is dropped.
+/// The texts by which what a client drops begins. Where there is no text, nothing is dropped.
 pub struct Filters {
+    /// Of the messages of events.
     pub events: Option<Text>,
+    /// Of the messages of breadcrumbs.
     pub breadcrumbs: Option<Text>,
+    /// Of the bodies of logs.
     pub logs: Option<Text>,
+    /// Of the names of metrics.
     pub metrics: Option<Text>,
 }
 
@@ -34,7 +37,12 @@ impl Drop for Filters {
 
 impl Filters {
     /// Those of a client that drops nothing.
-    pub fn none() -> Filters {
+    pub fn none() -> Filters
+        ensures events { result.events ≡ None }
+        ensures breadcrumbs { result.breadcrumbs ≡ None }
+        ensures logs { result.logs ≡ None }
+        ensures metrics { result.metrics ≡ None }
+    {
         Filters {
             events: None,
             breadcrumbs: None,

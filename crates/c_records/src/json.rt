@@ -10,6 +10,8 @@ use std::alloc::Global;
 use std::mem;
 
 /// The value of a JSON text.
+///
+/// `NotUtf8`; `Unknown`: it is no JSON, or has another number; `OutOfMemory`.
 pub fn value(alloc: Global, bytes: &[u8]) -> Result<Value, CallFault>
     ensures { IfErr result (λ fault. refusal_of fault ≡ None) }
 {
@@ -20,6 +22,8 @@ pub fn value(alloc: Global, bytes: &[u8]) -> Result<Value, CallFault>
 }
 
 /// The members of a JSON object; the empty text has none.
+///
+/// `NotUtf8`; `Unknown`: it is no JSON, has another number, or is no object; `OutOfMemory`.
 pub fn object(alloc: Global, bytes: &[u8]) -> Result<ValueMap, CallFault>
     ensures { IfErr result (λ fault. refusal_of fault ≡ None) }
 {

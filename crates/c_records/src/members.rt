@@ -1,4 +1,5 @@
-//! Members of objects by their kind. A member that is null counts as absent.
+//! Members of objects by their kind. A member that is null counts as absent, and one of another kind is `Unknown`. What
+//! is copied may find no memory.
 ghost use Rattle.std.specs.Prelude.{◌≡◌, None, IfOk, IfErr, IfSome};
 ghost use Rattle.sentry_base.specs.Names.{level_name};
 ghost use Rattle.c_base.specs.Faults.{refusal_of};
@@ -42,7 +43,7 @@ pub fn list_of(value: &Value) -> Result<&[Value], CallFault>
     }
 }
 
-/// What a member is, unless it is null.
+/// A member of any kind; none where it is absent or null.
 pub fn member<'a>(members: &'a ValueMap, key: &str) -> Option<&'a Value> {
     match members.get(key) {
         None | Some(Value::Null) => None,
@@ -50,7 +51,7 @@ pub fn member<'a>(members: &'a ValueMap, key: &str) -> Option<&'a Value> {
     }
 }
 
-/// A member that is a text.
+/// A member that is a text; none where it is absent.
 pub fn text_member(members: &ValueMap, key: &str) -> Result<Option<Text>, CallFault>
     ensures { IfErr result (λ fault. refusal_of fault ≡ None) }
 {

@@ -9,7 +9,7 @@ use sentry_options::clientoptions::{ClientOptions, SessionMode};
 use sentry_plain::Text;
 use std::alloc::{AllocError, Global};
 
-// A fault in an option, or want of memory.
+// A fault in an option, or want of memory. No option is refused for another cause.
 fn option_fault(refusal: Refusal) -> CallFault
     ensures { refusal_of result ≡ None }
 {
@@ -38,10 +38,7 @@ enum Setting {
 }
 
 fn number(value: &str) -> Option<u64> {
-    match value.parse::<u64>() {
-        Ok(number) => Some(number),
-        Err(_) => None,
-    }
+    value.parse().ok()
 }
 
 // A rate in millionths, where `1` stands for all.
@@ -49,10 +46,7 @@ fn rate(value: &str) -> Option<u32> {
     if value == "1" {
         return Some(SampleRate::ALL);
     }
-    match value.parse::<u32>() {
-        Ok(rate) => Some(rate),
-        Err(_) => None,
-    }
+    value.parse().ok()
 }
 
 fn flag(value: &str) -> Option<bool> {
@@ -203,11 +197,18 @@ fn set_option(
     }
 }
 
-/// The options that a text sets; later lines stand over earlier ones, and empty lines say nothing. `dsn`, `release`,
-/// `environment` and `server` are texts; `rate` and `traces` are rates in millionths, where `1` stands for all; `strict`,
-/// `pii`, `logs` and `metrics` are `0` or `1`; `mode` is `application` or `request`; `org`, `crumbs`, `maxspans` and
-/// `maxbatch` are numbers; what begins with the text of `drop_events`, `drop_breadcrumbs`, `drop_logs` or `drop_metrics` is
-/// dropped, unless that text is empty: events and breadcrumbs by their message, logs by their body, metrics by their name.
+/// The options that a text sets; later lines stand over earlier ones, and empty lines say nothing.
+///
+/// - `dsn`, `release`, `environment` and `server` are texts.
+/// - `rate` and `traces` are rates in millionths, where `1` stands for all.
+/// - `strict`, `pii`, `logs` and `metrics` are `0` or `1`.
+/// - `mode` is `application` or `request`.
+/// - `org`, `crumbs`, `maxspans` and `maxbatch` are numbers.
+/// - What begins with the text of `drop_events`, `drop_breadcrumbs`, `drop_logs` or `drop_metrics` is dropped, unless
+///   that text is empty: events and breadcrumbs by their message, logs by their body, metrics by their name.
+///
+/// `InvalidDsn`; `InvalidRate`: a rate above 1000000; `Unknown`: a line without `=`, a name that is none of these, or a
+/// value that isn't of its kind, as a rate from 2^32 on; `OutOfMemory`.
 pub fn read_options(alloc: Global, text: &str) -> Result<ClientOptions<Filters>, CallFault>
     ensures { IfErr result (λ fault. refusal_of fault ≡ None) }
 {

@@ -8,7 +8,9 @@ use sentry_base::protocol::Request;
 use sentry_plain::ValueMap;
 use std::alloc::Global;
 
-/// The request that an object describes.
+/// The request that an object describes. Other members are passed over.
+///
+/// `Unknown`: a member is of another kind; `OutOfMemory`.
 pub fn request_of(alloc: Global, members: &ValueMap) -> Result<Request, CallFault>
     ensures { IfErr result (λ fault. refusal_of fault ≡ None) }
 {

@@ -8,7 +8,9 @@ use sentry_base::protocol::User;
 use sentry_plain::ValueMap;
 use std::alloc::Global;
 
-/// The user that an object describes.
+/// The user that an object describes. Other members are passed over.
+///
+/// `Unknown`: a member is of another kind; `OutOfMemory`.
 pub fn user_of(alloc: Global, members: &ValueMap) -> Result<User, CallFault>
     ensures { IfErr result (λ fault. refusal_of fault ≡ None) }
 {
