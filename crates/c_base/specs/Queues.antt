@@ -16,7 +16,8 @@ module _ {T : Type 0} where
   -- the items of a queue, the one to be taken next first
   abbrev pub waiting : Queue T → List T
   waiting queue =
-      begun_items queue.begun ++ (flat_map batch_items (reverse queue.next.items) ++ flat_map batch_items queue.later.items)
+      begun_items queue.begun
+      ++ (flat_map batch_items (reverse queue.next.items) ++ flat_map batch_items queue.later.items)
 
   -- if anything waits, then a batch is begun
   abbrev pub IsTurned : Queue T → Type 0

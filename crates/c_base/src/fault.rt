@@ -10,17 +10,25 @@ use std::alloc::AllocError;
 pub enum CallFault {
     /// No memory for an argument, for the call, or for keeping what it hands out.
     OutOfMemory,
+    /// The engine has nothing of this number.
     Stale,
+    /// The layer of this depth isn't the top one, or is the only one.
     OutOfOrder,
+    /// Something still names what is to be given back.
     StillNamed,
+    /// The hub still has layers that were pushed.
     ScopesOpen,
+    /// The text is no DSN.
     InvalidDsn,
+    /// The rate is above 1000000 millionths.
     InvalidRate,
+    /// No client has the label.
     ForeignLosses,
+    /// All numbers of this kind are used up.
     Full,
     /// A text isn't UTF-8.
     NotUtf8,
-    /// A number or a word stands for nothing.
+    /// A number, a word or a part of a text stands for nothing.
     Unknown,
 }
 

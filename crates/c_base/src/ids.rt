@@ -4,7 +4,9 @@
 #[repr(C)]
 #[derive(Clone, Copy, Debug, PartialEq, Eq)]
 pub struct Id {
+    /// The first eight bytes.
     pub high: u64,
+    /// The last eight bytes.
     pub low: u64,
 }
 
@@ -14,9 +16,12 @@ pub struct Id {
 pub struct FreshNumbers {
     /// Nanoseconds since the epoch.
     pub now: u64,
+    /// Of an event or a session.
     pub id: Id,
+    /// Of a trace.
     pub trace: Id,
+    /// Of a span, as a number of which the high byte comes first.
     pub span: u64,
-    /// Below a million.
+    /// Below a million: what is sampled has a draw below its rate in millionths.
     pub draw: u32,
 }

@@ -17,7 +17,7 @@ impl Id {
         Id { high, low }
     }
 
-    /// The same, or nil.
+    /// The id that these bits are, or nil for none.
     pub fn of_option(uuid: Option<Uuid>) -> Id
         ensures { result ≡ id_or_nil uuid }
     {
@@ -58,7 +58,7 @@ pub fn text(bytes: &[u8]) -> Result<&str, CallFault>
     }
 }
 
-/// 0 to 4: `Debug`, `Info`, `Warning`, `Error`, `Fatal`.
+/// 0 to 4: `Debug`, `Info`, `Warning`, `Error`, `Fatal`. `Unknown`: the number is another one.
 pub fn level(number: u32) -> Result<Level, CallFault>
     ensures level { IfOk result (λ level. level ≡ level_of number) }
     ensures err { IfErr result (λ fault. refusal_of fault ≡ None) }
@@ -73,7 +73,7 @@ pub fn level(number: u32) -> Result<Level, CallFault>
     }
 }
 
-/// 0 to 5: `Trace`, `Debug`, `Info`, `Warn`, `Error`, `Fatal`.
+/// 0 to 5: `Trace`, `Debug`, `Info`, `Warn`, `Error`, `Fatal`. `Unknown`: the number is another one.
 pub fn log_level(number: u32) -> Result<LogLevel, CallFault>
     ensures level { IfOk result (λ level. level ≡ log_level_of number) }
     ensures err { IfErr result (λ fault. refusal_of fault ≡ None) }
@@ -89,7 +89,7 @@ pub fn log_level(number: u32) -> Result<LogLevel, CallFault>
     }
 }
 
-/// 0 to 3: `Ok`, `Exited`, `Crashed`, `Abnormal`.
+/// 0 to 3: `Ok`, `Exited`, `Crashed`, `Abnormal`. `Unknown`: the number is another one.
 pub fn session_status(number: u32) -> Result<SessionStatus, CallFault>
     ensures status { IfOk result (λ status. status ≡ status_of number) }
     ensures err { IfErr result (λ fault. refusal_of fault ≡ None) }

@@ -42,7 +42,7 @@ impl Outbox {
         }
     }
 
-    /// Makes room for what one more call hands out.
+    /// Makes room for what one more call hands out, which `keep` then takes without memory.
     pub fn make_room(&mut self) -> Result<(), AllocError>
         ensures same { waiting self.new ≡ waiting self.old }
         ensures room { OnOk result (vec_len self.new.queue.later < vec_capacity self.new.queue.later) }
@@ -65,8 +65,9 @@ impl Outbox {
         self.queue.clear();
     }
 
-    /// Answers how long the text of the next envelope is in Sentry's format, and sets the number of its client; 0 where
-    /// none waits. If the room holds the text, it is copied there, and the envelope is taken; otherwise it goes on waiting.
+    /// Answers how many bytes the text of the next envelope has in Sentry's format, and sets the number of its client;
+    /// 0 where none waits. If the room holds the text, it is copied there, and the envelope is taken; otherwise it goes
+    /// on waiting, as where memory is refused for the text.
     pub fn take(&mut self, client: &mut u64, room: &mut [u8]) -> Result<usize, AllocError>
         ensures asks { IfOk result (λ answer. Asks (waiting self.old)
             (record { waits = waiting self.old; client = client.old; room = room.old })
