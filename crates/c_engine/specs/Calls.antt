@@ -31,8 +31,8 @@ module _ {T : Type 0} where
   IsRefused (Some refusal) old outcome =
       (world : World NoProcessor Filters) → Stands old.engine world → (outcome world).answer ≡ Err refusal
 
-  -- the engine did the call as its definition says, and what it handed out waits behind what waited; or the call failed,
-  -- and nothing changed
+  -- the engine did the call as its definition says, and what it handed out waits behind what waited; or the call
+  -- failed, and nothing changed
   abbrev pub Calls : OutboxEngine → OutboxEngine → Result (Unit {0}) CallFault → (T → Type 0)
       → (World NoProcessor Filters → Outcome NoProcessor Filters T) → Type 0
   Calls old new (Ok done) IsReply outcome =

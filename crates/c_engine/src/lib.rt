@@ -1,5 +1,5 @@
-//! What the static library `dochirwa` exports, as methods: an engine with filters in place of callbacks, and an outbox for
-//! the envelopes that its calls hand out.
+//! What the static library `dochirwa` exports, as methods: an engine with filters in place of callbacks, and an outbox
+//! for the envelopes that its calls hand out.
 #![tactic(auto)]
 
 mod callbacks;

@@ -31,6 +31,7 @@ impl Drop for OutboxEngine {
     }
 }
 
+/// The tag of all keys.
 pub(crate) const TAG: u64 = 0;
 
 pub(crate) fn client_key(number: u64) -> ClientKey
@@ -77,7 +78,8 @@ pub(crate) fn either_key(is_span: bool, number: u64) -> TransactionOrSpanKey
 impl OutboxEngine {
     /// An engine that holds nothing, in a box.
     pub fn new(alloc: Global) -> Result<Box<OutboxEngine>, AllocError>
-        ensures { IfOk result (λ engine. (waiting engine.value.outbox ≡ []) × Stands engine.value.engine (first_world 0)) }
+        ensures { IfOk result (λ engine.
+            (waiting engine.value.outbox ≡ []) × Stands engine.value.engine (first_world 0)) }
     {
         let engine = OutboxEngine {
             alloc,

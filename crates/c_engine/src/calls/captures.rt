@@ -19,7 +19,7 @@ use sentry_base::protocol::Event;
 impl OutboxEngine {
     /// Captures an event, and sets its id, which is nil where none was sent.
     #[tactic(auto, using(crate::proofs::Calling::called, crate::proofs::Calling::refused, crate::proofs::Calling::unasked))]
-    pub fn send_event(
+    pub(crate) fn send_event(
         &mut self,
         hub: u64,
         event: Event,
@@ -66,7 +66,8 @@ impl OutboxEngine {
     /// Sets the id that the last capture on a hub answered, which is nil where there was none.
     #[tactic(auto, using(crate::proofs::Calling::called, crate::proofs::Calling::refused, crate::proofs::Calling::unasked))]
     pub fn last_event_id(&mut self, hub: u64, id: &mut Id) -> Result<(), CallFault>
-        ensures { Calls self.old self.new result (λ reply. id.new ≡ id_or_nil reply) (call.last_event_id (hub_key hub)) }
+        ensures { Calls self.old self.new result (λ reply. id.new ≡ id_or_nil reply)
+            (call.last_event_id (hub_key hub)) }
     {
         self.outbox.make_room()?;
         let out = self.engine.last_event_id(hub_key(hub))?;

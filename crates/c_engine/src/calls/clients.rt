@@ -11,23 +11,20 @@ use c_records::filters::Filters;
 use sentry_options::clientoptions::ClientOptions;
 
 impl OutboxEngine {
-    /// Adds a client with these options, and a transport if it is to send at all.
+    /// Adds a client with these options, under the label of this number.
     #[tactic(auto, using(crate::proofs::Calling::called, crate::proofs::Calling::refused, crate::proofs::Calling::unasked))]
-    pub fn add(
+    pub(crate) fn add(
         &mut self,
         options: ClientOptions<Filters>,
-        has_transport: bool,
         number: u64,
         now: u64,
         client: &mut u64,
     ) -> Result<(), CallFault>
         ensures { Calls self.old self.new result (λ key. client.new ≡ key.number)
-            (call.add_client filter_meanings options has_transport (label number) now) }
+            (call.add_client filter_meanings options true (label number) now) }
     {
         self.outbox.make_room()?;
-        let out = self
-            .engine
-            .add_client(options, has_transport, label(number), now)?;
+        let out = self.engine.add_client(options, true, label(number), now)?;
         self.outbox.keep(out.sent);
         *client = out.reply.number;
         Ok(())

@@ -37,7 +37,8 @@ impl OutboxEngine {
     /// Adds a hub with the client and a copy of the top scope of another.
     #[tactic(auto, using(crate::proofs::Calling::called, crate::proofs::Calling::refused, crate::proofs::Calling::unasked))]
     pub fn new_hub_from_top(&mut self, hub: u64, copy: &mut u64) -> Result<(), CallFault>
-        ensures { Calls self.old self.new result (λ key. copy.new ≡ key.number) (layers.new_hub_from_top (hub_key hub)) }
+        ensures { Calls self.old self.new result (λ key. copy.new ≡ key.number)
+            (layers.new_hub_from_top (hub_key hub)) }
     {
         self.outbox.make_room()?;
         let out = self.engine.new_hub_from_top(hub_key(hub))?;
@@ -49,7 +50,8 @@ impl OutboxEngine {
     /// Gives the top layer of a hub another client.
     #[tactic(auto, using(crate::proofs::Calling::called, crate::proofs::Calling::refused, crate::proofs::Calling::unasked))]
     pub fn bind_client(&mut self, hub: u64, client: u64) -> Result<(), CallFault>
-        ensures { Calls self.old self.new result anything (layers.bind_client (hub_key hub) (Some (client_key client))) }
+        ensures { Calls self.old self.new result anything
+            (layers.bind_client (hub_key hub) (Some (client_key client))) }
     {
         self.outbox.make_room()?;
         let out = self

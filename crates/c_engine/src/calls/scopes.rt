@@ -45,7 +45,7 @@ fn attachment_of(
 impl OutboxEngine {
     /// Does these edits, in order.
     #[tactic(auto, using(crate::proofs::Calling::called, crate::proofs::Calling::refused, crate::proofs::Calling::unasked))]
-    pub fn configure(
+    pub(crate) fn configure(
         &mut self,
         hub: u64,
         edits: Vec<ScopeEdit<NoProcessor>>,
@@ -159,7 +159,7 @@ impl OutboxEngine {
 
     /// Adds breadcrumbs.
     #[tactic(auto, using(crate::proofs::Calling::called, crate::proofs::Calling::refused, crate::proofs::Calling::unasked))]
-    pub fn add_breadcrumbs(
+    pub(crate) fn add_breadcrumbs(
         &mut self,
         hub: u64,
         breadcrumbs: Few<Breadcrumb>,

@@ -16,7 +16,7 @@ use sentry_plain::Value;
 impl OutboxEngine {
     /// Sets a piece of data.
     #[tactic(auto, using(crate::proofs::Calling::called, crate::proofs::Calling::refused, crate::proofs::Calling::unasked))]
-    pub fn put_span_data(
+    pub(crate) fn put_span_data(
         &mut self,
         is_span: bool,
         number: u64,
@@ -102,7 +102,7 @@ impl OutboxEngine {
 
     /// Sets the status.
     #[tactic(auto, using(crate::proofs::Calling::called, crate::proofs::Calling::refused, crate::proofs::Calling::unasked))]
-    pub fn put_span_status(
+    pub(crate) fn put_span_status(
         &mut self,
         is_span: bool,
         number: u64,
@@ -133,7 +133,7 @@ impl OutboxEngine {
 
     /// Sets the request.
     #[tactic(auto, using(crate::proofs::Calling::called, crate::proofs::Calling::refused, crate::proofs::Calling::unasked))]
-    pub fn put_span_request(
+    pub(crate) fn put_span_request(
         &mut self,
         is_span: bool,
         number: u64,

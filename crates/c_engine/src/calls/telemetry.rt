@@ -11,7 +11,7 @@ use sentry_base::protocol::{Log, MetricDraft};
 impl OutboxEngine {
     /// Captures a log.
     #[tactic(auto, using(crate::proofs::Calling::called, crate::proofs::Calling::refused, crate::proofs::Calling::unasked))]
-    pub fn send_log(&mut self, hub: u64, log: Log) -> Result<(), CallFault>
+    pub(crate) fn send_log(&mut self, hub: u64, log: Log) -> Result<(), CallFault>
         ensures { Calls self.old self.new result anything (call.capture_log filter_meanings (hub_key hub) log) }
     {
         self.outbox.make_room()?;
@@ -22,7 +22,12 @@ impl OutboxEngine {
 
     /// Captures a metric.
     #[tactic(auto, using(crate::proofs::Calling::called, crate::proofs::Calling::refused, crate::proofs::Calling::unasked))]
-    pub fn send_metric(&mut self, hub: u64, draft: MetricDraft, now: u64) -> Result<(), CallFault>
+    pub(crate) fn send_metric(
+        &mut self,
+        hub: u64,
+        draft: MetricDraft,
+        now: u64,
+    ) -> Result<(), CallFault>
         ensures { Calls self.old self.new result anything
             (call.capture_metric filter_meanings (hub_key hub) draft now) }
     {

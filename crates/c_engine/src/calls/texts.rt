@@ -75,7 +75,7 @@ fn breadcrumb_of_text(
 }
 
 impl OutboxEngine {
-    /// Adds a client of the options that a text sets, a line each.
+    /// Adds a client of the options that a text sets, a line each, under the label of this number.
     #[tactic(auto, using(crate::proofs::Calling::some))]
     pub fn add_client(
         &mut self,
@@ -88,7 +88,7 @@ impl OutboxEngine {
             (λ options. clients.add_client filter_meanings options true (label number) now) }
     {
         let options = read_options(self.alloc, text(options)?)?;
-        self.add(options, true, number, now, client)
+        self.add(options, number, now, client)
     }
 
     /// Captures the event of a JSON object.
