@@ -21,7 +21,8 @@ abbrev pub IsSomeCall : {A T : Type 0} → Option OutboxEngine → Option Outbox
     → (A → World NoProcessor Filters → Outcome NoProcessor Filters T) → Type 0
 IsSomeCall None new number IsReply outcome = (number ≡ 12) × (new ≡ None)
 IsSomeCall (Some old) None number IsReply outcome = ⊥
-IsSomeCall (Some old) (Some new) number IsReply outcome = (number < 12) × SomeCalls old new (answer_of number) IsReply outcome
+IsSomeCall (Some old) (Some new) number IsReply outcome =
+    (number < 12) × SomeCalls old new (answer_of number) IsReply outcome
 
 -- a call that reads changes nothing
 abbrev pub IsRead : Option OutboxEngine → Option OutboxEngine → ℕ → Type 0

@@ -18,4 +18,5 @@ IsFetched (Some old) (Some new) number client room length =
     (number < 12)
     × (new.engine ≡ old.engine)
     × OnErr (answer_of number) (IsUnchanged old new)
-    × OnOk (answer_of number) (Asks (waiting old.outbox) (view_of old client.0 room.0) (view_of new client.1 room.1) length)
+    × OnOk (answer_of number)
+    (Asks (waiting old.outbox) (view_of old client.0 room.0) (view_of new client.1 room.1) length)

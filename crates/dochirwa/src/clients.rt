@@ -90,7 +90,7 @@ pub extern "C" fn dochirwa_close(seat: &mut Seat, client: u64) -> u32
     code(seat.lend().close(client))
 }
 
-/// Adds a client of the options that a text sets, a line `NAME=VALUE` each.
+/// Adds a client of the options that a text sets, a line `NAME=VALUE` each, under a label.
 #[unsafe(no_mangle)]
 pub extern "C" fn dochirwa_add_client(
     seat: &mut Seat,

@@ -6,8 +6,8 @@ use crate::CLOSED;
 use crate::seat::Seat;
 use c_base::fault::code;
 
-/// Sets how long the text of the next envelope is in Sentry's format (0: no envelope waits), and the number of its
-/// client. If the room holds the text, it is copied there, and the envelope is taken; otherwise it goes on waiting.
+/// Sets how many bytes the text of the next envelope has in Sentry's format (0: no envelope waits), and the number of
+/// its client. If the room holds the text, it is copied there, and the envelope is taken; otherwise it goes on waiting.
 #[unsafe(no_mangle)]
 pub extern "C" fn dochirwa_next_envelope(
     seat: &mut Seat,
@@ -15,7 +15,8 @@ pub extern "C" fn dochirwa_next_envelope(
     room: &mut [u8],
     length: &mut usize,
 ) -> u32
-    ensures { IsFetched seat.old.engine seat.new.engine result (client.old, client.new) (room.old, room.new) length.new }
+    ensures { IsFetched seat.old.engine seat.new.engine result (client.old, client.new)
+        (room.old, room.new) length.new }
 {
     if seat.is_closed() {
         return CLOSED;

@@ -27,7 +27,8 @@ pub extern "C" fn dochirwa_new_hub(
     hub: &mut u64,
 ) -> u32
     ensures { IsCalled seat.old.engine seat.new.engine result (λ key. hub.new ≡ key.number)
-        (hubs.new_hub (Some (client_key client)) (new_scope (fresh_of fresh.entry.now).trace_id (fresh_of fresh.entry.now).span_id)) }
+        (hubs.new_hub (Some (client_key client))
+        (new_scope (fresh_of fresh.entry.now).trace_id (fresh_of fresh.entry.now).span_id)) }
 {
     if seat.is_closed() {
         return CLOSED;

@@ -1,6 +1,6 @@
 //! The C interface: an engine behind a pointer. Each call takes the pointer, numbers and bytes, and answers 0, or the
-//! number of a fault: 1 to 9 are the engine's refusals, 10 is a text that isn't UTF-8, 11 a number or a word that stands
-//! for nothing, 12 that the engine is closed. A call that fails changes nothing. C makes one call at a time on an engine.
+//! number of a fault: 1 to 11 as `CallFault` numbers them, 12 that the engine is closed, 13 that it is open already. A
+//! call that fails changes nothing. C makes one call at a time on an engine.
 #![tactic(auto)]
 
 mod captures;
@@ -13,5 +13,11 @@ mod seat;
 mod spans;
 mod unboxed;
 
+/// The answer where no memory is left for an engine, as `CallFault::OutOfMemory` is numbered.
+pub const OUT_OF_MEMORY: u32 = 1;
+
 /// The answer of a call on an engine that is closed.
 pub const CLOSED: u32 = 12;
+
+/// The answer where an engine is to be opened that is open.
+pub const ALREADY_OPEN: u32 = 13;

@@ -3,23 +3,24 @@ ghost use Rattle.std.specs.Prelude.{◌≡◌, None};
 ghost use Rattle.dochirwa.specs.Exports.{IsOpened};
 
 use crate::seat::Seat;
+use crate::{ALREADY_OPEN, OUT_OF_MEMORY};
 use c_engine::OutboxEngine;
 use std::alloc::Global;
 
-/// Makes an engine where there is none.
+/// Makes an engine that holds nothing where there is none; one that is open stays as it is.
 #[unsafe(no_mangle)]
 pub extern "C" fn dochirwa_open(alloc: Global, seat: &mut Seat) -> u32
     ensures { IsOpened seat.old.engine seat.new.engine result }
 {
     if !seat.is_closed() {
-        return 13;
+        return ALREADY_OPEN;
     }
     match OutboxEngine::new(alloc) {
         Ok(engine) => {
             seat.put(engine);
             0
         }
-        Err(_) => 1,
+        Err(_) => OUT_OF_MEMORY,
     }
 }
 

@@ -78,7 +78,8 @@ pub extern "C" fn dochirwa_edit_scope(seat: &mut Seat, hub: u64, edits: &[u8], n
 #[unsafe(no_mangle)]
 pub extern "C" fn dochirwa_clear_scope(seat: &mut Seat, hub: u64, fresh: &FreshNumbers) -> u32
     ensures { IsCalled seat.old.engine seat.new.engine result anything
-        (hubs.configure (hub_key hub) (Clear (fresh_of fresh.entry.now).trace_id (fresh_of fresh.entry.now).span_id ∷ []) fresh.entry.now.now) }
+        (hubs.configure (hub_key hub)
+        (Clear (fresh_of fresh.entry.now).trace_id (fresh_of fresh.entry.now).span_id ∷ []) fresh.entry.now.now) }
 {
     if seat.is_closed() {
         return CLOSED;
@@ -115,7 +116,7 @@ pub extern "C" fn dochirwa_clear_breadcrumbs(seat: &mut Seat, hub: u64, now: u64
     code(seat.lend().clear_breadcrumbs(hub, now))
 }
 
-/// Adds an attachment to the top scope.
+/// Adds an attachment of a name, a media type (empty: none) and any bytes to the top scope.
 #[unsafe(no_mangle)]
 pub extern "C" fn dochirwa_add_attachment(
     seat: &mut Seat,

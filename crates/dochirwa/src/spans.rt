@@ -27,7 +27,8 @@ pub extern "C" fn dochirwa_start_transaction(
 ) -> u32
     ensures { IsCalled seat.old.engine seat.new.engine result (λ key. transaction.new ≡ key.number)
         (spans.start_transaction filter_meanings (hub_key hub)
-        (new_context name.now op.now (fresh_of fresh.entry.now).trace_id (fresh_of fresh.entry.now).span_id) (fresh_of fresh.entry.now)) }
+        (new_context name.now op.now (fresh_of fresh.entry.now).trace_id (fresh_of fresh.entry.now).span_id)
+        (fresh_of fresh.entry.now)) }
 {
     if seat.is_closed() {
         return CLOSED;

@@ -5,6 +5,7 @@ ghost use Rattle.std.specs.Box.Ownership.{box_owns};
 use std::alloc::Allocator;
 use std::marker::Model;
 
+/// The pointer of a box, and the allocator that frees it.
 pub struct Unboxed<T, A: Allocator> {
     pub(crate) at: *mut T,
     pub(crate) alloc: A,
@@ -16,6 +17,7 @@ impl<T, A: Allocator> Model for Unboxed<T, A> {
 }
 
 impl<T, A: Allocator> Unboxed<T, A> {
+    /// Takes a box apart.
     pub fn unbox(whole: Box<T, A>) -> Unboxed<T, A>
     where
         T: Drop,
@@ -25,6 +27,7 @@ impl<T, A: Allocator> Unboxed<T, A> {
         Unboxed { at, alloc }
     }
 
+    /// Puts the box together again.
     pub fn rebox(self) -> Box<T, A>
         ensures { result.value ≡ self.value }
     {
