@@ -37,16 +37,21 @@ enum Setting {
     EnableMetrics(bool),
 }
 
+// A number below 2^64 in digits.
 fn number(value: &str) -> Option<u64> {
+    if value.starts_with('+') {
+        return None;
+    }
     value.parse().ok()
 }
 
-// A rate in millionths, where `1` stands for all.
+// A rate in millionths, where `1` stands for all. One that is no `u32` is as invalid as the largest of them.
 fn rate(value: &str) -> Option<u32> {
     if value == "1" {
         return Some(SampleRate::ALL);
     }
-    value.parse().ok()
+    let rate = number(value)?;
+    Some(u32::try_from(rate).unwrap_or(u32::MAX))
 }
 
 fn flag(value: &str) -> Option<bool> {
@@ -208,7 +213,7 @@ fn set_option(
 ///   that text is empty: events and breadcrumbs by their message, logs by their body, metrics by their name.
 ///
 /// `InvalidDsn`; `InvalidRate`: a rate above 1000000; `Unknown`: a line without `=`, a name that is none of these, or a
-/// value that isn't of its kind, as a rate from 2^32 on; `OutOfMemory`.
+/// value that isn't of its kind, such as `+5`; `OutOfMemory`.
 pub fn read_options(alloc: Global, text: &str) -> Result<ClientOptions<Filters>, CallFault>
     ensures { IfErr result (λ fault. refusal_of fault ≡ None) }
 {
