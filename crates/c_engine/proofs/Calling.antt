@@ -1,8 +1,11 @@
 -- A call that the engine did, and whose envelopes are kept; and one that it refused.
-use Rattle.std.proofs.Common.{◌≡◌, sym, subst, List, ◌++◌}
+use Rattle.std.proofs.Common.{◌≡◌, ◌∙◌, sym, subst, List, ◌++◌}
 use Rattle.std.specs.Prelude.{Option, None, Result, Ok, Err}
 use Rattle.sentry_base.specs.declared.protocol.keys.ClientKey.{ClientKey}
 use Rattle.sentry_base.specs.declared.protocol.envelope.Envelope.{Envelope}
+use Rattle.sentry_plain.specs.Texts.{Bytes}
+use Rattle.sentry_base.specs.Names.{span_status_name}
+use Rattle.sentry_base.specs.declared.protocol.context.SpanStatus.{SpanStatus}
 use Rattle.sentry_base.specs.declared.protocol.refusal.Refusal.{Refusal}
 use Rattle.sentry_base.specs.declared.protocol.refusal.Refusal.TheVariants.{OutOfMemory, Stale, OutOfOrder, StillNamed, ScopesOpen, InvalidDsn, InvalidRate, ForeignLosses, Full}
 use Rattle.sentry_state.specs.declared.state.Out.{Out}
@@ -15,6 +18,7 @@ use Rattle.c_engine.specs.declared.callbacks.NoProcessor.{NoProcessor}
 use Rattle.c_records.specs.declared.filters.Filters.{Filters}
 use Rattle.c_engine.specs.declared.outbox_engine.OutboxEngine.{OutboxEngine}
 use Rattle.c_engine.specs.Calls.{IsKept, IsRefused, IsUnchanged, Calls, SomeCalls}
+use Rattle.c_engine.specs.Named.{StatusNamed}
 
 module _ {T : Type 0} (need : Need) (old new : OutboxEngine)
     (outcome : World NoProcessor Filters → Outcome NoProcessor Filters T) where
@@ -57,3 +61,11 @@ pub some : {A T : Type 0} (old new : OutboxEngine) (answer : Result (Unit {0}) C
     → Calls old new answer IsReply (outcome read) → SomeCalls old new answer IsReply outcome
 some old new (Ok done) IsReply outcome read calls = (read, calls)
 some old new (Err fault) IsReply outcome read calls = calls.0
+
+-- the status of the name that was read
+pub some_status : {T : Type 0} (old new : OutboxEngine) (answer : Result (Unit {0}) CallFault) (IsReply : T → Type 0)
+    (outcome : SpanStatus → World NoProcessor Filters → Outcome NoProcessor Filters T) (name text : Bytes) (status : SpanStatus)
+    → text ≡ name → span_status_name status ≡ text → Calls old new answer IsReply (outcome status)
+    → SomeCalls old new answer IsReply (λ (named : StatusNamed name). outcome named.0)
+some_status old new answer IsReply outcome name text status read named calls =
+    some {A = StatusNamed name} old new answer IsReply (λ (it : StatusNamed name). outcome it.0) (status, named ∙ read) calls

@@ -2,3 +2,4 @@ pub mod Calls
 pub mod Engines
 pub mod Keys
 pub mod Moments
+pub mod Named

@@ -8,6 +8,7 @@ ghost use Rattle.c_engine.specs.Calls.{anything};
 ghost use Rattle.c_records.specs.Filters.{filter_meanings};
 ghost use Rattle.c_engine.specs.Keys.{hub_key, span_key, transaction_key, either_key};
 ghost use Rattle.c_engine.specs.Moments.{fresh_of};
+ghost use Rattle.c_engine.specs.Named.{StatusNamed};
 ghost use Rattle.dochirwa.specs.Exports.{IsCalled, IsSomeCall, IsRead};
 
 use crate::CLOSED;
@@ -206,7 +207,7 @@ pub extern "C" fn dochirwa_set_span_status(
     name: &[u8],
 ) -> u32
     ensures { IsSomeCall seat.old.engine seat.new.engine result anything
-        (λ status. setters.set_status (either_key is_span number) status) }
+        (λ (named : StatusNamed name.now). setters.set_status (either_key is_span number) named.0) }
 {
     if seat.is_closed() {
         return CLOSED;

@@ -2,6 +2,7 @@
 ghost use Rattle.sentry_span_edits.specs.Setters as setters;
 ghost use Rattle.c_engine.specs.Calls.{Calls, SomeCalls, IsUnchanged, anything};
 ghost use Rattle.c_engine.specs.Keys.{either_key};
+ghost use Rattle.c_engine.specs.Named.{StatusNamed};
 
 use crate::outbox_engine::{OutboxEngine, either_key};
 use c_base::fault::CallFault;
@@ -125,7 +126,7 @@ impl OutboxEngine {
         name: &[u8],
     ) -> Result<(), CallFault>
         ensures { SomeCalls self.old self.new result anything
-            (λ status. setters.set_status (either_key is_span number) status) }
+            (λ (named : StatusNamed name.now). setters.set_status (either_key is_span number) named.0) }
     {
         let status = status_named(text(name)?)?;
         self.put_span_status(is_span, number, status)
