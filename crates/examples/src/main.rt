@@ -1,5 +1,5 @@
 //! Programs over the library, a module each. `examples NAME` runs one, and `examples` all of them. `examples spool FOLDER`
-//! puts what `examples spool` prints into a folder.
+//! puts what `examples spool` prints into a folder. Other arguments have the status 2.
 #![tactic(auto)]
 
 mod clocks;
@@ -65,8 +65,19 @@ fn is_known(word: &str) -> bool {
     false
 }
 
+// Whether there is no word, or the first names an example, and a second is a folder for the one that takes it.
+fn are_meant(asked: &Option<String>, folder: &Option<String>) -> bool {
+    match asked {
+        None => true,
+        Some(word) => match folder {
+            None => is_known(word.as_str()),
+            Some(_) => word.as_str() == "spool",
+        },
+    }
+}
+
 fn print_usage(rt: &impl Eprint) -> io::Result<()> {
-    eprintln!(rt; "examples: the argument is none, or one of")?;
+    eprintln!(rt; "examples: the arguments are none, `spool FOLDER`, or one of")?;
     for (name, _) in EXAMPLES {
         eprintln!(rt; "  {name}")?;
     }
@@ -106,12 +117,12 @@ fn run<R: Threads + Wait + Clock + Print + Copy + Drop + Send + Sync + 'static>(
 // What waits can be put into a box here alone: for the lock of a core, and where a transport has a lock of its own.
 fn main(rt: HostRuntime) -> Result<ExitCode> {
     let alloc = rt.alloc();
-    let asked = env::args(&rt)?.nth(1);
-    if let Some(word) = &asked {
-        if !is_known(word.as_str()) {
-            print_usage(&rt)?;
-            return Ok(ExitCode::from(2));
-        }
+    let mut words = env::args(&rt)?;
+    let asked = words.nth(1);
+    let folder = words.next();
+    if words.next().is_some() || !are_meant(&asked, &folder) {
+        print_usage(&rt)?;
+        return Ok(ExitCode::from(2));
     }
     for (name, example) in EXAMPLES {
         if !is_asked(&asked, name) {
@@ -122,7 +133,7 @@ fn main(rt: HostRuntime) -> Result<ExitCode> {
         }
         let wait: BoxedGate = Box::new(alloc, Waiting(rt))?;
         match example {
-            Example::Spool => match env::args(&rt)?.nth(2) {
+            Example::Spool => match &folder {
                 None => {
                     let writer = WriterTransport::new(rt, alloc, None, rt.stdout());
                     let transport: BoxedTransport = Box::new(alloc, writer)?;

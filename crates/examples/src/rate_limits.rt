@@ -4,7 +4,7 @@ use crate::clocks::SetMoment;
 use crate::printing::Printer;
 use crate::pumping::Pumping;
 use crate::setup::{fresh, options};
-use anyhow::Result;
+use anyhow::{Result, bail};
 use sentry_core::protocol::{Category, Event, Uuid};
 use sentry_core::queueing::QueueTransport;
 use sentry_core::{BoxedEventCallback, ClientCallbacks, Text, Waiting};
@@ -31,9 +31,7 @@ pub fn run<R: Threads + Wait + Clock + Copy + Drop + Send + Sync + 'static>(
 ) -> Result<()> {
     let alloc = host.alloc();
     let moment = Arc::new(alloc, AtomicU64::new(0))?;
-    let Some((client, queue)) = client_over_queue(rt, host, moment.clone()?)? else {
-        return Ok(());
-    };
+    let (client, queue) = client_over_queue(rt, host, moment.clone()?)?;
     let pumping = Pumping::start(rt, alloc, queue.clone()?)?;
     let played = play(&client, &queue, &moment);
     pumping.stop(&rt);
@@ -48,17 +46,17 @@ fn client_over_queue<R: Wait + Copy + Drop>(
     rt: R,
     host: HostRuntime,
     moment: Arc<AtomicU64>,
-) -> Result<Option<(Client<R>, Arc<Queue<R>>)>> {
+) -> Result<(Client<R>, Arc<Queue<R>>)> {
     let alloc = host.alloc();
     let core = SharedCore::new(Waiting(rt), alloc, 0)?;
     let mut setup = core.client_setup(options(alloc)?)?;
     let Some(options) = setup.transport_options()? else {
-        return Ok(None);
+        bail!("the options have no DSN");
     };
     let queue = QueueTransport::new(rt, alloc, options, Printer(host), SetMoment(moment))?;
     let queue = shared(alloc, queue)?;
     let client = Client::with_options(setup, Some(queue.clone()?), 0)?;
-    Ok(Some((client, queue)))
+    Ok((client, queue))
 }
 
 fn shared<R: Wait + Drop>(alloc: Global, queue: Queue<R>) -> Result<Arc<Queue<R>>, AllocError> {

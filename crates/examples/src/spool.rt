@@ -1,6 +1,6 @@
 //! A shop whose envelopes are put into a folder, a file each, or are written to standard output. Another program sends
 //! the files, as `tools/ship` does.
-use crate::setup::{SEED, Thread};
+use crate::setup::{self, SEED, Thread};
 use anyhow::Result;
 use sentry_core::envelope::Usage;
 use sentry_core::metrics::{CaptureMetric, counter};
@@ -48,7 +48,7 @@ pub fn run(alloc: Global, wait: BoxedGate, transport: BoxedTransport) -> Result<
 }
 
 fn options(alloc: Global) -> Result<ClientOptions, Refusal> {
-    ClientOptions::from_dsn(alloc, "https://public@sentry.invalid/1")?
+    setup::options(alloc)?
         .release("shop@1.0.0")?
         .environment("staging")?
         .traces_sample_rate(1_000_000)

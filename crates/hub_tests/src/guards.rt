@@ -2,7 +2,8 @@
 use crate::workshop::{Minute, SEED, new_sink};
 use sentry_core::protocol::Refusal;
 use sentry_core::{
-    ClientInitGuard, ClientOptions, Envelope, ThreadHub, TickClock, Transport, init, logger_info,
+    ClientInitGuard, ClientOptions, Clock, Envelope, SystemClock, SystemTicks, ThreadHub,
+    TickClock, Transport, init, logger_info,
 };
 use std::alloc::Global;
 use std::sync::Arc;
@@ -38,11 +39,20 @@ fn drop_guard(guard: ClientInitGuard, thread: &mut ThreadHub) -> Result<[bool; 2
 fn a_guard_closes_its_client(rt: HostRuntime) -> Result<(), Fail> {
     let options = options(rt.alloc())?;
     let sink = new_sink(rt.alloc())?;
-    let (guard, mut thread) = init!(rt, options, sink.clone()?)?;
+    let (guard, mut thread) = init!(rt, options, sink.clone()?, SystemTicks(rt))?;
     let are_active = drop_guard(guard, &mut thread)?;
     drop(thread);
     let sent = sink.take(rt.alloc()).len();
     assert_eq!(rt; (are_active, sent), ([true, false], 1));
+    Ok(())
+}
+
+#[test]
+fn the_system_ticks_at_its_own_moments(rt: HostRuntime) -> Result<(), Fail> {
+    let earliest = SystemClock(rt).now();
+    let moment = SystemTicks(rt).next().unwrap_or(0);
+    let latest = SystemClock(rt).now();
+    assert!(rt; earliest <= moment && moment <= latest);
     Ok(())
 }
 

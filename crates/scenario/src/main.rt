@@ -24,11 +24,11 @@ use scenario_run::{Envelopes, ScenarioFault, TAG, run_scenario, run_scenario_by}
 use sentry_lock::core_lock::{Locked, Waiting};
 use sentry_lock::shared_core::SharedCore;
 use std::alloc::{AllocError, Global};
-use std::io::BufReader;
+use std::env;
+use std::io::{BufReader, ErrorKind};
 use std::process::ExitCode;
 use std::rt::Stdin;
 use std::sync::{Arc, Wait};
-use std::{env, io};
 use transport::{Mailbox, Post};
 
 const USAGE: &str = "the arguments are `--envelopes` or not, and `lock`, `either`, `lent`, or none";
@@ -92,9 +92,15 @@ impl Asked {
     }
 }
 
-/// What the arguments ask for; `None` if they are others.
-fn read_arguments(rt: &HostRuntime) -> io::Result<Option<Asked>> {
-    let mut words = env::args(rt)?;
+/// What the arguments ask for; `None` if they are others. `OutOfMemory`.
+fn read_arguments(rt: &HostRuntime) -> Result<Option<Asked>, ScenarioFault> {
+    let mut words = match env::args(rt) {
+        Ok(words) => words,
+        Err(error) => match error.kind() {
+            ErrorKind::OutOfMemory => return Err(ScenarioFault::OutOfMemory),
+            _ => return Ok(None),
+        },
+    };
     let first = words.nth(1);
     let second = words.next();
     if words.next().is_some() {
@@ -161,13 +167,16 @@ fn main(rt: HostRuntime) -> ExitCode {
         Ok(asked) => Ok(asked),
         Err(_) => read_arguments(&rt),
     };
-    let Ok(Some(Asked { envelopes, mode })) = asked else {
-        let _ = eprintln!(rt; "scenario: {USAGE}");
-        return ExitCode::from(2);
-    };
-    let played = match mode {
-        Mode::Engine => play_on_engine(&rt, envelopes),
-        Mode::Lock(span_calls) => play_over_lock(&rt, rt, envelopes, span_calls),
+    let played = match asked {
+        Ok(Some(Asked { envelopes, mode })) => match mode {
+            Mode::Engine => play_on_engine(&rt, envelopes),
+            Mode::Lock(span_calls) => play_over_lock(&rt, rt, envelopes, span_calls),
+        },
+        Ok(None) => {
+            let _ = eprintln!(rt; "scenario: {USAGE}");
+            return ExitCode::from(2);
+        }
+        Err(fault) => Err(fault),
     };
     match played {
         Ok(()) => ExitCode::SUCCESS,

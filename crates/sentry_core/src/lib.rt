@@ -146,4 +146,5 @@ pub use sentry_transport::transport::Transport;
 pub use sentry_transport::transport::TransportFactory;
 pub use sentry_transport::transport::TransportOptions;
 pub use system::SystemClock;
+pub use system::SystemTicks;
 pub use system::draw_seed;
