@@ -93,7 +93,9 @@ impl Drop for PopScopeError {
 
 impl PopScopeError {
     /// The refusal and the guard.
-    pub fn into_parts(self) -> (Refusal, ScopeGuard) {
+    pub fn into_parts(self) -> (Refusal, ScopeGuard)
+        ensures { result ≡ (self.refusal, self.guard) }
+    {
         let PopScopeError { refusal, guard } = self;
         (refusal, guard)
     }
@@ -101,6 +103,10 @@ impl PopScopeError {
 
 /// The refusal alone: the layer stays.
 impl From<PopScopeError> for Refusal {
+    ghost use Rattle.std.specs.Prelude.{◌≡◌};
+
+    ghost from_gives = { λ error refusal. refusal ≡ error.refusal };
+
     fn from(error: PopScopeError) -> Refusal {
         error.refusal
     }
