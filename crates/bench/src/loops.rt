@@ -132,6 +132,9 @@ impl<'a> Asked<'a> {
             drains: number_at(words, 4, 0)?,
             long,
         };
+        if size.threads == 0 {
+            return None;
+        }
         Some(Asked {
             name: Some(name.as_str()),
             size,

@@ -4,7 +4,8 @@ use sentry_core::{Envelope, Transport};
 use std::io;
 use std::sync::atomic::{AtomicU64, Ordering};
 
-/// Counts what it is to send, by kind, since the envelopes of several threads come in any order.
+/// Counts what it is to send, by kind, since the envelopes of several threads come in any order. Of sessions it counts
+/// those of `SessionMode::Request` that exited or errored.
 pub struct Tally {
     events: AtomicU64,
     transactions: AtomicU64,

@@ -51,9 +51,9 @@ where
 {
     let tasks = make_tasks(main, JOBS)?;
     let worker = Worker::start(rt, client.clone()?, Ticks::new(rt))?;
-    run_tasks(&rt, tasks, |task: Task<L>| log_all(task))?;
+    let logged = run_tasks(&rt, tasks, |task: Task<L>| log_all(task));
     worker.stop(&rt);
-    Ok(())
+    logged
 }
 
 // So many logs, on a hub of its own.

@@ -1,5 +1,5 @@
 //! The guard of a program's client, over boxes.
-use crate::workshop::{Minute, SEED, new_sink};
+use crate::workshop::{Collector, LOOKS, Minute, SEED, at, new_sink};
 use sentry_core::protocol::Refusal;
 use sentry_core::{
     ClientInitGuard, ClientOptions, Clock, Envelope, SystemClock, SystemTicks, ThreadHub,
@@ -56,7 +56,7 @@ fn a_guard_closes_a_client_that_ticks(rt: HostRuntime) -> Result<(), Fail> {
 }
 
 #[test]
-fn the_system_ticks_ten_times_a_second(rt: HostRuntime) -> Result<(), Fail> {
+fn a_tick_of_the_system_waits(rt: HostRuntime) -> Result<(), Fail> {
     let earliest = SystemClock(rt).now();
     let moment = SystemTicks(rt).next().unwrap_or(0);
     let latest = SystemClock(rt).now();
@@ -74,7 +74,7 @@ fn a_guard_tells_that_not_all_was_sent(rt: HostRuntime) -> Result<(), Fail> {
     Ok(())
 }
 
-/// Tells a moment at each call. When it is dropped, it counts that in a word.
+/// Tells a moment at which logs of the minute are sent, at each call. When it is dropped, it counts that in a word.
 struct Endless(Arc<AtomicU64>);
 
 impl Drop for Endless {
@@ -87,18 +87,36 @@ impl Drop for Endless {
 impl TickClock for Endless {
     fn next(&mut self) -> Option<u64> {
         yield_now();
-        Some(1)
+        Some(at(66))
     }
+}
+
+// Looks at what is sent until there is an envelope, and lets other threads run in between. Answers whether there is.
+fn is_sent(alloc: Global, sink: &Collector) -> bool {
+    for _ in 0..LOOKS {
+        if !sink.take(alloc).is_empty() {
+            return true;
+        }
+        yield_now();
+    }
+    false
+}
+
+// Whether a log is sent while the worker of a client ticks.
+fn is_ticked(alloc: Global, sink: &Collector, mut thread: ThreadHub) -> Result<bool, Refusal> {
+    logger_info!(thread, "it waits")?;
+    Ok(is_sent(alloc, sink))
 }
 
 #[test]
 fn a_guard_ends_its_worker(rt: HostRuntime) -> Result<(), Fail> {
     let dropped = Arc::new(rt.alloc(), AtomicU64::new(0))?;
+    let sink = new_sink(rt.alloc())?;
     let ticks = Endless(dropped.clone()?);
-    let (guard, thread) = init!(rt, options(rt.alloc())?, Stuck, Minute, SEED, ticks)?;
-    drop(thread);
+    let (guard, thread) = init!(rt, options(rt.alloc())?, sink.clone()?, Minute, SEED, ticks)?;
+    assert!(rt; is_ticked(rt.alloc(), &sink, thread)?);
     let has_sent_all = guard.close()?;
-    assert_eq!(rt; (has_sent_all, dropped.load(Ordering::SeqCst)), (false, 1));
+    assert_eq!(rt; (has_sent_all, dropped.load(Ordering::SeqCst)), (true, 1));
     let ticks = Endless(dropped.clone()?);
     let (guard, thread) = init!(rt, options(rt.alloc())?, Stuck, Minute, SEED, ticks)?;
     drop(thread);

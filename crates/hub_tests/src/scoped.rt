@@ -3,6 +3,7 @@ use crate::current::draw_ids;
 use crate::workshop::{Bench, Thread, fresh};
 use sentry_core::protocol::{Refusal, SpanKey, TransactionOrSpanKey};
 use sentry_core::{Level, in_new_hub, in_scope, in_span, in_transaction, transaction_context};
+use sentry_hub::hub::Hub;
 use sentry_lock::core_lock::CoreLock;
 use std::alloc::{AllocError, Global};
 use std::test::Fail;
@@ -103,6 +104,39 @@ fn what_is_sent(alloc: Global) -> Result<String, AllocError> {
         write!(text, ", span until 60{status}")?;
     }
     Ok(text)
+}
+
+// Runs work under a span of a transaction that leaves another hub current.
+fn leave_another_hub<L: CoreLock>(thread: &mut Thread<L>) -> Result<(), Refusal> {
+    let other = Hub::new_from_top(&thread.main)?;
+    let same = other.clone()?;
+    let context = transaction_context(thread, "order", "http")?;
+    in_transaction(
+        thread,
+        context,
+        |thread, transaction| -> Result<(), Refusal> {
+            in_span(
+                thread,
+                transaction,
+                "db",
+                "",
+                |thread, _span| -> Result<(), Refusal> {
+                    thread.current = other;
+                    Ok(())
+                },
+            )
+        },
+    )?;
+    same.release(thread)
+}
+
+#[test]
+fn work_may_leave_another_hub_current(rt: HostRuntime) -> Result<(), Fail> {
+    let mut bench = Bench::new(rt, rt.alloc())?;
+    leave_another_hub(&mut bench.thread)?;
+    let left = look(&mut bench.thread)?;
+    assert_eq!(rt; left, nothing_left(rt.alloc())?);
+    Ok(())
 }
 
 #[test]

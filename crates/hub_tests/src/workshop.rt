@@ -34,7 +34,7 @@ pub(crate) fn new_sink(alloc: Global) -> Result<Sink, AllocError> {
 }
 
 impl Collector {
-    /// The envelopes so far, which are then forgotten. No other thread sends any.
+    /// The envelopes so far, which are then forgotten. None while another thread sends one.
     pub(crate) fn take(&self, alloc: Global) -> Vec<Envelope> {
         match self.kept.try_lock() {
             Some(mut kept) => {

@@ -34,7 +34,7 @@ fn start_worker<R: Threads + Wait + Copy + Send + 'static, K: TickClock + Drop +
 }
 
 /// The client of a program, which is closed when this is dropped: what waits is sent then. A worker that ticks the client
-/// is stopped before, and its thread has ended then.
+/// is stopped before, and its thread has ended then. Whether all was sent, and what is refused, only `close` tells.
 pub struct ClientInitGuard {
     client: Client,
     ticker: Option<Ticker>,
@@ -47,7 +47,7 @@ impl ClientInitGuard {
     }
 
     /// Starts a worker that ticks the client at the moments of a clock, until the guard is closed or dropped. `joiner`
-    /// waits for its thread then. A guard that has a worker stops that one first.
+    /// waits for its thread then. If the guard has a worker, that one is stopped once the new one has started.
     ///
     /// `OutOfMemory`, also where the system has no thread: then the client is closed.
     pub fn ticked<R: Threads + Wait + Copy + Send + 'static, K: TickClock + Drop + Send + 'static>(

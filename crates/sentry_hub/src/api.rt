@@ -1,5 +1,5 @@
-//! Functions on the current hub of a thread. They act only if that hub is active: its client is enabled. Moments, ids and
-//! draws are the thread's, and are asked for only then.
+//! Functions on the current hub of a thread. Most act only if that hub is active: its client is enabled. Moments, ids
+//! and draws are the thread's, and are asked for only then, but by sessions and transactions at once.
 //!
 //! Most hold the lock of the core once, in which they look whether the hub is active and make the call. Meanwhile the clock
 //! and the generator of the thread are asked, and breadcrumbs are made: none of these may make a call on the core, which
@@ -9,7 +9,7 @@ ghost use Rattle.std.specs.Iterator.{IsFiniteIterable};
 
 use crate::breadcrumbs::IntoBreadcrumbs;
 use crate::errors::IntoErrorLinks;
-use crate::hub::{Hub, WithScopeError};
+use crate::hub::{Hub, WithScopeError, refuse_scope};
 use crate::performance::Transaction;
 use rand_core::Rng;
 use sentry_base::callbacks::{BreadcrumbCallback, EventCallback, LogCallback, MetricCallback};
@@ -41,15 +41,6 @@ fn enter<L: CoreLock>(hub: &Hub<L>) -> Result<Entered<L>, Refusal>
     let same = hub.clone()?;
     let layer = hub.push_active()?;
     Ok(Entered { layer, same })
-}
-
-// A refusal before anything was done.
-fn refuse<A>(refusal: Refusal) -> WithScopeError<A> {
-    WithScopeError {
-        refusal,
-        answer: None,
-        guard: None,
-    }
 }
 
 // A hub with one layer that has no client, on the core of another one.
@@ -264,7 +255,7 @@ pub fn with_scope<
 {
     let entered = match enter(&thread.current) {
         Ok(entered) => entered,
-        Err(refusal) => return Err(refuse(refusal)),
+        Err(refusal) => return Err(refuse_scope(refusal, None, None)),
     };
     let Entered { layer, same } = entered;
     let Some((guard, scope)) = layer else {
@@ -282,7 +273,7 @@ pub fn with_scope<
 /// Lends the closure the first integration of this name that the client of the current hub has, and the hub. Without
 /// such an integration the closure does not run, and the answer is the default of its type. It runs without the lock.
 ///
-/// `Stale`: the hub isn't held. `OutOfMemory`.
+/// `Stale`: the hub isn't held, or its client isn't. `OutOfMemory`.
 pub fn with_integration<L, E, I, B, W, M, S, K, G, A, F>(
     thread: &ThreadHub<Hub<L>, K, G>,
     name: &str,
@@ -313,7 +304,7 @@ where
 /// The id of the last event that was captured on the current hub, be it active or not: the nil id if that was not sent,
 /// `None` if there was none.
 ///
-/// `Stale`: the hub isn't held. `OutOfMemory`.
+/// `Stale`: the hub isn't held.
 pub fn last_event_id<L: CoreLock, K, G>(
     thread: &ThreadHub<Hub<L>, K, G>,
 ) -> Result<Option<Uuid>, Refusal> {

@@ -8,6 +8,7 @@ mod scopes;
 mod threads;
 
 pub use scopes::{PopScopeError, WithScopeError};
+pub(crate) use scopes::refuse_scope;
 use sentry_base::protocol::{HubKey, Refusal};
 use sentry_lock::client::Client;
 use sentry_lock::core_lock::CoreLock;

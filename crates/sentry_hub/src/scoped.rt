@@ -1,6 +1,7 @@
-//! Work that is run in a scope, on a hub or under a span, which ends after it whatever it answers. Its error is the answer,
-//! or else what is refused at the end.
-ghost use Rattle.std.specs.Prelude.{◌≡◌};
+//! Work that is run in a scope, on a hub or under a span, which ends after it whatever it answers. Its error is the
+//! answer, or else what is refused at the end.
+ghost use Rattle.std.specs.Prelude.{◌≡◌, ◌∷◌, [], Ok, Err, IfOk, IfErr, OnOk, tt};
+ghost use Rattle.sentry_scope.specs.declared.scope.edit.ScopeEdit.TheVariants.{SetSpan};
 
 use crate::api::{start_transaction, with_scope};
 use crate::hub::Hub;
@@ -22,7 +23,10 @@ use std::alloc::{AllocError, Global};
 fn settle<A: Drop, E: From<Refusal> + Drop>(
     answer: Result<A, E>,
     ended: Result<(), Refusal>,
-) -> Result<A, E> {
+) -> Result<A, E>
+    ensures both { IfOk result (λ same. (answer ≡ Ok same) × (ended ≡ Ok tt)) }
+    ensures failed { IfErr answer (λ error. result ≡ Err error) }
+{
     let answer = answer?;
     match ended {
         Ok(()) => Ok(answer),
@@ -31,7 +35,10 @@ fn settle<A: Drop, E: From<Refusal> + Drop>(
 }
 
 // The first refusal.
-fn first(one: Result<(), Refusal>, other: Result<(), Refusal>) -> Result<(), Refusal> {
+fn first(one: Result<(), Refusal>, other: Result<(), Refusal>) -> Result<(), Refusal>
+    ensures both { OnOk result ((one ≡ Ok tt) × (other ≡ Ok tt)) }
+    ensures earlier { IfErr one (λ refusal. result ≡ Err refusal) }
+{
     match one {
         Ok(()) => other,
         Err(refusal) => Err(refusal),
@@ -39,6 +46,8 @@ fn first(one: Result<(), Refusal>, other: Result<(), Refusal>) -> Result<(), Ref
 }
 
 /// Runs the work as `with_scope` does.
+///
+/// The error of the work, or else what is refused: as of `with_scope`.
 pub fn in_scope<
     L: CoreLock,
     K: Clock + Drop,
@@ -75,7 +84,10 @@ fn make_hub<L: CoreLock, K, G>(
 }
 
 /// Runs the work while a new hub is the current one, which is made from the top of the main hub and is given back after
-/// it. If the work leaves layers on it, that is refused: `ScopesOpen`.
+/// it.
+///
+/// The error of the work, or else what is refused: `ScopesOpen`, if the work leaves layers on the new hub, `Stale`, if the
+/// main hub isn't held or the new one no longer is, `Full`, if the numbers are used up, `OutOfMemory`.
 pub fn in_new_hub<
     L: CoreLock,
     K: Clock + Drop,
@@ -98,7 +110,9 @@ pub fn in_new_hub<
 fn list_span<P: Drop>(
     alloc: Global,
     span: Option<TransactionOrSpanKey>,
-) -> Result<Vec<ScopeEdit<P>>, AllocError> {
+) -> Result<Vec<ScopeEdit<P>>, AllocError>
+    ensures { IfOk result (λ edits. edits.items ≡ SetSpan span ∷ []) }
+{
     let mut edits = Vec::new(alloc);
     edits.push(ScopeEdit::SetSpan(span))?;
     Ok(edits)
@@ -220,7 +234,9 @@ fn leave<L: CoreLock, N: HandleKey, K: Clock, G>(
     span: &Handle<L, N>,
     before: Option<TransactionOrSpanKey>,
     has_failed: bool,
-) -> Result<(), Refusal> {
+) -> Result<(), Refusal>
+    ensures { thread.new.current ≡ thread.old.current }
+{
     let moment = thread.clock.now();
     let hub = &thread.current;
     let noted = note_failed(span, has_failed);
@@ -231,10 +247,12 @@ fn leave<L: CoreLock, N: HandleKey, K: Clock, G>(
 
 /// Runs the work under a transaction, which is active on the current hub until it is finished and forgotten after the
 /// work. If the work answers an error, and has set no status, the transaction is finished with the status
-/// `InternalError`. Afterwards what was active before is active again, if it is still held.
+/// `InternalError`. Afterwards what was active before is active again, if it is still held. What can't be finished, for
+/// want of memory, is forgotten unsent, and no report counts it.
 ///
 /// The error of the work, or else what is refused: `StillNamed`, if the work leaves a layer that names the transaction, or
-/// holds a span of it.
+/// holds a span of it, `Stale`, if the hub isn't held, `Full`, if the numbers are used up, `OutOfMemory`. The work doesn't
+/// run where the transaction can't be started and made the active one.
 pub fn in_transaction<
     L: CoreLock,
     K: Clock + Drop,
@@ -249,14 +267,15 @@ pub fn in_transaction<
     let Active { hub, span, before } = enter_transaction(thread, context)?;
     let mut guard = HubSwitchGuard::new(thread, hub);
     let answer = work(guard.thread_hub(), &span);
-    let ended = leave(guard.thread_hub(), &span, before, answer.is_err());
+    drop(guard);
+    let ended = leave(thread, &span, before, answer.is_err());
     settle(answer, ended)
 }
 
 /// Runs the work under a child of a transaction or span, as `in_transaction` does under a transaction.
 ///
-/// The error of the work, or else what is refused: `Stale`, if there is no parent, `StillNamed`, if the work leaves a layer
-/// that names the span.
+/// The error of the work, or else what is refused: `Stale`, if there is no parent, or it or the hub isn't held,
+/// `StillNamed`, if the work leaves a layer that names the span, `Full`, if the numbers are used up, `OutOfMemory`.
 pub fn in_span<
     L: CoreLock,
     K: Clock + Drop,
@@ -279,6 +298,7 @@ pub fn in_span<
     let Active { hub, span, before } = enter_span(thread, parent, op, description)?;
     let mut guard = HubSwitchGuard::new(thread, hub);
     let answer = work(guard.thread_hub(), &span);
-    let ended = leave(guard.thread_hub(), &span, before, answer.is_err());
+    drop(guard);
+    let ended = leave(thread, &span, before, answer.is_err());
     settle(answer, ended)
 }

@@ -1,5 +1,6 @@
 //! A sink of the crate `log` that tells the current hub of a thread what is logged.
 ghost use Rattle.std.specs.Prelude.{◌≡◌};
+ghost use Rattle.sentry_log.specs.Filters.{default_levels};
 
 use crate::filter::{Levels, LogFilter, RecordFilter};
 use crate::mapping::{RecordMapping, level_of, map_record};
@@ -27,16 +28,20 @@ pub struct SentryLogger<L, K, G, F> {
 }
 
 impl<L: CoreLock, K, G> SentryLogger<L, K, G, Levels> {
-    /// A sink for this thread, with the filter `Levels::new()`. Its hubs may be those of another `ThreadHub`, of which they are
-    /// clones: then what is logged goes to the hubs that the program uses.
-    pub fn new(thread: ThreadHub<Hub<L>, K, G>) -> SentryLogger<L, K, G, Levels> {
+    /// A sink for this thread, with the filter `Levels::new()`. Its hubs may be those of another `ThreadHub`, of which
+    /// they are clones: then what is logged goes to the hubs that the program uses.
+    pub fn new(thread: ThreadHub<Hub<L>, K, G>) -> SentryLogger<L, K, G, Levels>
+        ensures { result.filter ≡ default_levels }
+    {
         SentryLogger::with_filter(thread, Levels::new())
     }
 }
 
 impl<L: CoreLock, K, G, F: RecordFilter> SentryLogger<L, K, G, F> {
     /// The same with a filter.
-    pub fn with_filter(thread: ThreadHub<Hub<L>, K, G>, filter: F) -> SentryLogger<L, K, G, F> {
+    pub fn with_filter(thread: ThreadHub<Hub<L>, K, G>, filter: F) -> SentryLogger<L, K, G, F>
+        ensures { result.filter ≡ filter }
+    {
         SentryLogger {
             thread: RefCell::new(thread),
             filter,
@@ -67,6 +72,7 @@ impl<L: CoreLock, K: Clock + Drop, G: Rng + Drop, F: RecordFilter> Log
         }
     }
 
+    // Nothing waits here: what the client holds back is sent by its own `flush`.
     fn flush(&self) {}
 
     fn target(&self) -> &str {

@@ -113,7 +113,8 @@ impl<H, K: Clock, G: Rng> ThreadHub<H, K, G> {
         fresh_of(&mut self.clock, &mut self.generator)
     }
 
-    /// The moment and a version 4 UUID, for a call that needs no other value: the generator draws the UUID alone.
+    /// The moment and a version 4 UUID, for a call that needs no other value: the generator draws the UUID alone. The
+    /// ids of a trace and of a span are zeros, and so is the draw.
     pub fn fresh_uuid(&mut self) -> Fresh
         ensures drawn { (result.uuid, G.stream self.new.generator) ≡ v4_of_fill (fill_bytes 16 (G.stream self.old.generator)) }
         ensures main { self.new.main ≡ self.old.main }

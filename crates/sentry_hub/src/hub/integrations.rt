@@ -1,4 +1,6 @@
 //! The integrations of the client of a hub.
+ghost use Rattle.std.specs.Prelude.{◌≡◌, IfSome};
+
 use crate::hub::Hub;
 use sentry_base::callbacks::{BreadcrumbCallback, EventCallback, LogCallback, MetricCallback};
 use sentry_base::protocol::Refusal;
@@ -12,7 +14,9 @@ use sentry_plain::Shared;
 fn find_integration<'a, I: Integration>(
     integrations: &'a [Shared<I>],
     name: &str,
-) -> Option<&'a Shared<I>> {
+) -> Option<&'a Shared<I>>
+    ensures { IfSome result (λ found. (I.meaning found.now).name ≡ name.now) }
+{
     for integration in integrations {
         if integration.get().name() == name {
             return Some(integration);

@@ -1,5 +1,5 @@
 //! The layers of a hub, and the scope of the top one.
-ghost use Rattle.std.specs.Prelude.{◌≡◌, IfOk};
+ghost use Rattle.std.specs.Prelude.{◌≡◌, None, IfOk};
 
 use crate::hub::Hub;
 use sentry_base::protocol::Refusal;
@@ -230,7 +230,9 @@ impl<L: CoreLock> Hub<L> {
     }
 
     // Removes a layer whose scope was not configured.
-    fn leave_refused<A>(&self, guard: ScopeGuard, refusal: Refusal, now: u64) -> WithScopeError<A> {
+    fn leave_refused<A>(&self, guard: ScopeGuard, refusal: Refusal, now: u64) -> WithScopeError<A>
+        ensures { (result.refusal ≡ refusal) × (result.answer ≡ None) }
+    {
         match self.core.pop_scope(guard, now) {
             Ok(()) => refuse_scope(refusal, None, None),
             Err((_, guard)) => refuse_scope(refusal, None, Some(guard)),
@@ -275,7 +277,8 @@ impl<L: CoreLock> Hub<L> {
     }
 }
 
-fn refuse_scope<A>(
+// Why `with_scope` is refused.
+pub(crate) fn refuse_scope<A>(
     refusal: Refusal,
     answer: Option<A>,
     guard: Option<ScopeGuard>,
