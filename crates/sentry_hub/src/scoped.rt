@@ -1,6 +1,6 @@
 //! Work that is run in a scope, on a hub or under a span, which ends after it whatever it answers. Its error is the
 //! answer, or else what is refused at the end.
-ghost use Rattle.std.specs.Prelude.{◌≡◌, ◌∷◌, [], Ok, Err, IfOk, IfErr, OnOk, tt};
+ghost use Rattle.std.specs.Prelude.{◌≡◌, ◌∷◌, [], Ok, Err, IfOk, IfErr, OnOk};
 ghost use Rattle.sentry_scope.specs.declared.scope.edit.ScopeEdit.TheVariants.{SetSpan};
 
 use crate::api::{start_transaction, with_scope};
