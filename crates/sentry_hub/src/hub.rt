@@ -7,8 +7,8 @@ mod integrations;
 mod scopes;
 mod threads;
 
-pub use scopes::{PopScopeError, WithScopeError};
 pub(crate) use scopes::refuse_scope;
+pub use scopes::{PopScopeError, WithScopeError};
 use sentry_base::protocol::{HubKey, Refusal};
 use sentry_lock::client::Client;
 use sentry_lock::core_lock::CoreLock;
