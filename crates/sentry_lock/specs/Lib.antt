@@ -1,3 +1,4 @@
 pub mod ValueCalls
 pub mod Words
+pub mod Setups
 pub mod Locked

@@ -1,6 +1,5 @@
 //! A client: its key, and a share of the core that holds it.
 ghost use Rattle.std.specs.Prelude.{◌≡◌, IfOk, Ok, nat_lt};
-ghost use Rattle.std.specs.Option.{is_some};
 ghost use Rattle.sentry_base.specs.Losses.{no_losses};
 
 mod setup;
@@ -19,10 +18,11 @@ use sentry_scope::scope::Scope;
 use sentry_texts::dsn::Dsn;
 pub use setup::ClientSetup;
 use std::alloc::{AllocError, Global};
+use std::marker::Model;
 
 // A share of a transport, which calls are made on without the lock.
 fn share_of<T: Drop>(alloc: Global, transport: Option<T>) -> Result<Option<Shared<T>>, AllocError>
-    ensures { IfOk result (λ share. is_some share ≡ is_some transport) }
+    ensures { IfOk result (λ share. share ≡ transport) }
 {
     match transport {
         None => Ok(None),
@@ -51,7 +51,7 @@ fn add_client<L: CoreLock>(
 }
 
 /// A client, by its key and a share of the core that holds it. A clone of the value is the same client; `clone_client`
-/// makes another one.
+/// makes another one. Contracts see the key.
 pub struct Client<L> {
     core: SharedCore<L>,
     key: ClientKey,
@@ -63,7 +63,17 @@ impl<L: Drop> Drop for Client<L> {
     }
 }
 
+impl<L> Model for Client<L> {
+    ghost use Rattle.sentry_base.specs.declared.protocol.keys.ClientKey.{ClientKey};
+
+    ghost Value = { ClientKey };
+
+    ghost view = { λ client. client.key };
+}
+
 impl<L: Drop> Clone for Client<L> {
+    ghost is_clone = { λ old new. new ≡ old };
+
     fn clone(&self) -> Result<Client<L>, AllocError> {
         Ok(Client {
             core: self.core.clone()?,
@@ -74,7 +84,9 @@ impl<L: Drop> Clone for Client<L> {
 
 impl<L: CoreLock> Client<L> {
     // The client of a key.
-    pub(crate) fn of_key(core: &SharedCore<L>, key: ClientKey) -> Result<Client<L>, AllocError> {
+    pub(crate) fn of_key(core: &SharedCore<L>, key: ClientKey) -> Result<Client<L>, AllocError>
+        ensures { IfOk result (λ client. client ≡ key) }
+    {
         Ok(Client {
             core: core.clone()?,
             key,
@@ -117,7 +129,9 @@ impl<L: CoreLock> Client<L> {
     }
 
     /// The key of the client.
-    pub fn key(&self) -> ClientKey {
+    pub fn key(&self) -> ClientKey
+        ensures { result ≡ self.now }
+    {
         self.key
     }
 

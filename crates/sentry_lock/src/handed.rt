@@ -1,4 +1,5 @@
 //! Envelopes on their way from the lock to the transports.
+ghost use Rattle.std.specs.Prelude.{◌≡◌};
 
 use sentry_base::protocol::{ClientKey, Envelope};
 use sentry_engine::engine::{Out, Sent};
@@ -60,7 +61,9 @@ pub(crate) struct Handed<A, T> {
 
 impl<A: Drop, T: Transport + Drop> Handed<A, T> {
     /// Hands the envelopes to their transports. It takes no lock.
-    pub(crate) fn deliver(self) -> A {
+    pub(crate) fn deliver(self) -> A
+        ensures { result ≡ self.out.reply }
+    {
         let Handed { out, transports } = self;
         let Out { reply, sent } = out;
         let Some(transports) = transports else {

@@ -1,7 +1,8 @@
 //! The lock, and the calls that take it.
-ghost use Rattle.std.specs.Prelude.{◌≡◌, ◌+◌, ◌≤◌, true, length, vec_len};
+ghost use Rattle.std.specs.Prelude.{◌≡◌, ◌+◌, ◌≤◌, IfOk, true, length, vec_len};
 ghost use Rattle.std.specs.List.{list_all};
 ghost use Rattle.std.specs.Vec.{vec_capacity};
+ghost use Rattle.sentry_lock.specs.Setups.{IsRecorderOf};
 ghost use Rattle.sentry_lock.specs.ValueCalls.{is_ordinary_call};
 
 use crate::client::{Client, ClientSetup};
@@ -94,7 +95,10 @@ impl<L: CoreLock> SharedCore<L> {
     pub fn client_setup(
         &self,
         options: ClientOptions<L::Callbacks>,
-    ) -> Result<ClientSetup<L, L::Callbacks>, Refusal> {
+    ) -> Result<ClientSetup<L, L::Callbacks>, Refusal>
+        ensures options { IfOk result (λ setup. setup.options ≡ options) }
+        ensures recorder { IfOk result (λ setup. IsRecorderOf setup.recorder setup.drainer) }
+    {
         let share = self.clone()?;
         let label = self.lock().under.core.take_label()?;
         ClientSetup::new(share, self.alloc, options, label)
@@ -103,7 +107,9 @@ impl<L: CoreLock> SharedCore<L> {
     /// The client of a key, which need not be held.
     ///
     /// An allocation may fail.
-    pub fn client(&self, key: ClientKey) -> Result<Client<L>, AllocError> {
+    pub fn client(&self, key: ClientKey) -> Result<Client<L>, AllocError>
+        ensures { IfOk result (λ client. client ≡ key) }
+    {
         Client::of_key(self, key)
     }
 

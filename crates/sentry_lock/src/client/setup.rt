@@ -1,7 +1,9 @@
 //! What a client is made of.
 
-ghost use Rattle.std.specs.Prelude.{◌≡◌};
+ghost use Rattle.std.specs.Prelude.{◌≡◌, None, IfOk, IfErr, MatchOption};
 ghost use Rattle.sentry_base.specs.Losses.{no_losses};
+ghost use Rattle.sentry_base.specs.declared.protocol.refusal.Refusal.TheVariants.{OutOfMemory};
+ghost use Rattle.sentry_lock.specs.Setups.{IsRecorderOf, options_with};
 
 use crate::shared_core::SharedCore;
 use sentry_base::protocol::{Label, Refusal};
@@ -30,7 +32,12 @@ impl<L: Drop, C: Drop> ClientSetup<L, C> {
         alloc: Global,
         options: ClientOptions<C>,
         label: Label,
-    ) -> Result<ClientSetup<L, C>, Refusal> {
+    ) -> Result<ClientSetup<L, C>, Refusal>
+        ensures options { IfOk result (λ setup. setup.options ≡ options) }
+        ensures label { IfOk result (λ setup. setup.label ≡ label) }
+        ensures recorder { IfOk result (λ setup. IsRecorderOf setup.recorder setup.drainer) }
+        ensures refused { IfErr result (λ refusal. refusal ≡ OutOfMemory) }
+    {
         let (recorder, drainer) = LossWords::new(alloc, label)?;
         Ok(ClientSetup {
             core,
@@ -42,7 +49,9 @@ impl<L: Drop, C: Drop> ClientSetup<L, C> {
     }
 
     /// The label that the client's losses are counted under.
-    pub fn label(&self) -> Label {
+    pub fn label(&self) -> Label
+        ensures { result ≡ self.now.label }
+    {
         self.label
     }
 
@@ -50,7 +59,16 @@ impl<L: Drop, C: Drop> ClientSetup<L, C> {
     /// second time.
     ///
     /// `OutOfMemory`: they can be asked for again.
-    pub fn transport_options(&mut self) -> Result<Option<TransportOptions>, Refusal> {
+    pub fn transport_options(&mut self) -> Result<Option<TransportOptions>, Refusal>
+        ensures made { IfOk result (λ made. made ≡ options_with self.old.recorder self.old.options) }
+        ensures left { IfOk result (λ made.
+            MatchOption made (self.new.recorder ≡ self.old.recorder) (λ _. self.new.recorder ≡ None)) }
+        ensures refused { IfErr result (λ refusal. (refusal ≡ OutOfMemory)
+            × (self.new.recorder ≡ self.old.recorder)) }
+        ensures options { self.new.options ≡ self.old.options }
+        ensures label { self.new.label ≡ self.old.label }
+        ensures drainer { self.new.drainer ≡ self.old.drainer }
+    {
         if self.recorder.is_none() {
             return Ok(None);
         }
