@@ -55,6 +55,7 @@ impl<P: EventCallback + Drop, C: Callbacks, T: Drop> Core<P, C, T> {
             × IsHeld false label self.old.engine
             × (self.new.engine ≡ self.old.engine) × (self.new.drainers ≡ self.old.drainers)) }
         ensures tag { self.new.tag ≡ self.old.tag }
+        ensures labels { self.new.next_label ≡ self.old.next_label }
     {
         if !self.engine.has_book(label) {
             return Err(Refusal::ForeignLosses);
@@ -144,6 +145,8 @@ impl<P: EventCallback + Drop, C: Callbacks, T: Drop> Core<P, C, T> {
             × Does self.old.engine self.new.engine (Ok (record { reply = report; sent = sent })) (take_report label)) }
         ensures refused { IfErr result (λ refusal. Does self.old.engine self.new.engine (Err refusal) (take_report label)) }
         ensures drainers { self.new.drainers ≡ self.old.drainers }
+        ensures tag { self.new.tag ≡ self.old.tag }
+        ensures labels { self.new.next_label ≡ self.old.next_label }
     {
         let out = self.engine.take_report(label)?;
         Ok(out.reply)
@@ -163,6 +166,8 @@ impl<P: EventCallback + Drop, C: Callbacks, T: Drop> Core<P, C, T> {
         ensures refused { IfErr result (λ refusal. (refusal ≡ Refusal.ForeignLosses)
             × IsHeld false label self.old.engine
             × (self.new.engine ≡ self.old.engine) × (self.new.drainers ≡ self.old.drainers)) }
+        ensures tag { self.new.tag ≡ self.old.tag }
+        ensures labels { self.new.next_label ≡ self.old.next_label }
     {
         if !self.engine.has_book(label) {
             return Err(Refusal::ForeignLosses);
