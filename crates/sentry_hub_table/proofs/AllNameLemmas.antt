@@ -4,13 +4,13 @@ use Rattle.std.specs.Prelude.{Some, None}
 use Rattle.sentry_plain.specs.Tables.{value_at, replace_at, put, without}
 use Rattle.sentry_scope.specs.Stacks.{push, pop, depth}
 use Rattle.sentry_hub_table.specs.Names.{client_of, session_of, transaction_of, span_of, layer_names, all_layers, CountsNames, HasNames, HasRoom, HasRoomFor, KeepsNames, RaisesNames, LowersNames, HasAllLayers, LowersLayers}
-use Rattle.sentry_hub_table.specs.declared.hub.Hub.{Hub}
+use Rattle.sentry_hub_table.specs.declared.hub.HubState.{HubState}
 use Rattle.sentry_hub_table.specs.declared.names.Names.{Names}
 use Rattle.sentry_hub_table.proofs.NameLemmas.{has_name, has_room_for, has_layers, kept_name, kept_counts, grown, shrunk, with_hub, without_hub, without_none}
 
-module _ {P : Type 0} (hubs : List (ℕ × Hub P)) (number : ℕ) where
+module _ {P : Type 0} (hubs : List (ℕ × HubState P)) (number : ℕ) where
   -- a hub is replaced that names the same
-  pub all_kept : (hub after : Hub P) → value_at hubs number ≡ Some hub → after.stack.below ≡ hub.stack.below
+  pub all_kept : (hub after : HubState P) → value_at hubs number ≡ Some hub → after.stack.below ≡ hub.stack.below
       → layer_names after.stack.top ≡ layer_names hub.stack.top
       → (names : Names) → CountsNames names hubs → CountsNames names (replace_at hubs number after)
   all_kept hub after h below top names counts = record {
@@ -30,7 +30,7 @@ module _ {P : Type 0} (hubs : List (ℕ × Hub P)) (number : ℕ) where
   }
 
   -- what the top layer of a hub names is counted
-  pub all_named : (hub : Hub P) → value_at hubs number ≡ Some hub → (names : Names) → CountsNames names hubs
+  pub all_named : (hub : HubState P) → value_at hubs number ≡ Some hub → (names : Names) → CountsNames names hubs
       → HasNames names (layer_names hub.stack.top)
   all_named hub h names counts = record {
     clients = has_name client_of hubs number hub h names.clients counts.clients;
@@ -49,7 +49,7 @@ module _ {P : Type 0} (hubs : List (ℕ × Hub P)) (number : ℕ) where
   }
 
   -- a layer comes
-  pub all_grown : (hub after : Hub P) → value_at hubs number ≡ Some hub → after.stack ≡ push hub.stack
+  pub all_grown : (hub after : HubState P) → value_at hubs number ≡ Some hub → after.stack ≡ push hub.stack
       → (old new : Names) → CountsNames old hubs → HasRoomFor old (all_layers hubs + 1) → RaisesNames old new (layer_names hub.stack.top)
       → CountsNames new (replace_at hubs number after)
   all_grown hub after h pushed old new counts room raises = record {
@@ -60,7 +60,7 @@ module _ {P : Type 0} (hubs : List (ℕ × Hub P)) (number : ℕ) where
   }
 
   -- a layer goes
-  pub all_shrunk : (hub after : Hub P) → value_at hubs number ≡ Some hub → 0 < depth hub.stack → after.stack ≡ pop hub.stack
+  pub all_shrunk : (hub after : HubState P) → value_at hubs number ≡ Some hub → 0 < depth hub.stack → after.stack ≡ pop hub.stack
       → (old new : Names) → CountsNames old hubs → LowersNames old new (layer_names hub.stack.top)
       → CountsNames new (replace_at hubs number after)
   all_shrunk hub after h some popped old new counts lowers = record {
@@ -71,7 +71,7 @@ module _ {P : Type 0} (hubs : List (ℕ × Hub P)) (number : ℕ) where
   }
 
   -- a hub of one layer comes
-  pub all_come : (hub : Hub P) → value_at hubs number ≡ None → length hub.stack.below ≡ 0
+  pub all_come : (hub : HubState P) → value_at hubs number ≡ None → length hub.stack.below ≡ 0
       → (old new : Names) → CountsNames old hubs → HasRoomFor old (all_layers hubs + 1) → RaisesNames old new (layer_names hub.stack.top)
       → CountsNames new (put hubs number hub)
   all_come hub h one old new counts room raises = record {
@@ -82,7 +82,7 @@ module _ {P : Type 0} (hubs : List (ℕ × Hub P)) (number : ℕ) where
   }
 
   -- the layers below the top are counted, once the top is not
-  pub all_below : (hub : Hub P) → value_at hubs number ≡ Some hub → (old lowered : Names) → CountsNames old hubs
+  pub all_below : (hub : HubState P) → value_at hubs number ≡ Some hub → (old lowered : Names) → CountsNames old hubs
       → LowersNames old lowered (layer_names hub.stack.top) → HasAllLayers lowered hub.stack.below
   all_below hub h old lowered counts lowers = record {
     clients = has_layers client_of hubs number hub h old.clients lowered.clients counts.clients lowers.clients;
@@ -92,7 +92,7 @@ module _ {P : Type 0} (hubs : List (ℕ × Hub P)) (number : ℕ) where
   }
 
   -- a hub goes
-  pub all_gone : (hub : Hub P) → value_at hubs number ≡ Some hub → (old lowered new : Names) → CountsNames old hubs
+  pub all_gone : (hub : HubState P) → value_at hubs number ≡ Some hub → (old lowered new : Names) → CountsNames old hubs
       → LowersNames old lowered (layer_names hub.stack.top) → LowersLayers lowered new hub.stack.below
       → CountsNames new (without hubs number)
   all_gone hub h old lowered new counts lowers below = record {

@@ -20,7 +20,7 @@ use Rattle.sentry_scope.specs.declared.scope.stack.StackLayer.{StackLayer}
 use Rattle.sentry_hub_table.specs.Hubs.{is_transaction, is_span}
 use Rattle.sentry_hub_table.specs.Tallies.{one_if, is_named, tally_at, tally_total, Keeps, Raises, Lowers}
 use Rattle.sentry_hub_table.specs.Names.{client_name, session_name, transaction_name, span_name, layers_passing, height, over_hubs, all_layers_passing, all_layers, Counts, LowersBy, HasLayers, HasName}
-use Rattle.sentry_hub_table.specs.declared.hub.Hub.{Hub}
+use Rattle.sentry_hub_table.specs.declared.hub.HubState.{HubState}
 use Rattle.sentry_hub_table.specs.declared.tally.Key.{Key}
 use Rattle.sentry_hub_table.specs.declared.tally.Tally.{Tally}
 use Rattle.sentry_hub_table.proofs.TallyLemmas.{key_itself, sum_put, sum_without, sum_without_none, weighs_at_most}
@@ -86,43 +86,43 @@ module _ {P : Type 0} where
       omega arith
 
   -- a hub is replaced
-  replaced : (weigh : Stack P → ℕ) (hubs : List (ℕ × Hub P)) (number : ℕ) (hub after : Hub P)
+  replaced : (weigh : Stack P → ℕ) (hubs : List (ℕ × HubState P)) (number : ℕ) (hub after : HubState P)
       → value_at hubs number ≡ Some hub
       → over_hubs weigh (replace_at hubs number after) + weigh hub.stack ≡ over_hubs weigh hubs + weigh after.stack
   replaced weigh hubs number hub after h =
-      sum_by-set_value (λ (h : Hub P). weigh h.stack) (is_at (nat_cmp number)) hubs hub after h
+      sum_by-set_value (λ (h : HubState P). weigh h.stack) (is_at (nat_cmp number)) hubs hub after h
 
-  gone : (weigh : Stack P → ℕ) (hubs : List (ℕ × Hub P)) (number : ℕ) (hub : Hub P) → value_at hubs number ≡ Some hub
+  gone : (weigh : Stack P → ℕ) (hubs : List (ℕ × HubState P)) (number : ℕ) (hub : HubState P) → value_at hubs number ≡ Some hub
       → over_hubs weigh (without hubs number) + weigh hub.stack ≡ over_hubs weigh hubs
-  gone weigh hubs number hub h = sum_without (λ (h : Hub P). weigh h.stack) hubs number hub h
+  gone weigh hubs number hub h = sum_without (λ (h : HubState P). weigh h.stack) hubs number hub h
 
-  none_gone : (weigh : Stack P → ℕ) (hubs : List (ℕ × Hub P)) (number : ℕ) → value_at hubs number ≡ None
+  none_gone : (weigh : Stack P → ℕ) (hubs : List (ℕ × HubState P)) (number : ℕ) → value_at hubs number ≡ None
       → over_hubs weigh (without hubs number) ≡ over_hubs weigh hubs
-  none_gone weigh hubs number h = sum_without_none (λ (h : Hub P). weigh h.stack) hubs number h
+  none_gone weigh hubs number h = sum_without_none (λ (h : HubState P). weigh h.stack) hubs number h
 
-  come : (weigh : Stack P → ℕ) (hubs : List (ℕ × Hub P)) (number : ℕ) (hub : Hub P) → value_at hubs number ≡ None
+  come : (weigh : Stack P → ℕ) (hubs : List (ℕ × HubState P)) (number : ℕ) (hub : HubState P) → value_at hubs number ≡ None
       → over_hubs weigh (put hubs number hub) ≡ over_hubs weigh hubs + weigh hub.stack
-  come weigh hubs number hub h = sum_put (λ (h : Hub P). weigh h.stack) hubs number hub h
+  come weigh hubs number hub h = sum_put (λ (h : HubState P). weigh h.stack) hubs number hub h
 
   -- a hub is part of all
-  part : (weigh : Stack P → ℕ) (hubs : List (ℕ × Hub P)) (number : ℕ) (hub : Hub P) → value_at hubs number ≡ Some hub
+  part : (weigh : Stack P → ℕ) (hubs : List (ℕ × HubState P)) (number : ℕ) (hub : HubState P) → value_at hubs number ≡ Some hub
       → weigh hub.stack ≤ over_hubs weigh hubs
-  part weigh hubs number hub h = weighs_at_most (λ (h : Hub P). weigh h.stack) hubs number hub h
+  part weigh hubs number hub h = weighs_at_most (λ (h : HubState P). weigh h.stack) hubs number hub h
 
   -- a hub has no more layers than all
-  pub height_at_most : (hubs : List (ℕ × Hub P)) (number : ℕ) (hub : Hub P) → value_at hubs number ≡ Some hub
+  pub height_at_most : (hubs : List (ℕ × HubState P)) (number : ℕ) (hub : HubState P) → value_at hubs number ≡ Some hub
       → height hub.stack ≤ all_layers hubs
   height_at_most hubs number hub h = part height hubs number hub h
 
   -- a layer that passes no test leaves room
-  room_at : (test : StackLayer P → Bool) (hubs : List (ℕ × Hub P)) (number : ℕ) (hub : Hub P) → value_at hubs number ≡ Some hub
+  room_at : (test : StackLayer P → Bool) (hubs : List (ℕ × HubState P)) (number : ℕ) (hub : HubState P) → value_at hubs number ≡ Some hub
       → all_layers_passing test hubs + 1 ≤ all_layers hubs + one_if (test hub.stack.top)
   room_at test hubs number hub h =
       let passing = gone (layers_passing test) hubs number hub h in
       let all = gone height hubs number hub h in
       let others : over_hubs (layers_passing test) (without hubs number) ≤ over_hubs height (without hubs number) =
-      sum_by_at_most (λ (h : Hub P). layers_passing test h.stack) (λ (h : Hub P). height h.stack)
-      (λ (h : Hub P). at_most_height test h.stack) (values_of (without hubs number)) in
+      sum_by_at_most (λ (h : HubState P). layers_passing test h.stack) (λ (h : HubState P). height h.stack)
+      (λ (h : HubState P). at_most_height test h.stack) (values_of (without hubs number)) in
       let below = count_by-le-length test hub.stack.below in
       omega arith
 
@@ -173,7 +173,7 @@ module _ {P : Type 0} where
 
   module _ (name : StackLayer P → Option Key) where
     -- a layer on top that names a record is counted
-    pub has_name : (hubs : List (ℕ × Hub P)) (number : ℕ) (hub : Hub P) → value_at hubs number ≡ Some hub
+    pub has_name : (hubs : List (ℕ × HubState P)) (number : ℕ) (hub : HubState P) → value_at hubs number ≡ Some hub
         → (tally : Tally) → Counts tally name hubs → HasName tally (name hub.stack.top)
     has_name hubs number hub h tally counts key is =
         let here = part (layers_passing (λ layer. is_named key (name layer))) hubs number hub h in
@@ -182,7 +182,7 @@ module _ {P : Type 0} where
         omega arith
 
     -- once the name of a layer on top is taken away, there is room for another
-    pub has_room : (hubs : List (ℕ × Hub P)) (number : ℕ) (hub : Hub P) → value_at hubs number ≡ Some hub
+    pub has_room : (hubs : List (ℕ × HubState P)) (number : ℕ) (hub : HubState P) → value_at hubs number ≡ Some hub
         → (tally lowered : Tally) → Counts tally name hubs → Lowers tally lowered (name hub.stack.top)
         → tally_total lowered < vec_capacity lowered.late
     has_room hubs number hub h tally lowered counts lowers =
@@ -194,7 +194,7 @@ module _ {P : Type 0} where
         omega arith
 
     -- a name is replaced by another
-    pub renamed : (hubs : List (ℕ × Hub P)) (number : ℕ) (hub after : Hub P) → value_at hubs number ≡ Some hub
+    pub renamed : (hubs : List (ℕ × HubState P)) (number : ℕ) (hub after : HubState P) → value_at hubs number ≡ Some hub
         → after.stack.below ≡ hub.stack.below
         → (old lowered raised : Tally) → Counts old name hubs
         → Lowers old lowered (name hub.stack.top) → Raises lowered raised (name after.stack.top)
@@ -226,7 +226,7 @@ module _ {P : Type 0} where
     }
 
     -- no name is replaced
-    pub kept_name : (hubs : List (ℕ × Hub P)) (number : ℕ) (hub after : Hub P) → value_at hubs number ≡ Some hub
+    pub kept_name : (hubs : List (ℕ × HubState P)) (number : ℕ) (hub after : HubState P) → value_at hubs number ≡ Some hub
         → after.stack.below ≡ hub.stack.below → name after.stack.top ≡ name hub.stack.top
         → (old : Tally) → Counts old name hubs → Counts old name (replace_at hubs number after)
     kept_name hubs number hub after h same top old counts = record {
@@ -252,7 +252,7 @@ module _ {P : Type 0} where
     }
 
     -- there is more room
-    pub kept_counts : (hubs : List (ℕ × Hub P)) (old new : Tally) → Counts old name hubs → Keeps old new → Counts new name hubs
+    pub kept_counts : (hubs : List (ℕ × HubState P)) (old new : Tally) → Counts old name hubs → Keeps old new → Counts new name hubs
     kept_counts hubs old new counts keeps = record {
       each = λ key. keeps.each key ∙ counts.each key;
       total = keeps.total ∙ counts.total;
@@ -260,17 +260,17 @@ module _ {P : Type 0} where
     }
 
     -- with room for one more layer than there are, there is room for one more name
-    pub has_room_for : (hubs : List (ℕ × Hub P)) (tally : Tally) → Counts tally name hubs → all_layers hubs + 1 ≤ vec_capacity tally.late
+    pub has_room_for : (hubs : List (ℕ × HubState P)) (tally : Tally) → Counts tally name hubs → all_layers hubs + 1 ≤ vec_capacity tally.late
         → tally_total tally < vec_capacity tally.late
     has_room_for hubs tally counts room =
         let total = counts.total in
         let most : all_layers_passing (λ layer. is_some (name layer)) hubs ≤ all_layers hubs =
-        sum_by_at_most (λ (h : Hub P). layers_passing (λ layer. is_some (name layer)) h.stack) (λ (h : Hub P). height h.stack)
-        (λ (h : Hub P). at_most_height (λ layer. is_some (name layer)) h.stack) (values_of hubs) in
+        sum_by_at_most (λ (h : HubState P). layers_passing (λ layer. is_some (name layer)) h.stack) (λ (h : HubState P). height h.stack)
+        (λ (h : HubState P). at_most_height (λ layer. is_some (name layer)) h.stack) (values_of hubs) in
         omega arith
 
     -- a layer comes
-    pub grown : (hubs : List (ℕ × Hub P)) (number : ℕ) (hub after : Hub P) → value_at hubs number ≡ Some hub
+    pub grown : (hubs : List (ℕ × HubState P)) (number : ℕ) (hub after : HubState P) → value_at hubs number ≡ Some hub
         → after.stack ≡ push hub.stack
         → (old new : Tally) → Counts old name hubs → all_layers hubs + 1 ≤ vec_capacity old.late → Raises old new (name hub.stack.top)
         → Counts new name (replace_at hubs number after)
@@ -295,7 +295,7 @@ module _ {P : Type 0} where
     }
 
     -- a layer goes
-    pub shrunk : (hubs : List (ℕ × Hub P)) (number : ℕ) (hub after : Hub P) → value_at hubs number ≡ Some hub
+    pub shrunk : (hubs : List (ℕ × HubState P)) (number : ℕ) (hub after : HubState P) → value_at hubs number ≡ Some hub
         → 0 < depth hub.stack → after.stack ≡ pop hub.stack
         → (old new : Tally) → Counts old name hubs → Lowers old new (name hub.stack.top)
         → Counts new name (replace_at hubs number after)
@@ -324,7 +324,7 @@ module _ {P : Type 0} where
     }
 
     -- a hub of one layer comes
-    pub with_hub : (hubs : List (ℕ × Hub P)) (number : ℕ) (hub : Hub P) → value_at hubs number ≡ None → length hub.stack.below ≡ 0
+    pub with_hub : (hubs : List (ℕ × HubState P)) (number : ℕ) (hub : HubState P) → value_at hubs number ≡ None → length hub.stack.below ≡ 0
         → (old new : Tally) → Counts old name hubs → all_layers hubs + 1 ≤ vec_capacity old.late → Raises old new (name hub.stack.top)
         → Counts new name (put hubs number hub)
     with_hub hubs number hub h one old new counts room raises = record {
@@ -347,7 +347,7 @@ module _ {P : Type 0} where
     }
 
     -- the layers below the top of a hub are counted, once the top is not
-    pub has_layers : (hubs : List (ℕ × Hub P)) (number : ℕ) (hub : Hub P) → value_at hubs number ≡ Some hub
+    pub has_layers : (hubs : List (ℕ × HubState P)) (number : ℕ) (hub : HubState P) → value_at hubs number ≡ Some hub
         → (old lowered : Tally) → Counts old name hubs → Lowers old lowered (name hub.stack.top) → HasLayers lowered name hub.stack.below
     has_layers hubs number hub h old lowered counts lowers key =
         let here = part (layers_passing (λ layer. is_named key (name layer))) hubs number hub h in
@@ -356,7 +356,7 @@ module _ {P : Type 0} where
         omega arith
 
     -- a hub goes
-    pub without_hub : (hubs : List (ℕ × Hub P)) (number : ℕ) (hub : Hub P) → value_at hubs number ≡ Some hub
+    pub without_hub : (hubs : List (ℕ × HubState P)) (number : ℕ) (hub : HubState P) → value_at hubs number ≡ Some hub
         → (old lowered new : Tally) → Counts old name hubs
         → Lowers old lowered (name hub.stack.top) → LowersBy lowered new name hub.stack.below
         → Counts new name (without hubs number)
@@ -382,7 +382,7 @@ module _ {P : Type 0} where
     }
 
     -- nothing goes where nothing stands
-    pub without_none : (hubs : List (ℕ × Hub P)) (number : ℕ) → value_at hubs number ≡ None
+    pub without_none : (hubs : List (ℕ × HubState P)) (number : ℕ) → value_at hubs number ≡ None
         → (old : Tally) → Counts old name hubs → Counts old name (without hubs number)
     without_none hubs number h old counts = record {
       each = λ key. counts.each key ∙ sym (none_gone (layers_passing (λ layer. is_named key (name layer))) hubs number h);
@@ -407,38 +407,38 @@ module _ {P : Type 0} where
   -- ---- all layers
 
   -- a layer comes, or goes
-  pub layers_replaced : (hubs : List (ℕ × Hub P)) (number : ℕ) (hub after : Hub P) → value_at hubs number ≡ Some hub
+  pub layers_replaced : (hubs : List (ℕ × HubState P)) (number : ℕ) (hub after : HubState P) → value_at hubs number ≡ Some hub
       → all_layers (replace_at hubs number after) + height hub.stack ≡ all_layers hubs + height after.stack
   layers_replaced hubs number hub after h = replaced height hubs number hub after h
 
-  pub layers_pushed : (hubs : List (ℕ × Hub P)) (number : ℕ) (hub after : Hub P) → value_at hubs number ≡ Some hub
+  pub layers_pushed : (hubs : List (ℕ × HubState P)) (number : ℕ) (hub after : HubState P) → value_at hubs number ≡ Some hub
       → after.stack ≡ push hub.stack → all_layers (replace_at hubs number after) ≡ all_layers hubs + 1
   layers_pushed hubs number hub after h pushed =
       let sums = replaced height hubs number hub after h in
       let more = ap height pushed ∙ height_pushed hub.stack in omega arith
 
-  pub layers_popped : (hubs : List (ℕ × Hub P)) (number : ℕ) (hub after : Hub P) → value_at hubs number ≡ Some hub
+  pub layers_popped : (hubs : List (ℕ × HubState P)) (number : ℕ) (hub after : HubState P) → value_at hubs number ≡ Some hub
       → 0 < depth hub.stack → after.stack ≡ pop hub.stack → all_layers (replace_at hubs number after) + 1 ≡ all_layers hubs
   layers_popped hubs number hub after h some popped =
       let sums = replaced height hubs number hub after h in
       let same = ap height popped in
       let less = height_popped hub.stack some in omega arith
 
-  pub layers_kept : (hubs : List (ℕ × Hub P)) (number : ℕ) (hub after : Hub P) → value_at hubs number ≡ Some hub
+  pub layers_kept : (hubs : List (ℕ × HubState P)) (number : ℕ) (hub after : HubState P) → value_at hubs number ≡ Some hub
       → after.stack.below ≡ hub.stack.below → all_layers (replace_at hubs number after) ≡ all_layers hubs
   layers_kept hubs number hub after h same =
       let sums = replaced height hubs number hub after h in
       let below : length after.stack.below ≡ length hub.stack.below = ap length same in omega arith
 
-  pub layers_come : (hubs : List (ℕ × Hub P)) (number : ℕ) (hub : Hub P) → value_at hubs number ≡ None → length hub.stack.below ≡ 0
+  pub layers_come : (hubs : List (ℕ × HubState P)) (number : ℕ) (hub : HubState P) → value_at hubs number ≡ None → length hub.stack.below ≡ 0
       → all_layers (put hubs number hub) ≡ all_layers hubs + 1
   layers_come hubs number hub h one = let sums = come height hubs number hub h in omega arith
 
-  pub layers_gone : (hubs : List (ℕ × Hub P)) (number : ℕ) (hub : Hub P) → value_at hubs number ≡ Some hub
+  pub layers_gone : (hubs : List (ℕ × HubState P)) (number : ℕ) (hub : HubState P) → value_at hubs number ≡ Some hub
       → all_layers (without hubs number) + height hub.stack ≡ all_layers hubs
   layers_gone hubs number hub h = gone height hubs number hub h
 
-  pub no_layers_gone : (hubs : List (ℕ × Hub P)) (number : ℕ) → value_at hubs number ≡ None
+  pub no_layers_gone : (hubs : List (ℕ × HubState P)) (number : ℕ) → value_at hubs number ≡ None
       → all_layers (without hubs number) ≡ all_layers hubs
   no_layers_gone hubs number h = none_gone height hubs number h
 
@@ -455,18 +455,18 @@ module _ {P : Type 0} where
   any_in_stack test stack =
       positive (one_if (test stack.top)) (count_by test stack.below) ∙ (λ i. one_passes (test stack.top) i || any_passes test stack.below i)
 
-  any_in_hubs : (test : StackLayer P → Bool) (hubs : List (ℕ × Hub P))
-      → nat_lt 0 (all_layers_passing test hubs) ≡ list_any (λ (entry : ℕ × Hub P). list_any test (entry.1.stack.top ∷ entry.1.stack.below)) hubs
+  any_in_hubs : (test : StackLayer P → Bool) (hubs : List (ℕ × HubState P))
+      → nat_lt 0 (all_layers_passing test hubs) ≡ list_any (λ (entry : ℕ × HubState P). list_any test (entry.1.stack.top ∷ entry.1.stack.below)) hubs
   any_in_hubs test [] = refl
   any_in_hubs test (e ∷ es) =
-      ap (nat_lt 0) (sum_by-cons (λ (h : Hub P). layers_passing test h.stack) e.1 (values_of es))
+      ap (nat_lt 0) (sum_by-cons (λ (h : HubState P). layers_passing test h.stack) e.1 (values_of es))
       ∙ (positive (layers_passing test e.1.stack) (all_layers_passing test es)
       ∙ (λ i. any_in_stack test e.1.stack i || any_in_hubs test es i))
 
   -- a number above 0 says that a layer of a hub passes the test
   pub counts_any : (name : StackLayer P → Option Key) (test : StackLayer P → Bool) (key : Key) → ((layer : StackLayer P) → is_named key (name layer) ≡ test layer)
-      → (hubs : List (ℕ × Hub P)) (tally : Tally) → Counts tally name hubs
-      → nat_lt 0 (tally_at tally key) ≡ list_any (λ (entry : ℕ × Hub P). list_any test (entry.1.stack.top ∷ entry.1.stack.below)) hubs
+      → (hubs : List (ℕ × HubState P)) (tally : Tally) → Counts tally name hubs
+      → nat_lt 0 (tally_at tally key) ≡ list_any (λ (entry : ℕ × HubState P). list_any test (entry.1.stack.top ∷ entry.1.stack.below)) hubs
   counts_any name test key same hubs tally counts =
       ap (nat_lt 0) (counts.each key)
       ∙ (ap (λ (t : StackLayer P → Bool). nat_lt 0 (all_layers_passing t hubs)) (λ i layer. same layer i)

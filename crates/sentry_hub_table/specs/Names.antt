@@ -9,7 +9,7 @@ use Rattle.sentry_base.specs.declared.protocol.keys.TransactionOrSpanKey.{Transa
 use Rattle.sentry_base.specs.declared.protocol.keys.TransactionOrSpanKey.TheVariants.{Transaction, Span}
 use Rattle.sentry_scope.specs.declared.scope.stack.Stack.{Stack}
 use Rattle.sentry_scope.specs.declared.scope.stack.StackLayer.{StackLayer}
-use Rattle.sentry_hub_table.specs.declared.hub.Hub.{Hub}
+use Rattle.sentry_hub_table.specs.declared.hub.HubState.{HubState}
 use Rattle.sentry_hub_table.specs.declared.names.LayerNames.{LayerNames}
 use Rattle.sentry_hub_table.specs.declared.names.Names.{Names}
 use Rattle.sentry_hub_table.specs.declared.tally.Key.{Key}
@@ -66,25 +66,25 @@ module _ {P : Type 0} where
   height stack = 1 + length stack.below
 
   -- the sum over all hubs
-  abbrev pub over_hubs : (Stack P → ℕ) → List (ℕ × Hub P) → ℕ
+  abbrev pub over_hubs : (Stack P → ℕ) → List (ℕ × HubState P) → ℕ
   over_hubs weigh hubs = sum_by (λ hub. weigh hub.stack) (values_of hubs)
 
   -- how many layers of all hubs pass a test
-  abbrev pub all_layers_passing : (StackLayer P → Bool) → List (ℕ × Hub P) → ℕ
+  abbrev pub all_layers_passing : (StackLayer P → Bool) → List (ℕ × HubState P) → ℕ
   all_layers_passing test hubs = over_hubs (layers_passing test) hubs
 
   -- how many layers all hubs have
-  abbrev pub all_layers : List (ℕ × Hub P) → ℕ
+  abbrev pub all_layers : List (ℕ × HubState P) → ℕ
   all_layers hubs = over_hubs height hubs
 
   -- the tally has the number of layers that name each record, and room for a name of each layer
-  pub record Counts (tally : Tally) (name : StackLayer P → Option Key) (hubs : List (ℕ × Hub P)) : Type 0 where
+  pub record Counts (tally : Tally) (name : StackLayer P → Option Key) (hubs : List (ℕ × HubState P)) : Type 0 where
     pub each : (key : Key) → tally_at tally key ≡ all_layers_passing (λ layer. is_named key (name layer)) hubs
     pub total : tally_total tally ≡ all_layers_passing (λ layer. is_some (name layer)) hubs
     pub room : all_layers hubs ≤ vec_capacity tally.late
 
   -- the same of each kind of records
-  pub record CountsNames (names : Names) (hubs : List (ℕ × Hub P)) : Type 0 where
+  pub record CountsNames (names : Names) (hubs : List (ℕ × HubState P)) : Type 0 where
     pub clients : Counts names.clients client_of hubs
     pub sessions : Counts names.sessions session_of hubs
     pub transactions : Counts names.transactions transaction_of hubs

@@ -3,24 +3,24 @@ ghost use Rattle.std.specs.Prelude.{◌≡◌, [], Some, true, is_some, IfOk, On
 ghost use Rattle.sentry_plain.specs.Tables.{value_at, put, replace_at, without};
 ghost use Rattle.sentry_scope.specs.Scopes.{edit, breadcrumb_trail};
 ghost use Rattle.sentry_scope.specs.Stacks.{depth, push, pop};
-ghost use Rattle.sentry_hub_table.specs.declared.hub.Hub.{Hub};
+ghost use Rattle.sentry_hub_table.specs.declared.hub.HubState.{HubState};
 ghost use Rattle.sentry_hub_table.specs.Names.{all_layers};
 ghost use Rattle.sentry_hub_table.specs.Hubs.{with_client, with_session, with_stack, with_scope};
 ghost use Rattle.sentry_hub_table.specs.Hubs.{is_client_named, is_session_named, is_transaction_named, is_span_named};
 
-use crate::hub::Hub;
+use crate::hub::HubState;
 use crate::names::{Names, client_name, layer_names, session_name, span_name, transaction_name};
 use crate::tally::Key;
 use sentry_base::protocol::{Breadcrumb, ClientKey, SessionKey, SpanKey, TransactionKey, Uuid};
 use sentry_plain::{Few, Table};
-use sentry_scope::scope::{Scope, ScopeEdit};
+use sentry_scope::{Scope, ScopeEdit};
 use std::alloc::{AllocError, Global};
 use std::marker::Model;
 
 /// The hubs of an engine by their numbers, with the number of layers that name each client, session, transaction and
 /// span. Contracts see the list of the hubs in the order of their numbers.
 pub struct HubTable<P> {
-    hubs: Table<Hub<P>>,
+    hubs: Table<HubState<P>>,
     /// How many layers all hubs have.
     layers: usize,
     names: Names,
@@ -28,11 +28,11 @@ pub struct HubTable<P> {
 
 impl<P> Model for HubTable<P> {
     ghost use Rattle.std.specs.Prelude.{List, ℕ};
-    ghost use Rattle.sentry_hub_table.specs.declared.hub.Hub.{Hub};
+    ghost use Rattle.sentry_hub_table.specs.declared.hub.HubState.{HubState};
     ghost use Rattle.std.specs.Coded.{codes};
     ghost use Rattle.sentry_plain.specs.Values.{data_code};
 
-    ghost Value = { List (ℕ × Hub P) };
+    ghost Value = { List (ℕ × HubState P) };
 
     ghost coded = { Prim.hlevel (codes, data_code, P.code) };
 
@@ -66,7 +66,7 @@ impl<P> HubTable<P> {
     }
 
     /// The hub at a number.
-    pub fn get(&self, number: u64) -> Option<&Hub<P>>
+    pub fn get(&self, number: u64) -> Option<&HubState<P>>
         ensures { option_copied result ≡ value_at self.now number }
     {
         self.hubs.get(number)
@@ -131,7 +131,7 @@ impl<P: Drop> HubTable<P> {
     /// The top layer of a hub that is held names this client, or none. It takes no memory.
     pub fn set_client(&mut self, number: u64, client: Option<ClientKey>)
         requires { is_some (value_at self.old number) ≡ true }
-        ensures { (hub : Hub P) → value_at self.old number ≡ Some hub →
+        ensures { (hub : HubState P) → value_at self.old number ≡ Some hub →
             self.new ≡ replace_at self.old number (with_client hub client) }
     {
         let Some(hub) = self.hubs.get_mut(number) else {
@@ -146,7 +146,7 @@ impl<P: Drop> HubTable<P> {
     /// The top layer of a hub that is held names this session, or none. It takes no memory.
     pub fn set_session(&mut self, number: u64, session: Option<SessionKey>)
         requires { is_some (value_at self.old number) ≡ true }
-        ensures { (hub : Hub P) → value_at self.old number ≡ Some hub →
+        ensures { (hub : HubState P) → value_at self.old number ≡ Some hub →
             self.new ≡ replace_at self.old number (with_session hub session) }
     {
         let Some(hub) = self.hubs.get_mut(number) else {
@@ -161,7 +161,7 @@ impl<P: Drop> HubTable<P> {
     /// Replaces the top scope of a hub that is held. It takes no memory.
     pub fn set_scope(&mut self, number: u64, scope: Scope<P>)
         requires { is_some (value_at self.old number) ≡ true }
-        ensures { (hub : Hub P) → value_at self.old number ≡ Some hub →
+        ensures { (hub : HubState P) → value_at self.old number ≡ Some hub →
             self.new ≡ replace_at self.old number (with_scope hub scope) }
     {
         let Some(hub) = self.hubs.get_mut(number) else {
@@ -180,7 +180,7 @@ impl<P: Drop> HubTable<P> {
     #[tactic(auto, using(crate::proofs::TallyLemmas::changed_same))]
     pub fn edit_scope(&mut self, number: u64, setter: ScopeEdit<P>) -> Result<(), AllocError>
         requires { is_some (value_at self.old number) ≡ true }
-        ensures ok { OnOk result ((hub : Hub P) → value_at self.old number ≡ Some hub →
+        ensures ok { OnOk result ((hub : HubState P) → value_at self.old number ≡ Some hub →
             self.new ≡ replace_at self.old number (with_scope hub (edit setter hub.stack.top.scope))) }
         ensures err { OnErr result (self.new ≡ self.old) }
     {
@@ -206,7 +206,7 @@ impl<P: Drop> HubTable<P> {
         max_breadcrumbs: usize,
     ) -> Result<(), AllocError>
         requires { is_some (value_at self.old number) ≡ true }
-        ensures ok { OnOk result ((hub : Hub P) → value_at self.old number ≡ Some hub →
+        ensures ok { OnOk result ((hub : HubState P) → value_at self.old number ≡ Some hub →
             self.new ≡ replace_at self.old number (with_scope hub (record hub.stack.top.scope {
               breadcrumbs = breadcrumb_trail max_breadcrumbs hub.stack.top.scope.breadcrumbs added;
             }))) }
@@ -222,7 +222,7 @@ impl<P: Drop> HubTable<P> {
     /// Notes the last event of a hub that is held. It takes no memory.
     pub fn set_last_event_id(&mut self, number: u64, id: Uuid)
         requires { is_some (value_at self.old number) ≡ true }
-        ensures { (hub : Hub P) → value_at self.old number ≡ Some hub →
+        ensures { (hub : HubState P) → value_at self.old number ≡ Some hub →
             self.new ≡ replace_at self.old number (record hub { last_event_id = Some id }) }
     {
         let Some(hub) = self.hubs.get_mut(number) else {
@@ -236,7 +236,7 @@ impl<P: Drop> HubTable<P> {
     #[tactic(auto, using(crate::proofs::TallyLemmas::changed_same))]
     pub fn push(&mut self, number: u64) -> Result<usize, AllocError>
         requires { is_some (value_at self.old number) ≡ true }
-        ensures ok { IfOk result (λ pushed. (hub : Hub P) → value_at self.old number ≡ Some hub →
+        ensures ok { IfOk result (λ pushed. (hub : HubState P) → value_at self.old number ≡ Some hub →
             (pushed ≡ depth (push hub.stack))
             × (self.new ≡ replace_at self.old number (with_stack hub (push hub.stack)))) }
         ensures err { OnErr result (self.new ≡ self.old) }
@@ -260,7 +260,7 @@ impl<P: Drop> HubTable<P> {
     #[tactic(auto, using(crate::proofs::TallyLemmas::changed_same))]
     pub fn pop(&mut self, number: u64)
         requires { is_some (value_at self.old number) ≡ true }
-        ensures { (hub : Hub P) → value_at self.old number ≡ Some hub →
+        ensures { (hub : HubState P) → value_at self.old number ≡ Some hub →
             self.new ≡ replace_at self.old number (with_stack hub (pop hub.stack)) }
     {
         let Some(hub) = self.hubs.get_mut(number) else {
@@ -276,7 +276,7 @@ impl<P: Drop> HubTable<P> {
 
     /// Holds a hub of one layer under a number that is free. If out of memory, or if the number is taken, nothing has
     /// changed.
-    pub fn insert(&mut self, number: u64, hub: Hub<P>) -> Result<(), AllocError>
+    pub fn insert(&mut self, number: u64, hub: HubState<P>) -> Result<(), AllocError>
         requires { depth hub.stack ≡ 0 }
         ensures ok { OnOk result (self.new ≡ put self.old number hub) }
         ensures err { OnErr result (self.new ≡ self.old) }

@@ -5,3 +5,6 @@ pub mod hub;
 pub mod hub_table;
 mod names;
 mod tally;
+
+pub use hub::HubState;
+pub use hub_table::HubTable;

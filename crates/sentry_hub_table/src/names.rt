@@ -8,7 +8,7 @@ ghost use Rattle.sentry_hub_table.specs.Names.{HasAllLayers, LowersLayers};
 
 use crate::tally::{Key, Tally};
 use sentry_base::protocol::{ClientKey, SessionKey, TransactionOrSpanKey};
-use sentry_scope::scope::{Stack, StackLayer};
+use sentry_scope::{Stack, StackLayer};
 use std::alloc::{AllocError, Global};
 
 /// What a layer names.

@@ -11,7 +11,7 @@ use Rattle.sentry_plain.specs.Defaults.{with_default}
 use Rattle.sentry_plain.proofs.MergeLemmas.{put_last}
 use Rattle.sentry_base.specs.declared.protocol.log.LogAttribute.{LogAttribute}
 use Rattle.sentry_scope.specs.Fills.{Attributes}
-use Rattle.sentry_pipeline.specs.DefaultAttributes.{fill_defaults}
+use Rattle.sentry_pipeline.specs.Pipeline.{fill_defaults}
 
 -- the key of an entry is above those before it
 above_first : (k : Bytes) (done : Attributes) (e : Bytes × LogAttribute) (more : Attributes)

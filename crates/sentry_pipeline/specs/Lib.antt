@@ -1,4 +1,1 @@
 pub mod Pipeline
-pub mod OsAttributes
-pub mod DefaultAttributes
-pub mod Telemetry

@@ -1,8 +1,8 @@
--- What becomes of an event between its capture and its envelope.
+-- What becomes of an event, a log or a metric between its capture and its envelope or batch.
 use Rattle.std.specs.Prelude.{ℕ, nat_lt, Option, Some, None, List, [], ◌∷◌, if◌then◌else◌, codes, map}
 use Rattle.std.specs.Option.{option_or}
 use Rattle.std.specs.Str.{bytes_eq}
-use Rattle.sentry_base.specs.Events.{is_nil}
+use Rattle.sentry_base.specs.Events.{is_nil, new_event, nil_id}
 use Rattle.sentry_base.specs.declared.protocol.event.Event.{Event}
 use Rattle.sentry_base.specs.declared.protocol.sdk.ClientSdkInfo.{ClientSdkInfo}
 use Rattle.sentry_span_table.specs.declared.table.records.SpanTable.{SpanTable}
@@ -11,9 +11,8 @@ use Rattle.sentry_options.specs.declared.clientoptions.plain.PlainOptions.{Plain
 use Rattle.sentry_options.specs.declared.clientoptions.ClientOptions.{ClientOptions}
 use Rattle.sentry_options.specs.Constants.{sdk_name, sdk_version, sdk_package_name}
 use Rattle.sentry_base.specs.Callbacks.{Partial}
-use Rattle.sentry_scope.specs.Scopes.{process_all}
-use Rattle.sentry_options.specs.Meanings.{Meanings, process_by_all, call_if_any}
-use Rattle.sentry_scope.specs.Scopes.{fill}
+use Rattle.sentry_scope.specs.Scopes.{process_all, fill}
+use Rattle.sentry_options.specs.Meanings.{Meanings, process_by_all, call_if_any, enrich_by_all, call_on_item}
 use Rattle.sentry_options.specs.declared.clientoptions.choices.EventSamplingStrategy.{EventSamplingStrategy}
 use Rattle.sentry_options.specs.declared.clientoptions.choices.EventSamplingStrategy.TheVariants.{FixedRate}
 use Rattle.sentry_base.specs.declared.protocol.fresh.Fresh.{Fresh}
@@ -23,6 +22,14 @@ use Rattle.sentry_pipeline.specs.declared.pipeline.Preparation.{Preparation}
 use Rattle.sentry_pipeline.specs.declared.pipeline.Preparation.TheVariants.{Kept, SampledOut, Dropped}
 use Rattle.sentry_pipeline.specs.declared.pipeline.Place.{Place}
 use Rattle.sentry_pipeline.specs.declared.pipeline.Place.TheVariants.{EventProcessor, Integration, BeforeSend}
+use Rattle.sentry_plain.specs.Texts.{value_at}
+use Rattle.sentry_base.specs.declared.protocol.context.Context.{Context}
+use Rattle.sentry_base.specs.declared.protocol.context.Context.TheVariants.{Os}
+use Rattle.sentry_pipeline.specs.declared.os_attributes.OsAttributes.{OsAttributes}
+use Rattle.sentry_plain.specs.Defaults.{with_default}
+use Rattle.sentry_scope.specs.Fills.{Attributes, fill_text, fill_log, fill_metric}
+use Rattle.sentry_base.specs.declared.protocol.log.Log.{Log}
+use Rattle.sentry_base.specs.declared.protocol.metric.Metric.{Metric}
 
 -- what becomes of an event that is captured: the event that came through all callbacks, if it did, and whether it is to
 -- be sent
@@ -95,3 +102,65 @@ loss_reason SampledOut = Some reason.SampleRate
 loss_reason (Dropped EventProcessor) = Some reason.EventProcessor
 loss_reason (Dropped Integration) = Some reason.EventProcessor
 loss_reason (Dropped BeforeSend) = Some reason.BeforeSend
+
+-- ---- what the integrations of a client say of the operating system
+
+-- what a context says of the operating system
+abbrev pub os_of : Option Context → OsAttributes
+os_of (Some (Os name version)) = record { name = name; version = version }
+os_of context = record { name = None; version = None }
+
+module _ {C : Type 0} where
+  -- an event of this moment, after each integration in turn
+  abbrev pub enriched_event : (C → Meanings) → ClientOptions C → ℕ → Event
+  enriched_event meanings options now =
+      enrich_by_all (meanings options.callbacks).integrations options.plain (new_event nil_id now)
+
+  -- what the context `os` of that event says
+  abbrev pub os_attributes : (C → Meanings) → ClientOptions C → ℕ → OsAttributes
+  os_attributes meanings options now = os_of (value_at (enriched_event meanings options now).contexts (codes "os"))
+
+-- ---- the attributes that a client gives to each log and metric that lacks them
+
+-- what the options and the SDK say of the program
+unfoldable pub default_metric_attributes : PlainOptions → Attributes
+default_metric_attributes options =
+    fill_text (codes "server.address") options.server_name
+    (fill_text (codes "sentry.release") options.release
+    (fill_text (codes "sentry.environment") options.environment
+    (fill_text (codes "sentry.sdk.version") (Some sdk_version)
+    (fill_text (codes "sentry.sdk.name") (Some sdk_name) []))))
+
+-- the same, and the operating system
+unfoldable pub default_log_attributes : PlainOptions → OsAttributes → Attributes
+default_log_attributes options os =
+    fill_text (codes "os.version") os.version
+    (fill_text (codes "os.name") os.name (default_metric_attributes options))
+
+-- the attributes with each default put in where they have nothing at its key
+abbrev pub fill_defaults : Attributes → Attributes → Attributes
+fill_defaults [] attributes = attributes
+fill_defaults (default ∷ defaults) attributes =
+    fill_defaults defaults (with_default default.0 default.1 attributes)
+
+-- ---- what becomes of a log or a metric between its capture and its batch, whatever the options say of logs and metrics
+
+-- the log with the default attributes that it lacks
+abbrev pub with_log_defaults : Attributes → Log → Log
+with_log_defaults defaults log = record log { attributes = fill_defaults defaults log.attributes }
+
+-- the metric with the default attributes that it lacks
+abbrev pub with_metric_defaults : Attributes → Metric → Metric
+with_metric_defaults defaults metric = record metric { attributes = fill_defaults defaults metric.attributes }
+
+module _ {P C : Type 0} (meanings : C → Meanings) where
+  -- the log as it is to be sent, or `None` if the callback drops it
+  abbrev pub prepare_log : SpanTable → ClientOptions C → Attributes → Scope P → Log → Option Log
+  prepare_log spans options defaults scope log =
+      call_on_item (meanings options.callbacks).before_send_log (with_log_defaults defaults (fill_log spans scope log))
+
+  -- the metric as it is to be sent, or `None` if the callback drops it
+  abbrev pub prepare_metric : SpanTable → ClientOptions C → Attributes → Scope P → Metric → Option Metric
+  prepare_metric spans options defaults scope metric =
+      call_on_item (meanings options.callbacks).before_send_metric
+      (with_metric_defaults defaults (fill_metric spans options.plain.send_default_pii scope metric))

@@ -1,9 +1,9 @@
 //! What the integrations of a client say of the operating system, which is among the default attributes of its logs.
 ghost use Rattle.std.specs.Prelude.{◌≡◌, IfOk, option_copied};
-ghost use Rattle.sentry_pipeline.specs.OsAttributes.{os_of, enriched_event, os_attributes};
+ghost use Rattle.sentry_pipeline.specs.Pipeline.{os_of, enriched_event, os_attributes};
 
 use sentry_base::protocol::{Context, Event, Uuid};
-use sentry_options::clientoptions::{Callbacks, ClientOptions};
+use sentry_options::{Callbacks, ClientOptions};
 use sentry_plain::Text;
 use std::alloc::{AllocError, Global};
 

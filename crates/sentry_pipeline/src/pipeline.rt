@@ -10,13 +10,11 @@ mod telemetry;
 pub use attributes::{default_log_attributes, default_metric_attributes};
 use sentry_base::callbacks::EventCallback;
 use sentry_base::protocol::{ClientSdkInfo, ClientSdkPackage, Draw, Event, Fresh, Reason, Uuid};
-use sentry_options::clientoptions::{
-    Callbacks, ClientOptions, EventSamplingStrategy, PlainOptions,
-};
 use sentry_options::constants::{PACKAGE_NAME, SDK_NAME, VERSION};
+use sentry_options::{Callbacks, ClientOptions, EventSamplingStrategy, PlainOptions};
 use sentry_plain::{Boxed, Items, Shared, Text};
-use sentry_scope::scope::Scope;
-use sentry_span_table::table::SpanTable;
+use sentry_scope::Scope;
+use sentry_span_table::SpanTable;
 use std::alloc::{AllocError, Global};
 pub use telemetry::{prepare_log, prepare_metric};
 

@@ -1,5 +1,5 @@
 -- The entries of a map from texts, by how they lie in memory.
-use Rattle.std.proofs.Common.{◌≡◌, ℕ, suc, ◌+◌, ◌<◌, length, take, List, [], ◌++◌, set, refl, ap, ◌∙◌, sym, subst, append-nil, get_or, String, string_bytes, string_cmp, arith, Result, Ok, Err, OnOk, OnErr}
+use Rattle.std.proofs.Common.{◌≡◌, ℕ, suc, ◌+◌, ◌<◌, length, take, List, [], ◌∷◌, ◌++◌, set, refl, ap, ◌∙◌, sym, subst, append-nil, get_or, String, string_bytes, string_cmp, arith, Result, Ok, Err, OnOk, OnErr}
 use Rattle.std.proofs.lemmas.Cmp.{nat_list_cmp_total}
 use Rattle.std.proofs.lemmas.Map.Lookups.{exact_bytes}
 use Rattle.std.specs.BTreeMap.{insert_entry}
@@ -26,6 +26,11 @@ module _ {V : Type 0} where
   pub empty_sorted : (m : List (Bytes × V)) → m ≡ [] → IsStrictlySortedBy text_cmp (keys_of m)
   unfolding IsStrictlySortedBy
   empty_sorted m e = subst (λ (l : List (Bytes × V)). IsStrictlySortedBy text_cmp (keys_of l)) (sym e) tt
+
+  -- so is one entry
+  pub one_sorted : (m : List (Bytes × V)) (k : Bytes) (v : V) → m ≡ (k, v) ∷ [] → IsStrictlySortedBy text_cmp (keys_of m)
+  unfolding IsStrictlySortedBy
+  one_sorted m k v e = subst (λ (l : List (Bytes × V)). IsStrictlySortedBy text_cmp (keys_of l)) (sym e) (tt, tt)
 
   -- a key that is there takes the value
   pub set_here : (l : List (Bytes × V)) (k : Bytes) (v : V) (i : ℕ) → IsStrictlySortedBy text_cmp (keys_of l) → IsAt text_cmp l k i → set l i (k, v) ≡ put l k v

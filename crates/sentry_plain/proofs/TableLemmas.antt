@@ -1,14 +1,16 @@
 -- What a table becomes where its rows change.
-use Rattle.std.proofs.Common.{◌≡◌, ℕ, suc, ◌+◌, ◌<◌, length, get_or, set, take, drop, insert, filter, true, false, cond, is_eq, Some, None, List, [], ◌∷◌, ◌++◌, refl, sym, ap, ◌∙◌, subst, arith}
+use Rattle.std.proofs.Common.{◌≡◌, ℕ, suc, ◌+◌, ◌<◌, length, get_or, set, take, drop, insert, filter, true, false, cond, is_eq, Some, None, List, [], ◌∷◌, ◌++◌, refl, sym, ap, ◌∙◌, subst, append-nil, Less, arith}
 use Rattle.std.proofs.lemmas.Cmp.{eq_by_cmp_equiv, nat_cmp_total}
+use Rattle.std.proofs.lemmas.List.Edits.{insert_end}
 use Rattle.std.proofs.lemmas.Map.{lookup-remove_entry}
 use Rattle.std.proofs.lemmas.Map.Keys.{IsDistinct-from_sorted}
 use Rattle.std.specs.BTreeMap.{is_at}
 use Rattle.std.specs.Map.{keys_of}
+use Rattle.std.specs.List.{AllByRecursion}
 use Rattle.std.specs.List.Sorted.{IsStrictlySortedBy}
 use Rattle.std.specs.Option.{is_some}
 use Rattle.std.specs.Ordering.{nat_cmp}
-use Rattle.sentry_plain.proofs.RowLemmas.{live_split, live_set, length_cut, value_here, put_here, without_here, replace_here, order_here, same_place, value_gap, without_gap, put_gap, order_gap, count_gap, sorted_live}
+use Rattle.sentry_plain.proofs.RowLemmas.{live_split, live_set, live_push, length_cut, value_here, put_here, without_here, replace_here, order_here, same_place, value_gap, without_gap, put_gap, order_gap, count_gap, sorted_live}
 use Rattle.sentry_plain.specs.Rows.{number_of, value_of, with_row, live_rows, numbers, IsTable, IsRowOf, IsRowGap, count_with}
 use Rattle.sentry_plain.specs.Tables.{value_at, put, without, replace_at}
 use Rattle.sentry_plain.specs.declared.table.rows.Row.{Row}
@@ -65,6 +67,26 @@ module _ {X : Type 0} where
   set_same : (rows : List (Row X)) (i : ℕ) (r q : Row X) → i < length rows → r ≡ get_or rows i r → q ≡ r → live_rows (set rows i q) ≡ live_rows rows
   set_same rows i r q lt here same =
       live_set rows i q lt ∙ ap (λ (s : Row X). live_rows (take i rows) ++ with_row s (live_rows (drop (suc i) rows))) (same ∙ here) ∙ sym (live_split rows i r lt)
+
+  -- ---- the last row goes, which has no value
+  all_before : (P : ℕ → Type 0) (rows : List (Row X)) (r : Row X) → AllByRecursion P (numbers (rows ++ r ∷ [])) → AllByRecursion P (numbers rows)
+  all_before P [] r h = tt
+  all_before P (q ∷ rows) r h = (h.0, all_before P rows r h.1)
+
+  order_before : (rows : List (Row X)) (r : Row X) → IsStrictlySortedBy nat_cmp (numbers (rows ++ r ∷ [])) → IsStrictlySortedBy nat_cmp (numbers rows)
+  unfolding IsStrictlySortedBy
+  order_before [] r sorted = tt
+  order_before (q ∷ rows) r sorted = (all_before (λ m. nat_cmp (number_of q) m ≡ Less) rows r sorted.0, order_before rows r sorted.1)
+
+  pub live_before : (rows left : List (Row X)) (r : Row X) → rows ≡ left ++ r ∷ [] → is_some (value_of r) ≡ false → live_rows left ≡ live_rows rows
+  live_before rows left (Empty n) is none = sym (ap live_rows is ∙ live_push left (Empty n) ∙ append-nil (live_rows left))
+  live_before rows left (Full n x) is none = absurd cc
+
+  pub table_before : (rows left : List (Row X)) (full : ℕ) (r : Row X) → rows ≡ left ++ r ∷ [] → is_some (value_of r) ≡ false → IsTable rows full → IsTable left full
+  table_before rows left full r is none table = record {
+    order = order_before left r (subst (λ (l : List (Row X)). IsStrictlySortedBy nat_cmp (numbers l)) is table.order);
+    count = table.count ∙ ap length (sym (live_before rows left r is none));
+  }
 
   -- ---- no rows
   pub table_empty : (rows : List (Row X)) → rows ≡ [] → IsTable rows 0
@@ -167,6 +189,10 @@ module _ {X : Type 0} where
       order = order_gap rows n i x is.order gap;
       count = ap (λ k. k + 1) is.count ∙ sym (count_gap rows n i gap x);
     }
+
+  -- a row above all others stands where it was pushed
+  pub pushed : (rows new : List (Row X)) (n place : ℕ) (x : X) → place ≡ length rows → new ≡ rows ++ Full n x ∷ [] → new ≡ insert rows place (Full n x)
+  pushed rows new n place x last is = is ∙ sym (insert_end rows (Full n x)) ∙ ap (λ i. insert rows i (Full n x)) (sym last)
 
   -- ---- what is left at each number once one is gone
   pub left_at : (rows : List (Row X)) (full n m : ℕ) → IsTable rows full → value_at (without (live_rows rows) n) m ≡ cond (is_eq (nat_cmp n m)) None (value_at (live_rows rows) m)

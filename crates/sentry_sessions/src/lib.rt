@@ -2,3 +2,5 @@
 #![tactic(auto)]
 
 pub mod session;
+
+pub use session::{Session, SessionQueue, TakenSessions, session_attributes};

@@ -22,10 +22,10 @@ use Rattle.sentry_scope.specs.declared.scope.stack.StackLayer.{StackLayer}
 use Rattle.sentry_state.specs.Clients.{has_session_of}
 use Rattle.sentry_state.specs.Changes.{with_new_session, with_client_entry, with_log_entry, with_metric_entry}
 use Rattle.sentry_hub_table.specs.Hubs.{with_session}
-use Rattle.sentry_hub_table.specs.declared.hub.Hub.{Hub}
+use Rattle.sentry_hub_table.specs.declared.hub.HubState.{HubState}
 use Rattle.sentry_sessions.specs.SessionQueues.{QueueEntry, Waiting, queue_of}
 use Rattle.sentry_state.specs.Outcomes.{client_at, stored_client_at}
-use Rattle.sentry_state.specs.declared.state.Client.{Client}
+use Rattle.sentry_state.specs.declared.state.ClientState.{ClientState}
 use Rattle.sentry_state.specs.declared.state.State.{State}
 use Rattle.sentry_state.specs.Worlds.{World, ClientHistory, SessionHistory, stored_client, stored_session, map_values, Stands}
 use Rattle.sentry_base.specs.declared.protocol.log.Log.{Log}
@@ -143,7 +143,7 @@ module _ {P C : Type 0} where
   client_of_label : (engine : State P C) (world : World P C) → Stands engine world → (label : Label)
       → list_any (λ entry. is_label label entry.1.label) engine.clients ≡ has_client_of label world.clients
   client_of_label engine world s label =
-      ap (list_any (λ (entry : ℕ × Client C). is_label label entry.1.label)) s.clients
+      ap (list_any (λ (entry : ℕ × ClientState C). is_label label entry.1.label)) s.clients
       ∙ client_of_label_in_world (is_label label) world.clients
 
   -- a book stays where a client has its label
@@ -276,7 +276,7 @@ module _ {P C : Type 0} where
 -- ---- clients whose queues change
 
 module _ {C : Type 0} where
-  in_table-at : (b : Bool) (found : Option (ClientHistory C)) (kept : Client C) → Some kept ≡ option_map stored_client (cond b found None)
+  in_table-at : (b : Bool) (found : Option (ClientHistory C)) (kept : ClientState C) → Some kept ≡ option_map stored_client (cond b found None)
       → (client : ClientHistory C) × (found ≡ Some client) × (cond b found None ≡ Some client) × (kept ≡ stored_client client)
   in_table-at true (Some client) kept e = let is : kept ≡ stored_client client = cc in (client, refl, refl, is)
   in_table-at true None kept e = absurd cc
@@ -284,14 +284,14 @@ module _ {C : Type 0} where
 
 module _ {P C : Type 0} where
   -- an engine whose client is replaced stands for the world whose client is replaced
-  pub client_replaced : (engine : State P C) (world : World P C) → Stands engine world → (n : ℕ) (client : ClientHistory C) (kept : Client C)
+  pub client_replaced : (engine : State P C) (world : World P C) → Stands engine world → (n : ℕ) (client : ClientHistory C) (kept : ClientState C)
       → kept ≡ stored_client client → replace_at engine.clients n kept ≡ map_values stored_client (replace_at world.clients n client)
   client_replaced engine world s n client kept is =
       ap (replace_at engine.clients n) is
       ∙ (ap (λ clients. replace_at clients n (stored_client client)) s.clients ∙ sym (replace_at-map_values stored_client world.clients n client))
 
   -- the client of the world of which the engine found what it keeps
-  pub client_state : (engine : State P C) (world : World P C) → Stands engine world → (key : ClientKey) (kept : Client C)
+  pub client_state : (engine : State P C) (world : World P C) → Stands engine world → (key : ClientKey) (kept : ClientState C)
       → Some kept ≡ stored_client_at world key
       → (client : ClientHistory C) × (value_at engine.clients key.number ≡ Some (stored_client client))
       × (client_at world key ≡ Some client) × (kept ≡ stored_client client)
@@ -304,7 +304,7 @@ module _ {P C : Type 0} where
 
 module _ {C : Type 0} where
   -- what is kept of a client to whose queue of ended sessions something came
-  pub queue_changed : (client : ClientHistory C) (kept : Client C) (entry : QueueEntry) (queue : Waiting) → kept ≡ stored_client client
+  pub queue_changed : (client : ClientHistory C) (kept : ClientState C) (entry : QueueEntry) (queue : Waiting) → kept ≡ stored_client client
       → queue ≡ queue_of client.options.plain.session_mode (entry ∷ client.queues.sessions)
       → record kept { queues = record kept.queues { sessions = queue } } ≡ stored_client (with_client_entry entry client)
   queue_changed client kept entry queue is q = λ i. record (is i) { queues = record (is i).queues { sessions = q i } }
@@ -331,7 +331,7 @@ module _ {P C : Type 0} where
 
 module _ {P C : Type 0} where
   -- what the engine found of a client of the world
-  pub same_client : (engine : State P C) (world : World P C) → Stands engine world → (key : ClientKey) (kept : Client C)
+  pub same_client : (engine : State P C) (world : World P C) → Stands engine world → (key : ClientKey) (kept : ClientState C)
       → (client : ClientHistory C) → Some kept ≡ stored_client_at world key → client_at world key ≡ Some client
       → (value_at engine.clients key.number ≡ Some (stored_client client)) × (kept ≡ stored_client client)
   same_client engine world s key kept client e at =
@@ -359,7 +359,7 @@ popped_same-by [] a b h = absurd cc
 popped_same-by (lowest ∷ above) a b h = refl
 
 -- what is below the top layer doesn't depend on what the top layer names
-pub popped_same : {P : Type 0} (hub : Hub P) → nat_lt 0 (depth hub.stack) ≡ true → pop (with_session hub None).stack ≡ pop hub.stack
+pub popped_same : {P : Type 0} (hub : HubState P) → nat_lt 0 (depth hub.stack) ≡ true → pop (with_session hub None).stack ≡ pop hub.stack
 unfolding pop
 popped_same hub h = popped_same-by hub.stack.below _ _ h
 
@@ -379,13 +379,13 @@ module _ (key : ClientKey) where
 
 module _ {C : Type 0} where
   -- what is kept of a client to whose logs something came
-  pub logs_changed : (client : ClientHistory C) (kept : Client C) (entry : BatchEntry Log) (queue : Queue Log) → kept ≡ stored_client client
+  pub logs_changed : (client : ClientHistory C) (kept : ClientState C) (entry : BatchEntry Log) (queue : Queue Log) → kept ≡ stored_client client
       → queue ≡ batch.queue_of client.options.plain.max_batch_items (entry ∷ client.queues.logs) client.queues.log_tick
       → record kept { queues = record kept.queues { logs = queue } } ≡ stored_client (with_log_entry entry client)
   logs_changed client kept entry queue is q = λ i. record (is i) { queues = record (is i).queues { logs = q i } }
 
   -- the same of metrics
-  pub metrics_changed : (client : ClientHistory C) (kept : Client C) (entry : BatchEntry Metric) (queue : Queue Metric) → kept ≡ stored_client client
+  pub metrics_changed : (client : ClientHistory C) (kept : ClientState C) (entry : BatchEntry Metric) (queue : Queue Metric) → kept ≡ stored_client client
       → queue ≡ batch.queue_of client.options.plain.max_batch_items (entry ∷ client.queues.metrics) client.queues.metric_tick
       → record kept { queues = record kept.queues { metrics = queue } } ≡ stored_client (with_metric_entry entry client)
   metrics_changed client kept entry queue is q = λ i. record (is i) { queues = record (is i).queues { metrics = q i } }

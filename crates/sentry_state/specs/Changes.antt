@@ -5,7 +5,7 @@ use Rattle.sentry_base.specs.declared.protocol.keys.ClientKey.{ClientKey}
 use Rattle.sentry_base.specs.declared.protocol.keys.SessionKey.{SessionKey}
 use Rattle.sentry_sessions.specs.SessionQueues.{QueueEntry}
 use Rattle.sentry_sessions.specs.Sessions.{SessionEntry}
-use Rattle.sentry_hub_table.specs.declared.hub.Hub.{Hub}
+use Rattle.sentry_hub_table.specs.declared.hub.HubState.{HubState}
 use Rattle.sentry_state.specs.declared.state.State.{State}
 use Rattle.sentry_state.specs.Worlds.{World, ClientHistory, QueueHistories, SessionHistory, Stands, stored_client}
 use Rattle.sentry_base.specs.declared.protocol.keys.HubKey.{HubKey}
@@ -47,7 +47,7 @@ with_metric_entry entry client =
 -- ---- hubs
 
 -- the hub whose top scope has the last n of its breadcrumbs followed by the added ones
-abbrev pub with_breadcrumbs : {P : Type 0} → Hub P → ℕ → List Breadcrumb → Hub P
+abbrev pub with_breadcrumbs : {P : Type 0} → HubState P → ℕ → List Breadcrumb → HubState P
 with_breadcrumbs hub n added =
     with_scope hub (record hub.stack.top.scope {
       breadcrumbs = breadcrumb_trail n hub.stack.top.scope.breadcrumbs added;
@@ -55,9 +55,9 @@ with_breadcrumbs hub n added =
 
 module _ {P C : Type 0} where
   -- at a number that has a hub, what the function makes of that hub stands, and nothing else changed
-  abbrev pub ChangesHub : State P C → State P C → ℕ → (Hub P → Hub P) → Type 0
+  abbrev pub ChangesHub : State P C → State P C → ℕ → (HubState P → HubState P) → Type 0
   ChangesHub old new number f =
-      (world : World P C) (hub : Hub P) → Stands old world → value_at old.hubs number ≡ Some hub
+      (world : World P C) (hub : HubState P) → Stands old world → value_at old.hubs number ≡ Some hub
       → Stands new (record world { hubs = replace_at world.hubs number (f hub) })
 
   -- at a number that has a client, what the function makes of that client stands, and nothing else changed
@@ -93,7 +93,7 @@ module _ {P C : Type 0} where
   }
 
   -- the world in which the top layer of a hub names the session under the next number
-  abbrev pub with_next_session_named : ℕ → Hub P → World P C → World P C
+  abbrev pub with_next_session_named : ℕ → HubState P → World P C → World P C
   with_next_session_named number hub world = record world {
     next = record world.next { session = world.next.session + 1 };
     hubs = replace_at world.hubs number

@@ -8,14 +8,13 @@ use Rattle.sentry_options.specs.Options.{set_up}
 use Rattle.sentry_base.specs.declared.protocol.keys.Label.{Label}
 use Rattle.sentry_options.specs.declared.clientoptions.ClientOptions.{ClientOptions}
 use Rattle.sentry_scope.specs.Stacks.{is_client}
-use Rattle.sentry_pipeline.specs.OsAttributes.{os_attributes}
-use Rattle.sentry_pipeline.specs.Pipeline.{sdk_info}
+use Rattle.sentry_pipeline.specs.Pipeline.{os_attributes, sdk_info}
 use Rattle.std.specs.Option.{is_some}
-use Rattle.sentry_state.specs.declared.state.Client.{Client}
+use Rattle.sentry_state.specs.declared.state.ClientState.{ClientState}
 pub use Rattle.sentry_hub_table.specs.Hubs.{is_client_named}
 
 -- a client is enabled where its options have a DSN and its slot is occupied
-abbrev pub is_enabled_client : {C : Type 0} → Client C → Bool
+abbrev pub is_enabled_client : {C : Type 0} → ClientState C → Bool
 is_enabled_client client = is_some client.options.plain.dsn && client.occupied
 
 -- a session that goes on was started under the client

@@ -7,8 +7,8 @@ use Rattle.sentry_base.specs.declared.protocol.keys.HubKey.{HubKey}
 use Rattle.sentry_base.specs.declared.protocol.envelope.Envelope.{Envelope}
 use Rattle.sentry_base.specs.declared.protocol.refusal.Refusal.{Refusal}
 use Rattle.sentry_base.specs.declared.protocol.refusal.Refusal.TheVariants.{OutOfMemory}
-use Rattle.sentry_state.specs.declared.state.Client.{Client}
-use Rattle.sentry_hub_table.specs.declared.hub.Hub.{Hub}
+use Rattle.sentry_state.specs.declared.state.ClientState.{ClientState}
+use Rattle.sentry_hub_table.specs.declared.hub.HubState.{HubState}
 use Rattle.sentry_state.specs.declared.state.Out.{Out}
 use Rattle.sentry_state.specs.declared.state.State.{State}
 use Rattle.sentry_state.specs.Worlds.{World, ClientHistory, Stands, stored_client, SessionHistory}
@@ -87,14 +87,14 @@ module _ {P C : Type 0} where
   client_at world key = value_under world.tag world.clients key.tag key.number
 
   -- the same as the engine stores it
-  abbrev pub stored_client_at : World P C → ClientKey → Option (Client C)
+  abbrev pub stored_client_at : World P C → ClientKey → Option (ClientState C)
   stored_client_at world key = option_map stored_client (client_at world key)
 
-  abbrev pub hub_at : World P C → HubKey → Option (Hub P)
+  abbrev pub hub_at : World P C → HubKey → Option (HubState P)
   hub_at world key = value_under world.tag world.hubs key.tag key.number
 
   -- the world with another hub under a key that it has
-  abbrev pub with_hub : World P C → HubKey → Hub P → World P C
+  abbrev pub with_hub : World P C → HubKey → HubState P → World P C
   with_hub world key hub = record world { hubs = replace_at world.hubs key.number hub }
 
   -- no client is named, or one that is held

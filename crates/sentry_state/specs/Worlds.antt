@@ -11,15 +11,15 @@ use Rattle.sentry_batches.specs.Batches as batch
 use Rattle.sentry_client_reports.specs.LossBooks.{LossEntry, book_of}
 use Rattle.sentry_sessions.specs.SessionQueues.{QueueEntry, queue_of}
 use Rattle.sentry_sessions.specs.Sessions.{SessionEntry, session_of, session_attributes}
-use Rattle.sentry_pipeline.specs.DefaultAttributes.{default_log_attributes, default_metric_attributes}
+use Rattle.sentry_pipeline.specs.Pipeline.{default_log_attributes, default_metric_attributes}
 use Rattle.sentry_pipeline.specs.declared.os_attributes.OsAttributes.{OsAttributes}
 use Rattle.sentry_sessions.specs.declared.session.record.Session.{Session}
 use Rattle.sentry_sessions.specs.declared.session.record.SessionStart.{SessionStart}
 use Rattle.sentry_span_table.specs.SpanLists.{TransactionHistory, stored_transaction}
 use Rattle.sentry_span_table.specs.declared.table.records.SpanRecord.{SpanRecord}
 use Rattle.sentry_span_table.specs.declared.table.records.SpanTable.{SpanTable}
-use Rattle.sentry_state.specs.declared.state.Client.{Client}
-use Rattle.sentry_hub_table.specs.declared.hub.Hub.{Hub}
+use Rattle.sentry_state.specs.declared.state.ClientState.{ClientState}
+use Rattle.sentry_hub_table.specs.declared.hub.HubState.{HubState}
 use Rattle.sentry_state.specs.declared.state.NextNumbers.{NextNumbers}
 use Rattle.sentry_state.specs.declared.state.Queues.{Queues}
 use Rattle.sentry_state.specs.declared.state.State.{State}
@@ -55,7 +55,7 @@ pub record World (P C : Type 0) : Type 0 where
   pub tag : ℕ
   pub next : NextNumbers
   pub clients : List (ℕ × ClientHistory C)
-  pub hubs : List (ℕ × Hub P)
+  pub hubs : List (ℕ × HubState P)
   pub sessions : List (ℕ × SessionHistory)
   pub books : List (ℕ × List LossEntry)
   pub transactions : List (ℕ × TransactionHistory)
@@ -81,7 +81,7 @@ stored_session session = session_of session.start session.history
 module _ {C : Type 0} where
   -- what an engine stores of a client; what its logs, metrics and sessions have is made of its options, and of what is
   -- said of the operating system
-  abbrev pub stored_client : ClientHistory C → Client C
+  abbrev pub stored_client : ClientHistory C → ClientState C
   stored_client client = record {
     options = client.options;
     label = client.label;

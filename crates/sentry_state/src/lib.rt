@@ -3,3 +3,5 @@
 #![tactic(auto)]
 
 pub mod state;
+
+pub use state::{ClientState, Out, Queues, Sent, State};

@@ -16,15 +16,15 @@ use sentry_base::protocol::{
     ClientKey, ClientSdkInfo, Envelope, HubKey, Label, Log, LogAttribute, Metric,
     SessionAttributes, SessionKey,
 };
-use sentry_batches::batcher::Batch;
+use sentry_batches::Batch;
 use sentry_batches::tick::LastTick;
-use sentry_client_reports::client_reports::LossBook;
-pub use sentry_hub_table::hub::Hub;
-use sentry_hub_table::hub_table::HubTable;
-use sentry_options::clientoptions::{Callbacks, ClientOptions};
+use sentry_client_reports::LossBook;
+pub use sentry_hub_table::HubState;
+use sentry_hub_table::HubTable;
+use sentry_options::{Callbacks, ClientOptions};
 use sentry_plain::{Items, Shared, Table, TextMap};
-use sentry_sessions::session::{Session, SessionQueue};
-use sentry_span_table::table::SpanTable;
+use sentry_sessions::{Session, SessionQueue};
+use sentry_span_table::SpanTable;
 use std::alloc::{AllocError, Global};
 
 /// Envelopes that a call hands out, in order, each with the client whose transport is to send it.
@@ -58,7 +58,7 @@ impl Drop for Queues {
 }
 
 /// What an engine keeps of a client.
-pub struct Client<C> {
+pub struct ClientState<C> {
     pub options: Shared<ClientOptions<C>>,
     /// Names the table of losses that it records into.
     pub label: Label,
@@ -77,9 +77,9 @@ pub struct Client<C> {
     pub queues: Queues,
 }
 
-impl<C: Drop> Drop for Client<C> {
+impl<C: Drop> Drop for ClientState<C> {
     fn drop(self) {
-        let Client {
+        let ClientState {
             options: _,
             label: _,
             occupied: _,
@@ -108,7 +108,7 @@ pub struct State<P, C> {
     /// Each key that the engine gives carries it.
     pub tag: u64,
     pub next: NextNumbers,
-    pub clients: Table<Client<C>>,
+    pub clients: Table<ClientState<C>>,
     /// It also keeps how many layers name each client, session, transaction and span.
     pub hubs: HubTable<P>,
     /// The sessions that go on.
@@ -160,9 +160,9 @@ impl<P: Drop, C: Callbacks> State<P, C> {
     }
 
     /// The hub of a key, or `None` if it isn't held.
-    pub fn hub_at(&self, key: HubKey) -> Option<&Hub<P>>
+    pub fn hub_at(&self, key: HubKey) -> Option<&HubState<P>>
         ensures in_world { (world : World P C) → Stands self.now world → option_copied result ≡ hub_at world key }
-        ensures in_table { (hub : Hub P) → option_copied result ≡ Some hub →
+        ensures in_table { (hub : HubState P) → option_copied result ≡ Some hub →
             value_at self.now.hubs key.number ≡ Some hub }
         ensures held { OnSome result (is_some (value_at self.now.hubs key.number) ≡ true) }
     {
@@ -174,9 +174,9 @@ impl<P: Drop, C: Callbacks> State<P, C> {
 
     /// The client of a key, or `None` if it isn't held.
     #[tactic(auto, using(crate::proofs::Keeping::found_in_world))]
-    pub fn client_at(&self, key: ClientKey) -> Option<&Client<C>>
+    pub fn client_at(&self, key: ClientKey) -> Option<&ClientState<C>>
         ensures in_world { (world : World P C) → Stands self.now world → option_copied result ≡ stored_client_at world key }
-        ensures in_table { (client : Client C) → option_copied result ≡ Some client →
+        ensures in_table { (client : ClientState C) → option_copied result ≡ Some client →
             value_at self.now.clients key.number ≡ Some client }
         ensures held { OnSome result (is_some (value_at self.now.clients key.number) ≡ true) }
     {

@@ -2,11 +2,11 @@
 ghost use Rattle.std.specs.Prelude.{◌≡◌, Some, IfOk, OnOk};
 ghost use Rattle.sentry_plain.specs.Defaults.{with_default};
 ghost use Rattle.sentry_scope.specs.Fills.{KeepsOwn, fill_text};
-ghost use Rattle.sentry_pipeline.specs.DefaultAttributes.{default_metric_attributes, default_log_attributes, fill_defaults};
+ghost use Rattle.sentry_pipeline.specs.Pipeline.{default_metric_attributes, default_log_attributes, fill_defaults};
 
 use crate::os_attributes::OsAttributes;
 use sentry_base::protocol::LogAttribute;
-use sentry_options::clientoptions::PlainOptions;
+use sentry_options::PlainOptions;
 use sentry_options::constants::{SDK_NAME, VERSION};
 use sentry_plain::{Text, TextMap};
 use sentry_scope::attributes::put_if_absent;
@@ -42,7 +42,7 @@ fn add_if_any(
 
 /// The default attributes of metrics: name and version of the SDK, and of the options the environment, the release and
 /// the server name, where they are set.
-#[tactic(auto, unfolding(crate::specs::DefaultAttributes::default_metric_attributes))]
+#[tactic(auto, unfolding(crate::specs::Pipeline::default_metric_attributes))]
 pub fn default_metric_attributes(
     alloc: Global,
     options: &PlainOptions,
@@ -65,7 +65,7 @@ pub fn default_metric_attributes(
 
 /// The default attributes of logs: those of metrics, and the name and the version of the operating system, where they
 /// are known.
-#[tactic(auto, unfolding(crate::specs::DefaultAttributes::default_log_attributes))]
+#[tactic(auto, unfolding(crate::specs::Pipeline::default_log_attributes))]
 pub fn default_log_attributes(
     alloc: Global,
     options: &PlainOptions,

@@ -1,13 +1,13 @@
 //! What becomes of a log or a metric between its capture and its batch.
 ghost use Rattle.std.specs.Prelude.{◌≡◌, IfOk};
-ghost use Rattle.sentry_pipeline.specs.Telemetry.{prepare_log, prepare_metric};
+ghost use Rattle.sentry_pipeline.specs.Pipeline.{prepare_log, prepare_metric};
 
 use crate::pipeline::attributes::fill_defaults;
 use sentry_base::protocol::{Log, LogAttribute, Metric};
-use sentry_options::clientoptions::{Callbacks, ClientOptions};
+use sentry_options::{Callbacks, ClientOptions};
 use sentry_plain::TextMap;
-use sentry_scope::scope::Scope;
-use sentry_span_table::table::SpanTable;
+use sentry_scope::Scope;
+use sentry_span_table::SpanTable;
 use std::alloc::AllocError;
 
 /// Prepares a log for sending: it goes under the scope, gets the default attributes that it lacks, and goes through

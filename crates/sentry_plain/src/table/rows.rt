@@ -105,7 +105,7 @@ fn search<T>(rows: &[Row<T>], number: u64) -> Result<usize, usize>
     rows.binary_search_by_key(&number, |row| row.number())
 }
 
-/// Where the row of a number stands, or where it would. The last one is found at once.
+/// Where the row of a number stands, or where it would. The last two are found at once.
 pub(crate) fn find<T>(rows: &[Row<T>], number: u64) -> Result<usize, usize>
     requires { IsStrictlySortedBy nat_cmp (numbers rows.now) }
     ensures found { IfOk result (IsRowOf rows.now number) }
@@ -121,6 +121,9 @@ pub(crate) fn find<T>(rows: &[Row<T>], number: u64) -> Result<usize, usize>
     }
     if last < number {
         return Err(count);
+    }
+    if count > 1 && rows[count - 2].number() == number {
+        return Ok(count - 2);
     }
     search(rows, number)
 }
@@ -167,6 +170,11 @@ fn add<T: Drop>(
     ensures table { IfOk result (IsTable rows.new.items) }
     ensures err { OnErr result (rows.new.items ≡ rows.old.items) }
 {
+    if place == rows.len() {
+        rows.reserve(1)?;
+        rows.push_reserved(Row::Full(number, value));
+        return Ok(full + 1);
+    }
     rows.insert(place, Row::Full(number, value))?;
     Ok(full + 1)
 }
@@ -226,12 +234,29 @@ fn compact<T: Drop>(rows: &mut Vec<Row<T>>)
 // Fewer rows than this stay, with a value or without.
 const FEW: usize = 16;
 
-/// If half of the rows have no value, these go.
+// Removes the last row if it has no value.
+fn drop_last_empty<T: Drop>(rows: &mut Vec<Row<T>>, full: usize)
+    requires { IsTable rows.old.items full }
+    ensures live { live_rows rows.new.items ≡ live_rows rows.old.items }
+    ensures table { IsTable rows.new.items full }
+{
+    let count = rows.len();
+    if count == 0 {
+        return;
+    }
+    if rows[count - 1].is_full() {
+        return;
+    }
+    drop(rows.pop());
+}
+
+/// The last row goes if it has no value, and if half of the rows have none, these go.
 pub(crate) fn trim<T: Drop>(rows: &mut Vec<Row<T>>, full: usize)
     requires { IsTable rows.old.items full }
     ensures live { live_rows rows.new.items ≡ live_rows rows.old.items }
     ensures table { IsTable rows.new.items full }
 {
+    drop_last_empty(rows, full);
     let count = rows.len();
     if count > FEW && count / 2 > full {
         compact(rows);

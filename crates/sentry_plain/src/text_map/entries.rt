@@ -1,5 +1,5 @@
 //! The entries of a map from texts.
-ghost use Rattle.std.specs.Prelude.{◌≡◌, ◌==◌, [], IfOk, IfErr, IfSome, OnOk, OnErr, length, option_copied};
+ghost use Rattle.std.specs.Prelude.{◌≡◌, ◌==◌, [], ◌∷◌, IfOk, IfErr, IfSome, OnOk, OnErr, length, option_copied};
 ghost use Rattle.std.specs.List.Sorted.{IsStrictlySortedBy};
 ghost use Rattle.std.specs.Map.{keys_of};
 ghost use Rattle.sentry_plain.specs.Texts.{put, text_cmp, without, value_at, by_bytes, left_of};
@@ -309,6 +309,21 @@ impl<V> Entries<V> {
         ensures rest { self.new ≡ without self.old key.now }
     {
         self.body.remove(key)
+    }
+}
+
+impl<V: Drop> Entries<V> {
+    /// One entry.
+    pub fn of_one(alloc: Global, key: Text, value: V) -> Result<Entries<V>, AllocError>
+        ensures { IfOk result (λ made. made ≡ (key, value) ∷ []) }
+    {
+        let mut entries = Vec::new(alloc);
+        entries.reserve(1)?;
+        entries.push_reserved((key, value));
+        Ok(Entries {
+            alloc,
+            body: Body::List(entries),
+        })
     }
 }
 

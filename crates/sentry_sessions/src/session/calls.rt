@@ -12,7 +12,7 @@ use crate::session::record::{Session, SessionStart};
 use sentry_base::protocol::{
     ClientKey, Event, SessionAttributes, SessionStatus, SessionUpdate, User, Uuid,
 };
-use sentry_options::clientoptions::PlainOptions;
+use sentry_options::PlainOptions;
 use sentry_plain::{Shared, Text};
 use std::alloc::{AllocError, Global};
 

@@ -15,7 +15,7 @@ use crate::session::taken::TakenSessions;
 use sentry_base::protocol::{
     Envelope, EnvelopeItem, SessionAggregates, SessionAttributes, SessionUpdate,
 };
-use sentry_options::clientoptions::SessionMode;
+use sentry_options::SessionMode;
 use sentry_plain::{Items, Shared};
 use std::alloc::{AllocError, Global};
 use std::collections::BTreeMap;

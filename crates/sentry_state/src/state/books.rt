@@ -7,8 +7,8 @@ ghost use Rattle.sentry_state.specs.Books.{has_book, pending_report, with_entry}
 
 use crate::state::State;
 use sentry_base::protocol::{ClientReport, Label, Losses};
-use sentry_client_reports::client_reports::{LossBook, nothing_is_absorbed};
-use sentry_options::clientoptions::Callbacks;
+use sentry_client_reports::{LossBook, nothing_is_absorbed};
+use sentry_options::Callbacks;
 use std::alloc::AllocError;
 
 impl<P: Drop, C: Callbacks> State<P, C> {

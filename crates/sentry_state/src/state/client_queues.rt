@@ -1,34 +1,34 @@
 //! What comes to the queues of a client.
 ghost use Rattle.std.specs.Prelude.{◌≡◌, ◌&&◌, IfOk, OnOk, OnErr, Some, true, is_some};
 ghost use Rattle.sentry_plain.specs.Tables.{value_at};
-ghost use Rattle.sentry_batches.specs.Batches.{accept, batch_on, hands_out_next};
+ghost use Rattle.sentry_batches.specs.Batches.{accept, batch_on, next_fills_queue};
 ghost use Rattle.sentry_sessions.specs.QueueSteps.{fills_queue};
 ghost use Rattle.sentry_sessions.specs.SessionQueues.{enqueued, envelopes_on};
 ghost use Rattle.sentry_sessions.specs.TakenSessions.{taken_envelopes, HasRoom};
-ghost use Rattle.sentry_state.specs.declared.state.Client.{Client};
+ghost use Rattle.sentry_state.specs.declared.state.ClientState.{ClientState};
 ghost use Rattle.sentry_state.specs.Changes.{ChangesClient, with_client_entry, with_log_entry, with_metric_entry};
 ghost use Rattle.sentry_state.specs.Worlds.{ClientHistory, stored_client};
 
-use crate::state::{Client, State};
+use crate::state::{ClientState, State};
 use sentry_base::protocol::{Log, Metric, SessionUpdate};
-use sentry_options::clientoptions::Callbacks;
+use sentry_options::Callbacks;
 use sentry_plain::Items;
-use sentry_sessions::session::TakenSessions;
+use sentry_sessions::TakenSessions;
 use std::alloc::AllocError;
 
-impl<C> Client<C> {
+impl<C> ClientState<C> {
     /// Whether the next log makes the batch leave.
     pub fn sends_next_log(&self) -> bool
-        ensures { result ≡ (self.now.occupied && hands_out_next self.now.queues.logs) }
+        ensures { result ≡ (self.now.occupied && next_fills_queue self.now.queues.logs) }
     {
-        self.occupied && self.queues.logs.hands_out_next()
+        self.occupied && self.queues.logs.next_fills_queue()
     }
 
     /// Whether the next metric makes the batch leave.
     pub fn sends_next_metric(&self) -> bool
-        ensures { result ≡ (self.now.occupied && hands_out_next self.now.queues.metrics) }
+        ensures { result ≡ (self.now.occupied && next_fills_queue self.now.queues.metrics) }
     {
-        self.occupied && self.queues.metrics.hands_out_next()
+        self.occupied && self.queues.metrics.next_fills_queue()
     }
 }
 
@@ -59,7 +59,7 @@ impl<P: Drop, C: Callbacks> State<P, C> {
         update: SessionUpdate,
     ) -> Result<TakenSessions, AllocError>
         requires held { is_some (value_at self.old.clients number) ≡ true }
-        requires sends { (client : Client C) → value_at self.old.clients number ≡ Some client →
+        requires sends { (client : ClientState C) → value_at self.old.clients number ≡ Some client →
             fills_queue update client.queues.sessions ≡ true }
         ensures in_world { OnOk result (ChangesClient self.old self.new number (with_client_entry (enqueued update))) }
         ensures sent { IfOk result (λ taken. (client : ClientHistory C) →

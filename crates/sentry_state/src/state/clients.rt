@@ -8,16 +8,16 @@ ghost use Rattle.sentry_state.specs.Books.{with_book, is_label, without_unused_b
 ghost use Rattle.sentry_options.specs.Options.{set_up};
 ghost use Rattle.sentry_state.specs.Clients.{is_enabled_client, has_session_of, new_client, clone_from, queues_from};
 
-use crate::state::{Client, Queues, State};
+use crate::state::{ClientState, Queues, State};
 use sentry_base::protocol::{ClientKey, Label};
-use sentry_batches::batcher::Batch;
+use sentry_batches::Batch;
 use sentry_batches::tick::LastTick;
-use sentry_client_reports::client_reports::LossBook;
-use sentry_options::clientoptions::{Callbacks, ClientOptions, PlainOptions};
+use sentry_client_reports::LossBook;
+use sentry_options::{Callbacks, ClientOptions, PlainOptions};
 use sentry_pipeline::os_attributes::os_attributes;
 use sentry_pipeline::pipeline::{default_log_attributes, default_metric_attributes, sdk_info};
 use sentry_plain::{Shared, Table};
-use sentry_sessions::session::{Session, SessionQueue, session_attributes};
+use sentry_sessions::{Session, SessionQueue, session_attributes};
 use std::alloc::{AllocError, Global};
 
 // A share of the options, after the `setup` of their integrations.
@@ -51,7 +51,7 @@ pub fn new_client<C: Callbacks>(
     transport: bool,
     label: Label,
     now: u64,
-) -> Result<Client<C>, AllocError>
+) -> Result<ClientState<C>, AllocError>
     ensures client { IfOk result (λ client.
         client ≡ stored_client (new_client C.meanings options transport label now)) }
     ensures label { IfOk result (λ client. client.label ≡ label) }
@@ -64,7 +64,7 @@ pub fn new_client<C: Callbacks>(
     let metric_attributes = default_metric_attributes(alloc, &options.get().plain)?;
     let session_attributes = session_attributes(alloc, &options.get().plain)?;
     let queues = queues_from(alloc, &options.get().plain, now);
-    Ok(Client {
+    Ok(ClientState {
         options,
         label,
         occupied,
@@ -80,13 +80,13 @@ pub fn new_client<C: Callbacks>(
 /// A clone of a client that is made at a moment.
 pub fn clone_of<C: Drop>(
     alloc: Global,
-    client: &Client<C>,
+    client: &ClientState<C>,
     now: u64,
-) -> Result<Client<C>, AllocError>
+) -> Result<ClientState<C>, AllocError>
     ensures { IfOk result (λ clone. (state : ClientHistory C) → client.now ≡ stored_client state →
         clone ≡ stored_client (clone_from now state)) }
 {
-    Ok(Client {
+    Ok(ClientState {
         options: client.options.clone()?,
         label: client.label,
         occupied: client.occupied,
@@ -112,7 +112,7 @@ fn has_session_of(sessions: &Table<Session>, client: ClientKey) -> bool
 }
 
 // Whether a client has the label.
-fn has_client_of<C>(clients: &Table<Client<C>>, label: Label) -> bool
+fn has_client_of<C>(clients: &Table<ClientState<C>>, label: Label) -> bool
     ensures { result ≡ list_any (λ entry. is_label label entry.1.label) clients.now }
 {
     for (_, client) in clients.iter() {
@@ -123,7 +123,7 @@ fn has_client_of<C>(clients: &Table<Client<C>>, label: Label) -> bool
     false
 }
 
-impl<C> Client<C> {
+impl<C> ClientState<C> {
     /// Whether it has a DSN, now and when it was added, and a transport.
     pub fn is_enabled(&self) -> bool
         ensures { result ≡ is_enabled_client self.now }
@@ -135,7 +135,7 @@ impl<C> Client<C> {
 impl<P: Drop, C: Callbacks> State<P, C> {
     /// Holds a client under a number.
     #[tactic(auto, using(crate::proofs::Keeping::stored_in_world))]
-    pub fn insert_client(&mut self, number: u64, client: Client<C>) -> Result<(), AllocError>
+    pub fn insert_client(&mut self, number: u64, client: ClientState<C>) -> Result<(), AllocError>
         ensures in_world { OnOk result ((world : World P C) (state : ClientHistory C) → Stands self.old world →
             client ≡ stored_client state → Stands self.new (record world { clients = put world.clients number state })) }
         ensures rest { OnOk result ((self.new.tag ≡ self.old.tag) × (self.new.next ≡ self.old.next)
@@ -152,7 +152,7 @@ impl<P: Drop, C: Callbacks> State<P, C> {
     pub fn insert_client_and_book(
         &mut self,
         number: u64,
-        client: Client<C>,
+        client: ClientState<C>,
     ) -> Result<(), AllocError>
         ensures in_world { OnOk result ((world : World P C) (state : ClientHistory C) → Stands self.old world →
             client ≡ stored_client state → Stands self.new (record world {

@@ -4,18 +4,18 @@ ghost use Rattle.std.specs.Bool.{OnTrue};
 ghost use Rattle.sentry_plain.specs.Tables.{value_at, replace_at};
 ghost use Rattle.sentry_scope.specs.Scopes.{edit};
 ghost use Rattle.sentry_scope.specs.Stacks.{depth, push, pop};
-ghost use Rattle.sentry_hub_table.specs.declared.hub.Hub.{Hub};
+ghost use Rattle.sentry_hub_table.specs.declared.hub.HubState.{HubState};
 ghost use Rattle.sentry_state.specs.Breadcrumbs.{add_breadcrumbs};
 ghost use Rattle.sentry_state.specs.Changes.{ChangesHub, next_hub_key, with_breadcrumbs, with_new_hub};
 ghost use Rattle.sentry_state.specs.Outcomes.{Does};
 ghost use Rattle.sentry_hub_table.specs.Hubs.{with_client, with_scope, with_stack};
 ghost use Rattle.sentry_state.specs.Worlds.{World, Stands};
 
-use crate::state::{Hub, Out, State};
+use crate::state::{HubState, Out, State};
 use sentry_base::protocol::{Breadcrumb, ClientKey, HubKey, Refusal, Uuid};
-use sentry_options::clientoptions::Callbacks;
+use sentry_options::Callbacks;
 use sentry_plain::Few;
-use sentry_scope::scope::{Scope, ScopeEdit, Stack};
+use sentry_scope::{Scope, ScopeEdit, Stack};
 use std::alloc::AllocError;
 
 impl<P: Drop, C: Callbacks> State<P, C> {
@@ -37,7 +37,7 @@ impl<P: Drop, C: Callbacks> State<P, C> {
         ensures err { OnErr result (self.new ≡ self.old) }
     {
         let number = self.next.hub;
-        let hub = Hub {
+        let hub = HubState {
             stack,
             last_event_id: None,
         };
@@ -53,7 +53,7 @@ impl<P: Drop, C: Callbacks> State<P, C> {
     /// has changed.
     pub fn push_layer(&mut self, number: u64) -> Result<usize, AllocError>
         requires { is_some (value_at self.old.hubs number) ≡ true }
-        ensures in_world { IfOk result (λ pushed. (world : World P C) (hub : Hub P) → Stands self.old world →
+        ensures in_world { IfOk result (λ pushed. (world : World P C) (hub : HubState P) → Stands self.old world →
             value_at self.old.hubs number ≡ Some hub → (pushed ≡ depth (push hub.stack)) ×
             Stands self.new (record world { hubs = replace_at world.hubs number (with_stack hub (push hub.stack)) })) }
         ensures err { OnErr result (self.new ≡ self.old) }

@@ -2,15 +2,15 @@
 ghost use Rattle.std.specs.Prelude.{◌≡◌, ◌<◌, ◌+◌, ◌-◌, ◌^◌, Some, true, is_some};
 ghost use Rattle.std.specs.Bool.{OnTrue};
 ghost use Rattle.sentry_plain.specs.Tables.{value_at, replace_at, without};
-ghost use Rattle.sentry_hub_table.specs.declared.hub.Hub.{Hub};
+ghost use Rattle.sentry_hub_table.specs.declared.hub.HubState.{HubState};
 ghost use Rattle.sentry_state.specs.Changes.{ChangesHub, is_session_number_left};
 ghost use Rattle.sentry_hub_table.specs.Hubs.{with_session};
 ghost use Rattle.sentry_state.specs.Worlds.{World, SessionHistory, Stands, stored_session};
 
 use crate::state::State;
 use sentry_base::protocol::SessionKey;
-use sentry_options::clientoptions::Callbacks;
-use sentry_sessions::session::Session;
+use sentry_options::Callbacks;
+use sentry_sessions::Session;
 
 impl<P: Drop, C: Callbacks> State<P, C> {
     /// Whether a number is left for a session.
@@ -25,7 +25,7 @@ impl<P: Drop, C: Callbacks> State<P, C> {
     pub fn name_next_session(&mut self, number: u64)
         requires left { self.old.next.session < 2 ^ 64 - 1 }
         requires held { is_some (value_at self.old.hubs number) ≡ true }
-        ensures { (world : World P C) (hub : Hub P) → Stands self.old world → value_at self.old.hubs number ≡ Some hub →
+        ensures { (world : World P C) (hub : HubState P) → Stands self.old world → value_at self.old.hubs number ≡ Some hub →
             Stands self.new (record world {
               next = record world.next { session = world.next.session + 1 };
               hubs = replace_at world.hubs number
@@ -45,7 +45,7 @@ impl<P: Drop, C: Callbacks> State<P, C> {
         requires { is_some (value_at self.old.hubs number) ≡ true }
         ensures in_world { ChangesHub self.old self.new number (λ hub. with_session hub name) }
         ensures next { self.new.next ≡ self.old.next }
-        ensures engine { (hub : Hub P) → value_at self.old.hubs number ≡ Some hub →
+        ensures engine { (hub : HubState P) → value_at self.old.hubs number ≡ Some hub →
             self.new ≡ record self.old { hubs = replace_at self.old.hubs number (with_session hub name) } }
     {
         self.hubs.set_session(number, name);

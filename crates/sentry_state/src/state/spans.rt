@@ -13,9 +13,9 @@ ghost use Rattle.sentry_state.specs.Worlds.{World, Stands, span_table};
 
 use crate::state::State;
 use sentry_base::protocol::{Span, SpanKey, TransactionKey, TransactionOrSpanKey};
-use sentry_options::clientoptions::Callbacks;
+use sentry_options::Callbacks;
 use sentry_plain::{Boxed, Items};
-use sentry_span_table::table::{SpanRecord, SpanTable, TransactionRecord};
+use sentry_span_table::{SpanRecord, SpanTable, TransactionRecord};
 use std::alloc::AllocError;
 
 impl<P: Drop, C: Callbacks> State<P, C> {

@@ -2,7 +2,7 @@ use Rattle.std.proofs.Common.{◌≡◌, ◌∙◌, ap, sym, subst, None, ℕ, �
 use Rattle.sentry_plain.specs.Tables.{value_at}
 use Rattle.sentry_hub_table.specs.Names.{HasRoomFor, RaisesNames, all_layers}
 use Rattle.sentry_hub_table.specs.TrueNames.{TrueNames}
-use Rattle.sentry_hub_table.specs.declared.hub.Hub.{Hub}
+use Rattle.sentry_hub_table.specs.declared.hub.HubState.{HubState}
 use Rattle.sentry_hub_table.proofs.NameLemmas.{layers_come}
 use Rattle.sentry_hub_table.proofs.AllNameLemmas.{all_counted, all_room, all_come}
 use Rattle.sentry_hub_table.proofs.hub_table.HubTable.insert.Goals as goal
@@ -31,7 +31,7 @@ invariant_of-self-2 g c =
     let room = subst (HasRoomFor names) layers c.in_ok-reserve.ensures.ok in
     let none : value_at hubs number ≡ None = sym c.in_default.ensures in
     let raised = subst (RaisesNames names c.raise.new.self) c.layer_names-names.ensures c.raise.ensures in
-    subst (λ (now : List (ℕ × Hub g.row.P.Denot)). TrueNames (record { hubs = now; layers = c.in-Some-checked_add.layers; names = c.raise.new.self })) (sym c.in_ok-insert.ensures.ok) (record {
+    subst (λ (now : List (ℕ × HubState g.row.P.Denot)). TrueNames (record { hubs = now; layers = c.in-Some-checked_add.layers; names = c.raise.new.self })) (sym c.in_ok-insert.ensures.ok) (record {
       names = all_come hubs number hub none c.requires names c.raise.new.self counts room raised;
       layers = layers ∙ sym (layers_come hubs number hub none c.requires);
     })

@@ -3,7 +3,7 @@ use Rattle.sentry_plain.specs.Tables.{value_at}
 use Rattle.std.proofs.Common.{◌-◌}
 use Rattle.sentry_hub_table.specs.Names.{HasNames, LowersNames, HasAllLayers, LowersLayers}
 use Rattle.sentry_hub_table.specs.TrueNames.{TrueNames}
-use Rattle.sentry_hub_table.specs.declared.hub.Hub.{Hub}
+use Rattle.sentry_hub_table.specs.declared.hub.HubState.{HubState}
 use Rattle.sentry_hub_table.proofs.NameLemmas.{height_at_most, layers_gone, no_layers_gone}
 use Rattle.sentry_hub_table.proofs.AllNameLemmas.{all_named, all_below, all_gone, none_goes}
 use Rattle.sentry_hub_table.proofs.hub_table.HubTable.remove.Goals as goal
@@ -13,7 +13,7 @@ pub invariant_of-self : goal.invariant_of-self
 invariant_of-self g c =
     let hubs = c.self.inside.hubs in
     let none : value_at hubs c.args.number ≡ None = sym c.in_default.ensures.value in
-    subst (λ (left : List (ℕ × Hub g.row.P.Denot)). TrueNames (record c.self.inside { hubs = left })) (sym c.remove.ensures.rest) (record {
+    subst (λ (left : List (ℕ × HubState g.row.P.Denot)). TrueNames (record c.self.inside { hubs = left })) (sym c.remove.ensures.rest) (record {
       names = none_goes hubs c.args.number none c.self.inside.names c.self.invariant.names;
       layers = c.self.invariant.layers ∙ sym (no_layers_gone hubs c.args.number none);
     })
@@ -79,7 +79,7 @@ invariant_of-self-2 g c =
     let found : value_at hubs number ≡ Some hub = sym c.in-Some.ensures.value in
     let lowers = subst (LowersNames names c.lower.new.self) c.layer_names.ensures c.lower.ensures in
     let further = subst (LowersLayers c.lower.new.self c.lower_each.new.self) c.as_slice.ensures c.lower_each.ensures in
-    subst (λ (left : List (ℕ × Hub g.row.P.Denot)). TrueNames (record { hubs = left; layers = c.self.inside.layers - c.depth.result - 1; names = c.lower_each.new.self })) (sym c.remove.ensures.rest) (record {
+    subst (λ (left : List (ℕ × HubState g.row.P.Denot)). TrueNames (record { hubs = left; layers = c.self.inside.layers - c.depth.result - 1; names = c.lower_each.new.self })) (sym c.remove.ensures.rest) (record {
       names = all_gone hubs number hub found names c.lower.new.self c.lower_each.new.self counts lowers further;
       layers =
           let less = layers_gone hubs number hub found in

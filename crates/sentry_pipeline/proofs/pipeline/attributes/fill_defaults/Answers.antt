@@ -1,7 +1,7 @@
 use Rattle.std.proofs.Common.{◌≡◌, ◌∙◌, ap, sym}
 use Rattle.std.proofs.lemmas.Bool.{eqb-true}
 use Rattle.std.proofs.lemmas.List.{nil_from_length}
-use Rattle.sentry_pipeline.specs.DefaultAttributes.{fill_defaults}
+use Rattle.sentry_pipeline.specs.Pipeline.{fill_defaults}
 use Rattle.sentry_pipeline.proofs.DefaultLemmas.{filled_nil}
 use Rattle.sentry_pipeline.proofs.pipeline.attributes.fill_defaults.Goals as goal
 

@@ -1,6 +1,6 @@
 use Rattle.std.proofs.Common.{◌≡◌}
 use Rattle.sentry_scope.specs.Fills.{KeepsOwn}
-use Rattle.sentry_pipeline.specs.DefaultAttributes.{fill_defaults}
+use Rattle.sentry_pipeline.specs.Pipeline.{fill_defaults}
 use Rattle.sentry_pipeline.proofs.pipeline.attributes.fill_defaults.Given as goal
 
 -- the defaults that are left lead to the whole

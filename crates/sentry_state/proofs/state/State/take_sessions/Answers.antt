@@ -1,5 +1,5 @@
 use Rattle.std.proofs.Common.{◌≡◌, ◌∙◌, Some, ap, sym}
-use Rattle.sentry_state.specs.declared.state.Client.{Client}
+use Rattle.sentry_state.specs.declared.state.ClientState.{ClientState}
 use Rattle.sentry_state.specs.Worlds.{stored_client}
 use Rattle.sentry_state.proofs.Keeping.{client_replaced, queue_changed}
 use Rattle.sentry_state.proofs.state.State.take_sessions.Goals as goal
@@ -11,7 +11,7 @@ pub returns-clause-in_world : goal.returns-clause-in_world
 returns-clause-in_world g c = λ world client s found.
     let same : Some c.in-Some.client.now ≡ Some (stored_client client) = c.in-Some.ensures.value ∙ found in
     let is : c.in-Some.client.now ≡ stored_client client = cc in
-    let queue = c.in_ok-taken.ensures.after _ _ (ap (λ (kept : Client g.row.C.Denot). kept.queues.sessions) is) in
+    let queue = c.in_ok-taken.ensures.after _ _ (ap (λ (kept : ClientState g.row.C.Denot). kept.queues.sessions) is) in
     record {
       tag = s.tag;
       next = s.next;
@@ -26,4 +26,4 @@ pub returns-clause-sent : goal.returns-clause-sent
 returns-clause-sent g c = λ client found.
     let same : Some c.in-Some.client.now ≡ Some (stored_client client) = c.in-Some.ensures.value ∙ found in
     let is : c.in-Some.client.now ≡ stored_client client = cc in
-    c.in_ok-taken.ensures.sent _ _ (ap (λ (kept : Client g.row.C.Denot). kept.queues.sessions) is)
+    c.in_ok-taken.ensures.sent _ _ (ap (λ (kept : ClientState g.row.C.Denot). kept.queues.sessions) is)
