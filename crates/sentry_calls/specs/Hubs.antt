@@ -20,10 +20,10 @@ use Rattle.sentry_scope.specs.Stacks.{one_layer}
 use Rattle.sentry_base.specs.Callbacks.{Partial}
 use Rattle.sentry_options.specs.Meanings.{Meanings}
 use Rattle.sentry_events.specs.Captures.{message_event, capture_event}
-use Rattle.sentry_sending.specs.SessionEnds.{release_session}
+use Rattle.sentry_sending.specs.Sending.{release_session}
 use Rattle.sentry_state.specs.Changes.{next_hub_key, with_new_hub}
 use Rattle.sentry_hub_table.specs.Hubs.{with_session, with_scope}
-use Rattle.sentry_hub_table.specs.declared.hub.Hub.{Hub}
+use Rattle.sentry_hub_table.specs.declared.hub.HubState.{HubState}
 use Rattle.sentry_state.specs.Clients.{is_enabled_client}
 use Rattle.sentry_span_table.specs.SpanTables.{is_held}
 use Rattle.sentry_span_edits.specs.Setters.{with_edited}
@@ -55,13 +55,13 @@ module _ {P C : Type 0} where
       (require Stale world (is_held (span_table world) scope.span) (add_hub (one_layer client scope) world))
 
   -- the edits are done to the top scope of a hub, and name its active transaction too
-  abbrev pub configure_kept : HubKey → Hub P → List (ScopeEdit P) → World P C → Outcome P C (Unit {0})
+  abbrev pub configure_kept : HubKey → HubState P → List (ScopeEdit P) → World P C → Outcome P C (Unit {0})
   configure_kept key hub edits world =
       reply_with tt [] (with_renames (renames_after (span_table world) edits hub.stack.top.scope [])
       (with_hub world key (with_scope hub (edit_all edits hub.stack.top.scope))))
 
   -- the same, where one of them clears the scope: the layer gives up its session
-  abbrev pub configure_cleared : HubKey → Hub P → List (ScopeEdit P) → ℕ → World P C → Outcome P C (Unit {0})
+  abbrev pub configure_cleared : HubKey → HubState P → List (ScopeEdit P) → ℕ → World P C → Outcome P C (Unit {0})
   configure_cleared key hub edits now world =
       let released = release_session key.number hub now world in
       reply_with tt released.sent (with_renames (renames_after (span_table world) edits hub.stack.top.scope [])

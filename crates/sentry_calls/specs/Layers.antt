@@ -6,7 +6,7 @@ use Rattle.sentry_base.specs.declared.protocol.keys.HubKey.{HubKey}
 use Rattle.sentry_base.specs.declared.protocol.refusal.Refusal.TheVariants.{Stale, OutOfOrder, ScopesOpen}
 use Rattle.sentry_scope.specs.Stacks.{depth, push, pop, top_alone}
 use Rattle.sentry_calls.specs.Hubs.{add_hub}
-use Rattle.sentry_sending.specs.SessionEnds.{release_session}
+use Rattle.sentry_sending.specs.Sending.{release_session}
 use Rattle.sentry_state.specs.Worlds.{World}
 use Rattle.sentry_state.specs.Outcomes.{Outcome, require_some, require, reply_with, hub_at, is_held_or_none, with_hub}
 use Rattle.sentry_hub_table.specs.Hubs.{with_stack, with_client}

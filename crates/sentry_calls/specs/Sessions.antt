@@ -7,10 +7,8 @@ use Rattle.sentry_base.specs.declared.protocol.session.SessionStatus.{SessionSta
 use Rattle.sentry_sessions.specs.Sessions.{start_of}
 use Rattle.sentry_state.specs.Worlds.{World}
 use Rattle.sentry_state.specs.Outcomes.{Outcome, require_some, require, let_some, reply_with, hub_at, stored_client_at}
-use Rattle.sentry_sending.specs.Sending.{reply_sending}
-use Rattle.sentry_sending.specs.SessionEnds.{end_session}
+use Rattle.sentry_sending.specs.Sending.{reply_sending, end_session, replace_session}
 use Rattle.sentry_state.specs.Changes.{is_session_number_left}
-use Rattle.sentry_sending.specs.Sessions.{replace_session}
 
 module _ {P C : Type 0} where
   -- a session of the top layer's client, which needs a release, else nothing changes

@@ -5,7 +5,7 @@ use Rattle.sentry_calls.specs.declared.call.spans.records.SpanCall.{SpanCall}
 use Rattle.sentry_calls.specs.declared.call.spans.records.SpanCall.TheVariants.{StartTransaction, StartTransactionWithTimestamp, StartChild, StartChildWithDetails, ContinueFromSpan, SetData, SetTag, SetExtra, SetStatus, SetOp, SetName, SetRequest, SetOrigin, GetStatus, GetTraceContext, GetSpanId, Data, IterHeaders, IsSampled, FinishTransaction, FinishSpan, Discard}
 use Rattle.sentry_calls.specs.declared.call.spans.records.SpanReply.{SpanReply}
 use Rattle.sentry_calls.specs.declared.call.spans.records.SpanReply.TheVariants as reply
-use Rattle.sentry_span_edits.specs.Discards.{discard}
+use Rattle.sentry_spans.specs.Discards.{discard}
 use Rattle.sentry_span_edits.specs.Reads as reads
 use Rattle.sentry_span_edits.specs.Setters as setters
 use Rattle.sentry_spans.specs.Spans as spans

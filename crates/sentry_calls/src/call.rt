@@ -7,10 +7,10 @@ mod spans;
 pub use clients::ClientCall;
 pub use hubs::HubCall;
 use sentry_base::protocol::{ClientKey, ClientReport, Event, HubKey, Refusal, Uuid};
-use sentry_options::clientoptions::ClientOptions;
+use sentry_options::ClientOptions;
 use sentry_plain::{Boxed, Shared};
-use sentry_scope::scope::Scope;
-use sentry_state::state::Out;
+use sentry_scope::Scope;
+use sentry_state::Out;
 use sentry_texts::dsn::Dsn;
 pub use spans::{SpanCall, SpanReply, apply_span_call};
 

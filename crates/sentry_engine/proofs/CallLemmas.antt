@@ -31,17 +31,15 @@ use Rattle.sentry_calls.specs.Hubs.{configure, is_clear, with_renames}
 use Rattle.sentry_calls.specs.Layers.{pop_scope}
 use Rattle.sentry_state.specs.Outcomes.{Outcome, IsAnswer, memory, Does, client_at, stored_client_at, hub_at, require_some, let_some, reply_with, with_hub}
 use Rattle.sentry_hub_table.specs.Hubs.{with_scope, with_stack, with_session}
-use Rattle.sentry_sending.specs.Sending.{reply_sending}
-use Rattle.sentry_sending.specs.SessionEnds.{release_session}
+use Rattle.sentry_sending.specs.Sending.{reply_sending, release_session, replace_session}
 use Rattle.sentry_state.specs.Changes.{is_session_number_left}
 use Rattle.sentry_calls.specs.Active.{if_active}
 use Rattle.sentry_calls.specs.Sessions.{start_session}
-use Rattle.sentry_sending.specs.Sessions.{replace_session}
 use Rattle.sentry_span_table.specs.SpanTables.{has_transaction_of}
 use Rattle.sentry_state.specs.Worlds.{World, ClientHistory, Stands, stored_client, span_table}
-use Rattle.sentry_state.specs.declared.state.Client.{Client}
+use Rattle.sentry_state.specs.declared.state.ClientState.{ClientState}
 use Rattle.sentry_state.specs.declared.state.State.{State}
-use Rattle.sentry_hub_table.specs.declared.hub.Hub.{Hub}
+use Rattle.sentry_hub_table.specs.declared.hub.HubState.{HubState}
 
 and_left : (a b : Bool) → (a && b) ≡ true → a ≡ true
 and_left true b e = refl
@@ -59,7 +57,7 @@ is_above deep pushed top =
     grind (arith, nat_tests)
 
 -- a client that is found as an engine stores it
-found_of_stored : {C : Type 0} (found : Option (ClientHistory C)) (kept : Client C) → option_map stored_client found ≡ Some kept
+found_of_stored : {C : Type 0} (found : Option (ClientHistory C)) (kept : ClientState C) → option_map stored_client found ≡ Some kept
     → (client : ClientHistory C) × (found ≡ Some client) × (kept ≡ stored_client client)
 found_of_stored None kept is = absurd cc
 found_of_stored (Some client) kept is = let same : kept ≡ stored_client client = cc in (client, refl, same)
@@ -70,7 +68,7 @@ module _ {P C : Type 0} where
   dropped key label world = without_unused_book label (record world { clients = without world.clients key.number })
 
   -- a client that nothing names is flushed and dropped
-  pub drop_client_is : (key : ClientKey) (world : World P C) (kept : Client C) → stored_client_at world key ≡ Some kept
+  pub drop_client_is : (key : ClientKey) (world : World P C) (kept : ClientState C) → stored_client_at world key ≡ Some kept
       → is_client_named key world.hubs ≡ false → has_session_of key world.sessions ≡ false
       → has_transaction_of (span_table world) key ≡ false
       → drop_client key world ≡ reply_with tt (flush_queues All key world).sent (dropped key kept.label (flush_queues All key world).after)
@@ -79,7 +77,7 @@ module _ {P C : Type 0} where
       rw found (rw unnamed (rw no_session (rw no_transaction refl)))
 
   -- the top layer of a hub that is not the only one is popped
-  pub pop_scope_is : (key : HubKey) (pushed now : ℕ) (world : World P C) (hub : Hub P) → hub_at world key ≡ Some hub
+  pub pop_scope_is : (key : HubKey) (pushed now : ℕ) (world : World P C) (hub : HubState P) → hub_at world key ≡ Some hub
       → (depth hub.stack == pushed && nat_lt 0 pushed) ≡ true
       → pop_scope key pushed now world
       ≡ reply_with tt (release_session key.number hub now world).sent
@@ -88,19 +86,19 @@ module _ {P C : Type 0} where
   pop_scope_is key pushed now world hub found top = rw found (rw top refl)
 
   -- a call on a hub that is active
-  pub active_is : (key : HubKey) (call : World P C → Outcome P C (Unit {0})) (world : World P C) (hub : Hub P) (client_key : ClientKey) (client : Client C)
+  pub active_is : (key : HubKey) (call : World P C → Outcome P C (Unit {0})) (world : World P C) (hub : HubState P) (client_key : ClientKey) (client : ClientState C)
       → hub_at world key ≡ Some hub → hub.stack.top.client ≡ Some client_key
       → stored_client_at world client_key ≡ Some client → is_enabled_client client ≡ true → if_active key call world ≡ call world
   active_is key call world hub client_key client found named client_found enabled =
-      ap (λ (o : Option (Hub P)). require_some Stale world o (λ held. let_some held.stack.top.client (reply_with tt [] world) (λ k.
+      ap (λ (o : Option (HubState P)). require_some Stale world o (λ held. let_some held.stack.top.client (reply_with tt [] world) (λ k.
       let_some (stored_client_at world k) (reply_with tt [] world) (λ c. if is_enabled_client c then call world else reply_with tt [] world)))) found
       ∙ (ap (λ (o : Option ClientKey). let_some o (reply_with tt [] world) (λ k.
       let_some (stored_client_at world k) (reply_with tt [] world) (λ c. if is_enabled_client c then call world else reply_with tt [] world))) named
-      ∙ (ap (λ (o : Option (Client C)). let_some o (reply_with tt [] world) (λ c. if is_enabled_client c then call world else reply_with tt [] world)) client_found
+      ∙ (ap (λ (o : Option (ClientState C)). let_some o (reply_with tt [] world) (λ c. if is_enabled_client c then call world else reply_with tt [] world)) client_found
       ∙ ap (λ (b : Bool). if b then call world else reply_with tt [] world) enabled))
 
   -- a session that starts
-  pub start_session_is : (key : HubKey) (fresh : Fresh) (world : World P C) (hub : Hub P) (client_key : ClientKey) (client : Client C)
+  pub start_session_is : (key : HubKey) (fresh : Fresh) (world : World P C) (hub : HubState P) (client_key : ClientKey) (client : ClientState C)
       → (attributes : SessionAttributes) → hub_at world key ≡ Some hub → hub.stack.top.client ≡ Some client_key
       → stored_client_at world client_key ≡ Some client → client.session_attributes ≡ Some attributes
       → is_session_number_left world ≡ true
@@ -112,7 +110,7 @@ module _ {P C : Type 0} where
       rw found (rw named (rw client_found (rw has (rw left refl))))
 
   -- edits one of which clears the scope
-  pub configure_is : (key : HubKey) (edits : List (ScopeEdit P)) (now : ℕ) (world : World P C) (hub : Hub P) → hub_at world key ≡ Some hub
+  pub configure_is : (key : HubKey) (edits : List (ScopeEdit P)) (now : ℕ) (world : World P C) (hub : HubState P) → hub_at world key ≡ Some hub
       → all_name_held_spans (span_table world) edits ≡ true → list_any is_clear edits ≡ true
       → configure key edits now world
       ≡ reply_with tt (release_session key.number hub now world).sent
@@ -122,7 +120,7 @@ module _ {P C : Type 0} where
   configure_is key edits now world hub found held clears = rw found (rw held (rw clears refl))
 
   -- edits none of which clears the scope
-  pub configure_kept_is : (key : HubKey) (edits : List (ScopeEdit P)) (now : ℕ) (world : World P C) (hub : Hub P) → hub_at world key ≡ Some hub
+  pub configure_kept_is : (key : HubKey) (edits : List (ScopeEdit P)) (now : ℕ) (world : World P C) (hub : HubState P) → hub_at world key ≡ Some hub
       → all_name_held_spans (span_table world) edits ≡ true → list_any is_clear edits ≡ false
       → configure key edits now world
       ≡ reply_with tt []
@@ -178,7 +176,7 @@ module _ {P C : Type 0} where
   clone_client_is key now world client found left = rw found (rw left refl)
 
   -- a client that is found under a key, as an engine stores it
-  pub history_of_stored : (world : World P C) (key : ClientKey) (kept : Client C) → stored_client_at world key ≡ Some kept
+  pub history_of_stored : (world : World P C) (key : ClientKey) (kept : ClientState C) → stored_client_at world key ≡ Some kept
       → (client : ClientHistory C) × (client_at world key ≡ Some client) × (kept ≡ stored_client client)
   history_of_stored world key kept is = found_of_stored (client_at world key) kept is
 

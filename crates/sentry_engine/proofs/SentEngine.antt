@@ -17,7 +17,7 @@ use Rattle.sentry_plain.specs.contracts.shared.Shared as SharedOf
 use Rattle.sentry_plain.specs.contracts.text_map.TextMap as TextMapOf
 use Rattle.sentry_base.specs.contracts.protocol.log.LogAttribute as LogAttribute
 use Rattle.sentry_base.specs.contracts.protocol.session.SessionAttributes as AttributesOfSessions
-use Rattle.sentry_state.specs.contracts.state.Client as Client
+use Rattle.sentry_state.specs.contracts.state.ClientState as ClientState
 use Rattle.sentry_state.specs.contracts.state.State as State
 use Rattle.sentry_engine.specs.contracts.engine.Engine as Engine
 use Rattle.sentry_base.proofs.Crossing.{LogAttribute_send, LogAttribute_sync, Sdk_send}
@@ -31,10 +31,10 @@ LogAttributes_send : IsSend (TextMapOf.the_row LogAttribute.the_row)
 LogAttributes_send = search (TextMap.the_send, LogAttribute_send, LogAttribute_sync, sendable) depth 60 fits 20000
 
 module _ (C : RattleType) (cs : IsSend C) (cy : IsSync C) where
-  pub Client_field_send : IsSend (Client.the_field C).row
+  pub Client_field_send : IsSend (ClientState.the_field C).row
   Client_field_send = search (Shared.the_send, ClientOptions.the_send, ClientOptions.the_sync, Label.the_field_send, Sdk_send, LogAttributes_send, Option.the_field_send, SessionAttributes_send, Queues_field_send, sendable) depth 60 fits 20000
 
-  pub Client_send : IsSend (Client.the_row C)
+  pub Client_send : IsSend (ClientState.the_row C)
   Client_send = search (Client_field_send, sendable)
 
 module _ (P C : RattleType) (ps : IsSend P) (py : IsSync P) (cs : IsSend C) (cy : IsSync C) where

@@ -21,7 +21,7 @@ use Rattle.sentry_scope.proofs.scope.trail.Trail.TheSendSync as Trail
 use Rattle.sentry_scope.specs.contracts.scope.Scope as Scope
 use Rattle.sentry_scope.specs.contracts.scope.stack.StackLayer as StackLayer
 use Rattle.sentry_scope.specs.contracts.scope.stack.Stack as Stack
-use Rattle.sentry_hub_table.specs.contracts.hub.Hub as Hub
+use Rattle.sentry_hub_table.specs.contracts.hub.HubState as HubState
 use Rattle.sentry_hub_table.specs.contracts.hub_table.HubTable as HubTable
 use Rattle.sentry_base.proofs.Crossing.{Breadcrumb_send, Breadcrumb_sync, Context_send, Context_sync, User_send, User_sync, ValueMap_send, ValueMap_sync}
 
@@ -83,10 +83,10 @@ module _ (P : RattleType) (ps : IsSend P) (py : IsSync P) where
   pub Stack_send : IsSend (Stack.the_row P)
   Stack_send = search (Stack_field_send, sendable)
 
-  pub Hub_field_send : IsSend (Hub.the_field P).row
+  pub Hub_field_send : IsSend (HubState.the_field P).row
   Hub_field_send = search (Stack_field_send, Option.the_field_send, sendable) depth 60 fits 20000
 
-  pub Hub_send : IsSend (Hub.the_row P)
+  pub Hub_send : IsSend (HubState.the_row P)
   Hub_send = search (Hub_field_send, sendable)
 
   pub HubTable_send : IsSend (HubTable.the_row P)

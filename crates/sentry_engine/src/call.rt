@@ -17,8 +17,10 @@ ghost use Rattle.sentry_laws.specs.LossesByCalls.{RecordsLossesByCalls, CallsAdd
 ghost use Rattle.sentry_laws.specs.SentItems.{SendsAcceptedLogs, SendsAcceptedMetrics};
 ghost use Rattle.sentry_laws.specs.SentItems.{SendsLogsAtEachCall, SendsMetricsAtEachCall};
 ghost use Rattle.sentry_laws.specs.Accepted.{AcceptsLogsByCalls, AcceptsMetricsByCalls};
+ghost use Rattle.sentry_laws.specs.Closed.{ClosedByCalls};
 ghost use Rattle.sentry_laws.specs.Sessions.{SecondEndsAreSilent};
-ghost use Rattle.sentry_laws.specs.Traces.{KeptSpansAreInTrace, HeldSpansAreInTrace};
+ghost use Rattle.sentry_laws.specs.Traces.{KeptSpansAreInTrace, HeldSpansAreInTrace, SentSpansAreInTrace};
+ghost use Rattle.sentry_laws.specs.Statuses.{SessionsKeepStatus};
 ghost use Rattle.sentry_laws.specs.Updates.{StatusesStay};
 ghost use Rattle.sentry_state.specs.Outcomes.{DoesWith};
 ghost use Rattle.sentry_state.specs.Worlds.{World, Stands, first_world};
@@ -32,7 +34,7 @@ use crate::engine::Engine;
 use sentry_base::callbacks::EventCallback;
 use sentry_base::protocol::Refusal;
 pub use sentry_calls::call::{Answer, Call, ClientCall, HubCall, Reply, SpanCall, SpanReply};
-use sentry_options::clientoptions::Callbacks;
+use sentry_options::Callbacks;
 use std::alloc::Global;
 
 impl<P: EventCallback + Drop, C: Callbacks> Engine<P, C> {
@@ -50,10 +52,11 @@ impl<P: EventCallback + Drop, C: Callbacks> Engine<P, C> {
     /// Makes the calls in turn on a new engine, and answers it with one answer a call.
     ///
     /// The laws of `sentry_laws` hold of these calls and answers: a hub shows what its own calls did (`hubs`), options
-    /// of clients stay (`options`), accepted logs and metrics are sent (`logs`, `metrics`), spans are in the trace of
-    /// their transaction (`traces`), reports add up (`reports`) to what the calls lose (`losses`), a pop undoes its push
-    /// (`layers`), the status of a session that ended stays (`status`), a second end is silent (`once`), and what is named
-    /// is held, as each session that is held is named (`worlds`). `runs_split` takes a run apart.
+    /// of clients stay (`options`), accepted logs and metrics are sent (`logs`, `metrics`), and none waits after a close
+    /// (`closed`), spans are in the trace of their transaction (`traces`), also those that are sent (`sent`), reports add
+    /// up (`reports`) to what the calls lose (`losses`), a pop undoes its push (`layers`), the status of a session that
+    /// ended stays (`status`, `kept`), a second end is silent (`once`), and what is named is held, as each session that is
+    /// held is named (`worlds`). `runs_split` takes a run apart.
     ///
     /// `OutOfMemory`: no memory for the list of answers; then no call was made.
     pub fn run(
@@ -75,8 +78,12 @@ impl<P: EventCallback + Drop, C: Callbacks> Engine<P, C> {
             (λ last run. SendsAcceptedMetrics calls.items end.1.items last
             × SendsMetricsAtEachCall P.gives C.meanings (first_world tag) calls.items end.1.items last run
             × AcceptsMetricsByCalls P.gives C.meanings (first_world tag) calls.items end.1.items last run)) }
+        ensures closed { IfOk result (λ end. AtEnd P.gives C.meanings tag calls.items end.1.items
+            (λ last run. ClosedByCalls calls.items end.1.items last)) }
         ensures traces { IfOk result (λ end. AtEnd P.gives C.meanings tag calls.items end.1.items
             (λ last run. KeptSpansAreInTrace last × HeldSpansAreInTrace last)) }
+        ensures sent { IfOk result (λ end. AtEnd P.gives C.meanings tag calls.items end.1.items
+            (λ last run. SentSpansAreInTrace calls.items end.1.items)) }
         ensures reports { IfOk result (λ end. AtEnd P.gives C.meanings tag calls.items end.1.items
             (λ last run. LabelsAddUp P.gives C.meanings (first_world tag) calls.items end.1.items last run)) }
         ensures losses { IfOk result (λ end. AtEnd P.gives C.meanings tag calls.items end.1.items
@@ -89,6 +96,8 @@ impl<P: EventCallback + Drop, C: Callbacks> Engine<P, C> {
             (λ last run. PushesAreUndone P.gives C.meanings (first_world tag) calls.items end.1.items last run)) }
         ensures status { IfOk result (λ end. AtEnd P.gives C.meanings tag calls.items end.1.items
             (λ last run. StatusesStay P.gives C.meanings (first_world tag) calls.items end.1.items last run)) }
+        ensures kept { IfOk result (λ end. AtEnd P.gives C.meanings tag calls.items end.1.items
+            (λ last run. SessionsKeepStatus P.gives C.meanings (first_world tag) calls.items end.1.items last run)) }
         ensures once { IfOk result (λ end. AtEnd P.gives C.meanings tag calls.items end.1.items
             (λ last run. SecondEndsAreSilent P.gives C.meanings (first_world tag) calls.items end.1.items last run)) }
         ensures refused { IfErr result (λ refusal. refusal ≡ OutOfMemory) }

@@ -15,9 +15,9 @@ mod telemetry;
 
 pub use facts::Held;
 pub use layers::ScopeGuard;
-use sentry_options::clientoptions::Callbacks;
-use sentry_state::state::State;
-pub use sentry_state::state::{Out, Sent};
+use sentry_options::Callbacks;
+use sentry_state::State;
+pub use sentry_state::{Out, Sent};
 use std::alloc::Global;
 use std::marker::Model;
 

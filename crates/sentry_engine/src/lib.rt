@@ -3,3 +3,5 @@
 
 pub mod call;
 pub mod engine;
+
+pub use engine::{Engine, Held, Out, ScopeGuard, Sent};

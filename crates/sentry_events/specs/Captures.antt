@@ -27,7 +27,7 @@ use Rattle.sentry_pipeline.specs.Pipeline.{Prepared, prepare_event, loss_reason}
 use Rattle.sentry_pipeline.specs.declared.pipeline.Preparation.{Preparation}
 use Rattle.sentry_pipeline.specs.declared.pipeline.Preparation.TheVariants.{Kept, SampledOut, Dropped}
 use Rattle.sentry_span_table.specs.declared.table.records.SpanTable.{SpanTable}
-use Rattle.sentry_state.specs.declared.state.Client.{Client}
+use Rattle.sentry_state.specs.declared.state.ClientState.{ClientState}
 use Rattle.sentry_sessions.specs.declared.session.record.Session.{Session}
 use Rattle.sentry_sessions.specs.Sessions.{event_reached, hand_out, pending_update}
 use Rattle.sentry_state.specs.Books.{pending_report, with_entry_if_any}
@@ -75,7 +75,7 @@ capture_of_prepared prepared = record {
 
 -- on an empty slot nothing runs, and nothing is lost
 unfoldable pub capture : {P C : Type 0}
-    → (P → Partial) → (C → Meanings) → SpanTable → Client C → Option (Scope P) → Fresh → Event → Capture
+    → (P → Partial) → (C → Meanings) → SpanTable → ClientState C → Option (Scope P) → Fresh → Event → Capture
 capture gives meanings spans client scope fresh event =
     if client.occupied then capture_of_prepared (prepare_event gives meanings spans client.options client.sdk scope fresh event)
     else record { reached = None; event = None; entry = None }
@@ -97,7 +97,7 @@ is_application Application = true
 is_application Request = false
 
 -- an event that is sent takes along what the server is to be told of the session, in the mode of applications
-abbrev pub takes_update : {C : Type 0} → Client C → Capture → Bool
+abbrev pub takes_update : {C : Type 0} → ClientState C → Capture → Bool
 takes_update client made = is_some made.event && is_application client.options.plain.session_mode
 
 -- the update that goes out with an event, and the session after it
@@ -125,7 +125,7 @@ session_after captured = option_map (λ found. stored_session found.after) captu
 module _ {P C : Type 0} where
   -- the session that a layer names, after a capture
   abbrev pub capture_named_session :
-      World P C → Option SessionKey → Client C → Capture → Option SessionCapture
+      World P C → Option SessionKey → ClientState C → Capture → Option SessionCapture
   capture_named_session world name client made =
       option_map (capture_session (takes_update client made) made.reached) (named_session world name)
 

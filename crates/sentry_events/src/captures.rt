@@ -19,13 +19,13 @@ use sentry_base::protocol::{
     Attachment, Category, ClientKey, ClientReport, Envelope, EnvelopeHeaders, EnvelopeItem, Event,
     Fresh, HubKey, Label, Losses, Reason, Refusal, SessionKey, SessionUpdate, Uuid,
 };
-use sentry_options::clientoptions::{Callbacks, SessionMode};
+use sentry_options::{Callbacks, SessionMode};
 use sentry_pipeline::pipeline::{Preparation, prepare_event};
 use sentry_plain::{Boxed, Items};
-use sentry_scope::scope::Scope;
-use sentry_sessions::session::Session;
-use sentry_span_table::table::SpanTable;
-use sentry_state::state::{Client, Out, Sent, State};
+use sentry_scope::Scope;
+use sentry_sessions::Session;
+use sentry_span_table::SpanTable;
+use sentry_state::{ClientState, Out, Sent, State};
 use std::alloc::{AllocError, Global};
 
 /// Runs a captured event through the pipeline, in place: the event that came through all callbacks is left, or `None`.
@@ -33,7 +33,7 @@ use std::alloc::{AllocError, Global};
 #[tactic(auto, unfolding(crate::specs::Captures::capture))]
 pub fn capture<P: EventCallback + Drop, C: Callbacks>(
     alloc: Global,
-    client: &Client<C>,
+    client: &ClientState<C>,
     spans: &SpanTable,
     scope: Option<&Scope<P>>,
     fresh: Fresh,
@@ -76,7 +76,7 @@ pub fn drop_unsent(preparation: &Option<Preparation>, event: &mut Option<Boxed<E
 
 // Whether an event that became this is sent along with its session's update.
 fn takes_update<C>(
-    client: &Client<C>,
+    client: &ClientState<C>,
     preparation: &Option<Preparation>,
     event: &Option<Boxed<Event>>,
 ) -> bool

@@ -27,7 +27,7 @@ use Rattle.sentry_calls.specs.declared.call.hubs.HubCall.TheVariants.{NewHub, Ne
 use Rattle.sentry_calls.specs.declared.call.Reply.{Reply}
 use Rattle.sentry_calls.specs.declared.call.Reply.TheVariants as reply
 use Rattle.sentry_calls.specs.Steps.{step}
-use Rattle.sentry_laws.proofs.Effects.{Effect, client_added, client_cloned, hub_made, hub_made_from, hub_changed, hub_released, losses_absorbed, report_taken, session_begun, client_dropped, item_came, effects, client_effects, hub_effects, on_client, on_hub, on_report}
+use Rattle.sentry_laws.proofs.Effects.{Effect, client_added, client_cloned, hub_made, hub_made_from, hub_changed, hub_released, losses_absorbed, report_taken, session_begun, client_dropped, came_to_queues, effects, client_effects, hub_effects, on_client, on_hub, on_report}
 use Rattle.sentry_laws.proofs.Trails.{is_own, own_effects, TellsBy}
 use Rattle.sentry_laws.proofs.Calls.{told_step}
 use Rattle.sentry_laws.specs.SentItems.{handed_in}
@@ -168,7 +168,7 @@ module _ {P C : Type 0} {meanings : C → Meanings} where
       sending_books client.label (send key client (envelopes_on_arrival arrival client)
       (with_client_history world key (after_arrival arrival client))).sent
       (with_client_history world key (after_arrival arrival client))
-  books_change (accepts world key client arrival is_log is_off found open_ came) h =
+  books_change (accepts world key client arrival kind is_off found open_ came) h =
       sending_books client.label (send key client (envelopes_on_arrival arrival client)
       (with_client_history world key (after_arrival arrival client))).sent
       (with_client_history world key (after_arrival arrival client))
@@ -179,7 +179,7 @@ module _ {P C : Type 0} {meanings : C → Meanings} where
   books_change (takes_report world label has) h = with_silent world label report_point (λ history i. refl)
   books_change (absorbs world label losses has) h = absurd cc
   books_change (starts_none world number id) h = unchanged world.books
-  books_change (accepts_none world is_log) h = unchanged world.books
+  books_change (accepts_none world kind) h = unchanged world.books
   books_change (starts_session world number start) h = unchanged world.books
   books_change (changes_session world number old new later found same) h = unchanged world.books
   books_change (ends_session world number) h = unchanged world.books
@@ -210,7 +210,7 @@ module _ {P C : Type 0} where
   silent_own (report_taken label report) h = absurd cc
   silent_own (session_begun number id) h = refl
   silent_own (client_dropped number) h = refl
-  silent_own (item_came is_log) h = refl
+  silent_own (came_to_queues kind) h = refl
 
   loud-by : (b : Bool) (effect : Effect P C) (rest own : List (Effect P C)) → is_own effect ≡ b
       → (list_any is_loud own ≡ false → list_any is_loud rest ≡ false)

@@ -4,7 +4,7 @@ use Rattle.std.proofs.lemmas.List.{append-nil}
 use Rattle.std.specs.Prelude.{Option, Some, None, Result, Ok, Err, if◌then◌else◌, ◌==◌, ◌&&◌, ◌||◌, not}
 use Rattle.std.specs.List.{list_any}
 use Rattle.std.specs.Option.{option_map, option_to_list}
-use Rattle.sentry_plain.specs.Tables.{value_at, put}
+use Rattle.sentry_plain.specs.Tables.{value_at}
 use Rattle.sentry_base.specs.Callbacks.{Partial}
 use Rattle.sentry_base.specs.declared.protocol.envelope.Envelope.{Envelope}
 use Rattle.sentry_base.specs.declared.protocol.keys.ClientKey.{ClientKey}
@@ -17,16 +17,15 @@ use Rattle.sentry_base.specs.declared.protocol.refusal.Refusal.{Refusal}
 use Rattle.sentry_base.specs.declared.protocol.refusal.Refusal.TheVariants.{Stale}
 use Rattle.sentry_options.specs.Meanings.{Meanings}
 use Rattle.sentry_batches.specs.Batches.{BatchEntry, accept, accepted_items, tick_history, batch_on}
-use Rattle.sentry_client_reports.specs.LossBooks.{LossEntry}
 use Rattle.sentry_scope.specs.declared.scope.Scope as declared_scope
 use Rattle.sentry_span_table.specs.SpanTables.{is_held}
 use Rattle.sentry_batches.specs.declared.batcher.TheConstants.{BATCH_INTERVAL}
 use Rattle.sentry_telemetry.specs.Flushes.{is_flushed, batch_envelopes}
 use Rattle.sentry_telemetry.specs.Telemetry.{client_log, client_metric, keep_log, keep_metric, accept_log, accept_metric}
 use Rattle.sentry_sending.specs.Sending.{send, send_nothing, send_some, after_sending}
-use Rattle.sentry_state.specs.declared.state.Client.{Client}
+use Rattle.sentry_state.specs.declared.state.ClientState.{ClientState}
 use Rattle.sentry_state.specs.declared.state.Out.{Out}
-use Rattle.sentry_state.specs.Clients.{queues_from, clone_from}
+use Rattle.sentry_state.specs.Clients.{queues_from}
 use Rattle.sentry_state.specs.Outcomes.{Outcome, require, require_some, let_some, client_at, hub_at}
 use Rattle.sentry_state.specs.Changes.{with_client_history, with_log_entry, with_metric_entry}
 use Rattle.sentry_state.specs.Worlds.{World, ClientHistory, QueueHistories, stored_client, span_table, starting_world}
@@ -42,211 +41,36 @@ use Rattle.sentry_calls.specs.Telemetry as telemetry
 use Rattle.sentry_calls.specs.Runs.{StepsTo, Run}
 use Rattle.sentry_calls.specs.Steps.{client_step, hub_step}
 use Rattle.sentry_calls.specs.Replies.{map_answer}
+use Rattle.sentry_laws.specs.Closed.{closes}
 use Rattle.sentry_laws.specs.Accepted.{comes_to, comes_under, comes_on, logs_by, metrics_by, AcceptsByCalls, AcceptsLogsByCalls, AcceptsMetricsByCalls}
-use Rattle.sentry_laws.proofs.Effects.{Effect, scope_edited, breadcrumbs_came, client_bound, layer_pushed, layer_popped, session_named, hub_changed, client_added, client_cloned, hub_made, hub_made_from, hub_released, losses_absorbed, report_taken, session_begun, client_dropped, item_came, effects, client_effects, hub_effects}
-use Rattle.sentry_laws.proofs.Changes.{Change, Changes, nothing, one, both, IsArrival, IsItem, Arrival, log_came, metric_came, session_ended, flush_came, after_arrival, envelopes_on_arrival, makes_hub, makes_hub_from, changes_hub, leaves_hub, notes_event_id, releases_hub, adds_client, clones_client, drops_client, arrives, accepts, accepts_none, mails, loses, takes_report, absorbs, starts_none, starts_session, changes_session, ends_session, starts_transaction, starts_span, changes_spans}
-use Rattle.sentry_laws.proofs.Tables.{AreBelow, below_put, below_replaced, below_without}
-use Rattle.sentry_laws.proofs.Found.{same_number, found_put, found_replaced, found_without}
+use Rattle.sentry_laws.proofs.Effects.{Came, a_log, a_metric, came_to_queues, effects, client_effects, hub_effects}
+use Rattle.sentry_laws.proofs.Changes.{kind_of, Arrival, log_came, metric_came, session_ended, flush_came, after_arrival}
+use Rattle.sentry_laws.proofs.Closings.{IsClosedBy, closed_next, none_closed}
+use Rattle.sentry_laws.proofs.Found.{same_number, found_replaced, found_below}
 use Rattle.sentry_laws.proofs.Keeping.{trail_of}
 use Rattle.sentry_laws.proofs.Numbered.{IsNumbered, numbered_changes, none_numbered}
-use Rattle.sentry_laws.proofs.SentBatches.{found_below}
-use Rattle.sentry_laws.proofs.Tests.{or_left, any_first, any_second}
-use Rattle.sentry_laws.proofs.Trails.{found_under, own_effects}
+use Rattle.sentry_laws.proofs.OneClient.{Follows, follows_call, is_mine}
+use Rattle.sentry_laws.proofs.Trails.{found_under}
 
-abbrev agree : Bool → Bool → Bool
-agree true b = b
-agree false b = not b
+-- the client with this number, if it is held, is closed or not
+abbrev IsKnown : {P C : Type 0} → ℕ → Bool → World P C → Type 0
+IsKnown {P} {C} n closed world = (c : ClientHistory C) → value_at world.clients n ≡ Some c → c.closed ≡ closed
 
-other_kind : (b l : Bool) → agree b l ≡ false → b ≡ not l
-other_kind true true e = absurd cc
-other_kind true false e = refl
-other_kind false true e = refl
-other_kind false false e = absurd cc
-
--- an item of this kind may have come
-abbrev is_mine : {P C : Type 0} → Bool → Effect P C → Bool
-is_mine l (item_came b) = agree b l
-is_mine l _ = false
-
-module _ (l : Bool) {P C : Type 0} where
-  own_mine : (some : List (Effect P C)) → list_any (is_mine l) (own_effects some) ≡ list_any (is_mine l) some
-  own_mine [] = refl
-  own_mine (item_came b ∷ rest) = ap (λ c. agree b l || c) (own_mine rest)
-  own_mine (session_begun number other ∷ rest) = own_mine rest
-  own_mine (client_dropped number ∷ rest) = own_mine rest
-  own_mine (hub_changed number (session_named session) ∷ rest) = own_mine rest
-  own_mine (hub_changed number (scope_edited edits) ∷ rest) = own_mine rest
-  own_mine (hub_changed number (breadcrumbs_came breadcrumbs) ∷ rest) = own_mine rest
-  own_mine (hub_changed number (client_bound client) ∷ rest) = own_mine rest
-  own_mine (hub_changed number layer_pushed ∷ rest) = own_mine rest
-  own_mine (hub_changed number (layer_popped given) ∷ rest) = own_mine rest
-  own_mine (client_added key options ∷ rest) = own_mine rest
-  own_mine (client_cloned key original ∷ rest) = own_mine rest
-  own_mine (hub_made number stack ∷ rest) = own_mine rest
-  own_mine (hub_made_from number maker ∷ rest) = own_mine rest
-  own_mine (hub_released number ∷ rest) = own_mine rest
-  own_mine (losses_absorbed label losses ∷ rest) = own_mine rest
-  own_mine (report_taken label report ∷ rest) = own_mine rest
-
-module _ {T C : Type 0} (history : QueueHistories → List (BatchEntry T)) (is_log : Bool)
+module _ {T C : Type 0} (history : QueueHistories → List (BatchEntry T)) (kind : Came)
     (new_history : (now : ℕ) → history (queues_from now) ≡ [])
-    (arrival_keeps : (arrival : Arrival) (client : ClientHistory C) → (IsItem is_log arrival → ⊥)
+    (arrival_keeps : (arrival : Arrival) (client : ClientHistory C) → (kind_of arrival ≡ Some kind → ⊥)
     → accepted_items (history (after_arrival arrival client).queues) ≡ accepted_items (history client.queues)) where
   abbrev accepted_by : ClientHistory C → List T
   accepted_by client = accepted_items (history client.queues)
 
-  not_item : (l : Bool) {P : Type 0} (world : World P C) (arrival : Arrival) → IsArrival world arrival → IsItem l arrival
-      → ⊥
-  not_item l world (log_came log) came item = came
-  not_item l world (metric_came metric) came item = came
-  not_item true world (session_ended update) came item = item
-  not_item false world (session_ended update) came item = item
-  not_item true world (flush_came flush) came item = item
-  not_item false world (flush_came flush) came item = item
-
-  not_both : (l : Bool) (arrival : Arrival) → IsItem (not l) arrival → IsItem l arrival → ⊥
-  not_both true (log_came log) other item = other
-  not_both true (metric_came metric) other item = item
-  not_both true (session_ended update) other item = item
-  not_both true (flush_came flush) other item = item
-  not_both false (log_came log) other item = item
-  not_both false (metric_came metric) other item = other
-  not_both false (session_ended update) other item = item
-  not_both false (flush_came flush) other item = item
-
-  more_given : (n : ℕ) (items : List T) (next : ℕ) → (n < next) ⊎ (items ≡ []) → (n < next + 1) ⊎ (items ≡ [])
-  more_given n items next (inl h) = inl (omega (arith, h))
-  more_given n items next (inr h) = inr h
-
-  module _ {P : Type 0} (meanings : C → Meanings) (n : ℕ) (items : List T) where
-    -- the client with this number, if it is held, accepted these items so far
-    record Accepted (world : World P C) : Type 0 where
-      so_far : (c : ClientHistory C) → value_at world.clients n ≡ Some c → accepted_by c ≡ items
-      given : (n < world.next.client) ⊎ (items ≡ [])
-      clients : AreBelow 0 world.next.client world.clients
-
-    added : (world : World P C) (client : ClientHistory C) (books : List (ℕ × List LossEntry)) → history client.queues ≡ []
-        → Accepted world → Accepted (record world {
-          next = record world.next { client = world.next.client + 1 };
-          clients = put world.clients world.next.client client;
-          books = books;
-        })
-    added world client books new_ a = record {
-      so_far = λ c at. by_number (n == world.next.client) refl c
-          (sym (found_put world.clients world.next.client n client) ∙ at);
-      given = more_given n items world.next.client a.given;
-      clients = below_put world.next.client client world.clients a.clients;
-    }
-      where
-        none : (n == world.next.client) ≡ true → (n < world.next.client) ⊎ (items ≡ []) → items ≡ []
-        none e (inl h) = let same = same_number n world.next.client e in absurd (omega (arith, same, h))
-        none e (inr h) = h
-
-        by_number : (b : Bool) → (n == world.next.client) ≡ b → (c : ClientHistory C)
-            → (if b then Some client else value_at world.clients n) ≡ Some c → accepted_by c ≡ items
-        by_number true e c at =
-            let same : client ≡ c = cc in
-            ap accepted_by (sym same) ∙ (ap accepted_items new_ ∙ sym (none e a.given))
-        by_number false e c at = a.so_far c at
-
-    arrived : (world : World P C) (key : ClientKey) (client : ClientHistory C) (arrival : Arrival)
-        → client_at world key ≡ Some client → (IsItem is_log arrival → ⊥) → Accepted world
-        → Accepted (with_client_history world key (after_arrival arrival client))
-    arrived world key client arrival found other a = record {
-      so_far = λ c at. by_number (n == key.number) refl c
-          (sym (found_replaced world.clients key.number n (after_arrival arrival client) client here) ∙ at);
-      given = a.given;
-      clients = below_replaced 0 world.next.client key.number (after_arrival arrival client) world.clients a.clients;
-    }
-      where
-        here : value_at world.clients key.number ≡ Some client
-        here = found_under world.tag world.clients key.tag key.number client found
-
-        by_number : (b : Bool) → (n == key.number) ≡ b → (c : ClientHistory C)
-            → (if b then Some (after_arrival arrival client) else value_at world.clients n) ≡ Some c
-            → accepted_by c ≡ items
-        by_number true e c at =
-            let same : after_arrival arrival client ≡ c = cc in
-            ap accepted_by (sym same) ∙ (arrival_keeps arrival client other
-            ∙ a.so_far client (ap (value_at world.clients) (same_number n key.number e) ∙ here))
-        by_number false e c at = a.so_far c at
-
-    sending_accepted : (label : Label) (sent : List (ClientKey × Envelope)) (world : World P C) → Accepted world
-        → Accepted (after_sending label sent world)
-    sending_accepted label [] world a = a
-    sending_accepted label (first ∷ rest) world a =
-        record { so_far = a.so_far; given = a.given; clients = a.clients }
-
-    accepted_change : {f : Option Envelope} {old new : World P C} {some : List (Effect P C)} {sent : List
-        (ClientKey × Envelope)} → Change meanings f old some sent new
-        → list_any (is_mine is_log) some ≡ false → Accepted old → Accepted new
-    accepted_change (makes_hub world client scope held active) h a =
-        record { so_far = a.so_far; given = a.given; clients = a.clients }
-    accepted_change (makes_hub_from world maker hub found) h a =
-        record { so_far = a.so_far; given = a.given; clients = a.clients }
-    accepted_change (changes_hub world number old new change found fits allowed) h a =
-        record { so_far = a.so_far; given = a.given; clients = a.clients }
-    accepted_change (leaves_hub world number hub change found fits) h a = a
-    accepted_change (notes_event_id world number old new found same) h a =
-        record { so_far = a.so_far; given = a.given; clients = a.clients }
-    accepted_change (releases_hub world number hub found alone) h a =
-        record { so_far = a.so_far; given = a.given; clients = a.clients }
-    accepted_change (adds_client world client now queues open_ of_engine) h a =
-        added world client _ (ap history queues ∙ new_history now) a
-    accepted_change (clones_client world original client now found) h a =
-        added world (clone_from now client) world.books (new_history now) a
-    accepted_change (drops_client world key client label found same unnamed) h a = record {
-      so_far = λ c at. by_number (n == key.number) c
-          (sym (found_without 0 world.next.client world.clients key.number n a.clients) ∙ at);
-      given = a.given;
-      clients = below_without 0 world.next.client key.number world.clients a.clients;
-    }
-      where
-        by_number : (b : Bool) (c : ClientHistory C) → (if b then None else value_at world.clients n) ≡ Some c
-            → accepted_by c ≡ items
-        by_number true c at = absurd cc
-        by_number false c at = a.so_far c at
-    accepted_change (arrives world key client arrival is_off found open_ came) h a =
-        sending_accepted client.label (send key client (envelopes_on_arrival arrival client)
-        (with_client_history world key (after_arrival arrival client))).sent
-        (with_client_history world key (after_arrival arrival client))
-        (arrived world key client arrival found (not_item is_log world arrival came) a)
-    accepted_change (accepts world key client arrival b is_off found open_ came) h a =
-        sending_accepted client.label (send key client (envelopes_on_arrival arrival client)
-        (with_client_history world key (after_arrival arrival client))).sent
-        (with_client_history world key (after_arrival arrival client))
-        (arrived world key client arrival found (not_both is_log arrival
-        (subst (λ l. IsItem l arrival) (other_kind b is_log (or_left (agree b is_log) _ h)) came)) a)
-    accepted_change (accepts_none world b) h a = a
-    accepted_change (mails world key client envelope found occupied plain told_) h a =
-        record { so_far = a.so_far; given = a.given; clients = a.clients }
-    accepted_change (loses world key client losses found) h a =
-        record { so_far = a.so_far; given = a.given; clients = a.clients }
-    accepted_change (takes_report world label has) h a =
-        record { so_far = a.so_far; given = a.given; clients = a.clients }
-    accepted_change (absorbs world label losses has) h a =
-        record { so_far = a.so_far; given = a.given; clients = a.clients }
-    accepted_change (starts_none world number id) h a = a
-    accepted_change (starts_session world number start) h a =
-        record { so_far = a.so_far; given = a.given; clients = a.clients }
-    accepted_change (changes_session world number old new later found same) h a =
-        record { so_far = a.so_far; given = a.given; clients = a.clients }
-    accepted_change (ends_session world number) h a =
-        record { so_far = a.so_far; given = a.given; clients = a.clients }
-    accepted_change (starts_transaction world state new_) h a =
-        record { so_far = a.so_far; given = a.given; clients = a.clients }
-    accepted_change (starts_span world parent place held found of_ traced) h a =
-        record { so_far = a.so_far; given = a.given; clients = a.clients }
-    accepted_change (changes_spans world transactions spans change) h a =
-        record { so_far = a.so_far; given = a.given; clients = a.clients }
-
-    accepted_changes : {f : Option Envelope} {old new : World P C} {some : List (Effect P C)} {sent : List
-        (ClientKey × Envelope)} → Changes meanings f old some sent new
-        → list_any (is_mine is_log) some ≡ false → Accepted old → Accepted new
-    accepted_changes (nothing world) h a = a
-    accepted_changes (one c) h a = accepted_change c h a
-    accepted_changes (both {first = first} {second = second} t u) h a =
-        accepted_changes u (any_second (is_mine is_log) first second h) (accepted_changes t (any_first (is_mine is_log) first second h) a)
+  -- the client with this number, if it is held, accepted these items so far
+  abbrev Accepted : {P : Type 0} → (C → Meanings) → ℕ → List T → World P C → Type 0
+  Accepted {P} meanings n items world =
+      Follows kind (λ client. accepted_by client ≡ items)
+      (λ arrival client open_ other h. arrival_keeps arrival client other ∙ h)
+      (items ≡ [])
+      (λ none client now queues open_. ap accepted_items (ap history queues ∙ new_history now) ∙ sym none)
+      {P = P} meanings n world
 
   -- ---- one call
 
@@ -258,32 +82,34 @@ module _ {T C : Type 0} (history : QueueHistories → List (BatchEntry T)) (is_l
       → accepted_by after ≡ accepted_by before ++ brought)
       × (value_at world.clients n ≡ None → accepted_by after ≡ [])
 
-  module _ {P : Type 0} (gives : P → Partial) (meanings : C → Meanings) (brought : ℕ → World P C → Call P C → List T)
-      (brings_none : (n : ℕ) (call : Call P C) (made : Reply P C) (world : World P C)
-      → list_any (is_mine is_log) (effects meanings call made) ≡ false → brought n world call ≡ [])
-      (brings : (n : ℕ) (call : Call P C) (out : Out (Reply P C)) (world next : World P C)
-      → list_any (is_mine is_log) (effects meanings call out.reply) ≡ true
-      → StepsTo gives meanings world call (Ok out) next → Brings n world next (brought n world call)) where
+  module _ {P : Type 0} (gives : P → Partial) (meanings : C → Meanings)
+      (brought : ℕ → Bool → World P C → Call P C → List T)
+      (brings_none : (n : ℕ) (closed : Bool) (call : Call P C) (made : Reply P C) (world : World P C)
+      → list_any (is_mine kind) (effects meanings call made) ≡ false → brought n closed world call ≡ [])
+      (brings : (n : ℕ) (closed : Bool) (call : Call P C) (out : Out (Reply P C)) (world next : World P C)
+      → list_any (is_mine kind) (effects meanings call out.reply) ≡ true
+      → StepsTo gives meanings world call (Ok out) next → IsKnown n closed world
+      → Brings n world next (brought n closed world call)) where
     call_brings : (call : Call P C) (out : Out (Reply P C)) (world next : World P C)
-        → StepsTo gives meanings world call (Ok out) next → IsNumbered world → (n : ℕ)
-        → Brings n world next (brought n world call)
-    call_brings call out world next may numbered n =
+        → StepsTo gives meanings world call (Ok out) next → IsNumbered world → (n : ℕ) (closed : Bool)
+        → IsKnown n closed world → Brings n world next (brought n closed world call)
+    call_brings call out world next may numbered n closed known =
         by_client (value_at world.clients n) refl
       where
-        told_mine : (items : List T) (b : Bool)
-            → list_any (is_mine is_log) (effects meanings call out.reply) ≡ b
+        told_mine : (items : List T) → list_any (is_mine kind) (effects meanings call out.reply) ≡ false
             → Accepted {P = P} meanings n items world
-            → (b ≡ false → (c : ClientHistory C) → value_at next.clients n ≡ Some c → accepted_by c ≡ items)
-        told_mine items b e a none =
-            let trail = trail_of gives meanings call out world next may in
-            (accepted_changes {P = P} meanings n items trail.changes
-            (sym (own_mine is_log trail.effects)
-            ∙ (ap (list_any (is_mine is_log)) trail.same ∙ (e ∙ none))) a).so_far
+            → (c : ClientHistory C) → value_at next.clients n ≡ Some c → accepted_by c ≡ items
+        told_mine items none a =
+            (follows_call kind (λ client. accepted_by client ≡ items)
+            (λ arrival client open_ other h. arrival_keeps arrival client other ∙ h)
+            (items ≡ [])
+            (λ none client now queues open_. ap accepted_items (ap history queues ∙ new_history now) ∙ sym none)
+            gives meanings call out world next may none n a).so_far
 
         by_client : (o : Option (ClientHistory C)) → value_at world.clients n ≡ o
-            → Brings n world next (brought n world call)
+            → Brings n world next (brought n closed world call)
         by_client (Some c) at =
-            by_mine (list_any (is_mine is_log) (effects meanings call out.reply)) refl
+            by_mine (list_any (is_mine kind) (effects meanings call out.reply)) refl
           where
             first_ : Accepted {P = P} meanings n (accepted_by c) world
             first_ = record {
@@ -295,20 +121,20 @@ module _ {T C : Type 0} (history : QueueHistories → List (BatchEntry T)) (is_l
                 same_accepted : (c d : ClientHistory C) → Some c ≡ Some d → accepted_by d ≡ accepted_by c
                 same_accepted c d e = let same : c ≡ d = cc in ap accepted_by (sym same)
 
-            by_mine : (b : Bool) → list_any (is_mine is_log) (effects meanings call out.reply) ≡ b
-                → Brings n world next (brought n world call)
-            by_mine true e = brings n call out world next e may
+            by_mine : (b : Bool) → list_any (is_mine kind) (effects meanings call out.reply) ≡ b
+                → Brings n world next (brought n closed world call)
+            by_mine true e = brings n closed call out world next e may known
             by_mine false e = λ after found. (
               λ before held.
                   let both_ : Some c ≡ Some before = sym at ∙ held in
                   let same : c ≡ before = cc in
-                  told_mine (accepted_by c) false e first_ refl after found
+                  told_mine (accepted_by c) e first_ after found
                   ∙ (ap accepted_by same ∙ sym (ap (λ l. accepted_by before ++ l)
-                  (brings_none n call out.reply world e) ∙ append-nil (accepted_by before))),
+                  (brings_none n closed call out.reply world e) ∙ append-nil (accepted_by before))),
               λ none. let no : Some c ≡ None = sym at ∙ none in absurd cc,
             )
         by_client None at =
-            by_mine (list_any (is_mine is_log) (effects meanings call out.reply)) refl
+            by_mine (list_any (is_mine kind) (effects meanings call out.reply)) refl
           where
             first_ : Accepted {P = P} meanings n [] world
             first_ = record {
@@ -317,25 +143,28 @@ module _ {T C : Type 0} (history : QueueHistories → List (BatchEntry T)) (is_l
               clients = numbered.clients;
             }
 
-            by_mine : (b : Bool) → list_any (is_mine is_log) (effects meanings call out.reply) ≡ b
-                → Brings n world next (brought n world call)
-            by_mine true e = brings n call out world next e may
+            by_mine : (b : Bool) → list_any (is_mine kind) (effects meanings call out.reply) ≡ b
+                → Brings n world next (brought n closed world call)
+            by_mine true e = brings n closed call out world next e may known
             by_mine false e = λ after found. (
               λ before held. let no : None ≡ Some before = sym at ∙ held in absurd cc,
-              λ none. told_mine [] false e first_ refl after found,
+              λ none. told_mine [] e first_ after found,
             )
 
     accepts_run : (calls : List (Call P C)) (answers : List (Result (Out (Reply P C)) Refusal))
         (world last : World P C) (run : Run gives meanings world calls answers last) → IsNumbered world
-        → AcceptsByCalls gives meanings history brought world calls answers last run
-    accepts_run [] answers world last run m = tt
-    accepts_run (call ∷ calls) [] world last run m = tt
-    accepts_run (call ∷ calls) (Err refusal ∷ answers) world last run m =
-        accepts_run calls answers run.0 last run.2 (subst IsNumbered (sym run.1.1) m)
-    accepts_run (call ∷ calls) (Ok out ∷ answers) world last run m = (
-      λ n after found. call_brings call out world run.0 run.1 m n after found,
+        → (n : ℕ) (closed : Bool) → IsClosedBy {P = P} n closed world
+        → AcceptsByCalls gives meanings history brought n closed world calls answers last run
+    accepts_run [] answers world last run m n closed k = tt
+    accepts_run (call ∷ calls) [] world last run m n closed k = tt
+    accepts_run (call ∷ calls) (Err refusal ∷ answers) world last run m n closed k =
+        accepts_run calls answers run.0 last run.2 (subst IsNumbered (sym run.1.1) m) n closed
+        (subst (IsClosedBy n closed) (sym run.1.1) k)
+    accepts_run (call ∷ calls) (Ok out ∷ answers) world last run m n closed k = (
+      λ after found. call_brings call out world run.0 run.1 m n closed (λ c at. (k.so_far c at).0) after found,
       accepts_run calls answers run.0 last run.2
-          (numbered_changes meanings (trail_of gives meanings call out world run.0 run.1).changes m),
+          (numbered_changes meanings (trail_of gives meanings call out world run.0 run.1).changes m) n
+          (closed || closes n call) (closed_next gives meanings call out world run.0 run.1 m n closed k),
     )
 
 -- ---- what an answer shows of a call
@@ -350,7 +179,7 @@ module _ {P C Y : Type 0} (make : Y → Reply P C) (out : Out (Reply P C)) (R : 
   lands_some refusal world None h = record { lands = λ e. absurd cc }
   lands_some refusal world (Some x) h = h x refl
 
-  lands_client : (refusal : Refusal) (world : World P C) (o : Option (ClientHistory C)) (go : Client C → Outcome P C Y)
+  lands_client : (refusal : Refusal) (world : World P C) (o : Option (ClientHistory C)) (go : ClientState C → Outcome P C Y)
       → ((client : ClientHistory C) → o ≡ Some client → Lands (go (stored_client client)))
       → Lands (require_some refusal world (option_map stored_client o) go)
   lands_client refusal world None go h = record { lands = λ e. absurd cc }
@@ -366,7 +195,7 @@ module _ {P C Y : Type 0} (make : Y → Reply P C) (out : Out (Reply P C)) (R : 
   lands_let None k h = k refl
   lands_let (Some x) k h = h x refl
 
-  lands_let_client : (o : Option (ClientHistory C)) (otherwise : Outcome P C Y) (go : Client C → Outcome P C Y)
+  lands_let_client : (o : Option (ClientHistory C)) (otherwise : Outcome P C Y) (go : ClientState C → Outcome P C Y)
       → (o ≡ None → Lands otherwise)
       → ((client : ClientHistory C) → o ≡ Some client → Lands (go (stored_client client)))
       → Lands (let_some (option_map stored_client o) otherwise go)
@@ -381,6 +210,11 @@ sending_clients label (first ∷ rest) world = refl
 if_same : {X : Type 0} (b : Bool) (x : X) → (if b then x else x) ≡ x
 if_same true x = refl
 if_same false x = refl
+
+-- whether a client is closed counts only if it is the one
+open_test : (b x y : Bool) → (b ≡ true → x ≡ y) → (b && not x) ≡ (b && not y)
+open_test true x y h = ap not (h refl)
+open_test false x y h = refl
 
 -- ---- an item that was kept
 
@@ -482,97 +316,104 @@ module _ {P C : Type 0} where
           else (if n == key.number then Some (after_arrival (log_came item) client) else value_at world.clients n))) same
           (by_closed client.closed)
 
-  log_comes : (n : ℕ) (key : ClientKey) (world : World P C) (client : ClientHistory C)
-      (item : ClientHistory C → Option Log) → client_at world key ≡ Some client
+  log_comes : (n : ℕ) (closed : Bool) (key : ClientKey) (world : World P C) (client : ClientHistory C)
+      (item : ClientHistory C → Option Log) → client_at world key ≡ Some client → IsKnown n closed world
       → BringsAt {C = C} (λ q. q.logs) log_came (λ x client. refl) n (value_at world.clients n)
       (value_at (keep_log key client.label (item client) world).after.clients n)
-      (comes_to n key (client_at world key) item)
-  log_comes n key world client item found =
+      (comes_to n closed key (client_at world key) item)
+  log_comes n closed key world client item found known =
+      let here : (n == key.number) ≡ true → value_at world.clients n ≡ Some client =
+      λ own. ap (value_at world.clients) (same_number n key.number own)
+      ∙ found_under world.tag world.clients key.tag key.number client found in
       subst (λ l. BringsAt {C = C} (λ q. q.logs) log_came (λ x client. refl) n (value_at world.clients n)
       (value_at (keep_log key client.label (item client) world).after.clients n) l)
-      (sym (ap (λ o. comes_to n key o item) found))
+      (sym (ap (λ o. comes_to n closed key o item) found))
+      (subst (λ b. BringsAt {C = C} (λ q. q.logs) log_came (λ x client. refl) n (value_at world.clients n)
+      (value_at (keep_log key client.label (item client) world).after.clients n)
+      (if b then option_to_list (item client) else []))
+      (open_test (n == key.number) client.closed closed (λ own. known client (here own)))
       (subst (λ o. BringsAt {C = C} (λ q. q.logs) log_came (λ x client. refl) n (value_at world.clients n) o
-      (comes_to n key (Some client) item)) (sym (kept_log key client.label (item client) world client found n))
-      (kept_brings (λ q. q.logs) log_came (λ x client. refl) n key client (item client) (value_at world.clients n)
-      (λ own. ap (value_at world.clients) (same_number n key.number own)
-      ∙ found_under world.tag world.clients key.tag key.number client found)))
+      (if (n == key.number) && not client.closed then option_to_list (item client) else []))
+      (sym (kept_log key client.label (item client) world client found n))
+      (kept_brings (λ q. q.logs) log_came (λ x client. refl) n key client (item client) (value_at world.clients n) here)))
 
 module _ {P C : Type 0} (gives : P → Partial) (meanings : C → Meanings) where
-  log_none : (n : ℕ) (call : Call P C) (made : Reply P C) (world : World P C)
-      → list_any (is_mine true) (effects meanings call made) ≡ false → logs_by meanings n world call ≡ []
-  log_none n (group.Client call) made world h = by_client call h
+  log_none : (n : ℕ) (closed : Bool) (call : Call P C) (made : Reply P C) (world : World P C)
+      → list_any (is_mine a_log) (effects meanings call made) ≡ false → logs_by meanings n closed world call ≡ []
+  log_none n closed (group.Client call) made world h = by_client call h
     where
-      by_client : (call : ClientCall P C) → list_any (is_mine true) (client_effects meanings call made) ≡ false
-          → logs_by meanings n world (group.Client call) ≡ []
+      by_client : (call : ClientCall P C) → list_any (is_mine a_log) (client_effects meanings call made) ≡ false
+          → logs_by meanings n closed world (group.Client call) ≡ []
       by_client (ClientCaptureLog key log scope) h = absurd cc
       by_client call h = refl
-  log_none n (group.Hub call) made world h = by_hub call h
+  log_none n closed (group.Hub call) made world h = by_hub call h
     where
-      by_hub : (call : HubCall P) → list_any (is_mine {P = P} {C = C} true) (hub_effects meanings call made) ≡ false
-          → logs_by meanings n world (group.Hub call) ≡ []
+      by_hub : (call : HubCall P) → list_any (is_mine {P = P} {C = C} a_log) (hub_effects meanings call made) ≡ false
+          → logs_by meanings n closed world (group.Hub call) ≡ []
       by_hub (CaptureLog key log) h = absurd cc
       by_hub call h = refl
-  log_none n (group.Span call) made world h = refl
+  log_none n closed (group.Span call) made world h = refl
 
-  client_log_lands : (n : ℕ) (key : ClientKey) (log : Log) (scope : declared_scope.Scope P) (out : Out (Reply P C)) (world : World P C)
-      → Lands {Y = Unit {0}} (λ _. reply.Done) out
+  client_log_lands : (n : ℕ) (closed : Bool) (key : ClientKey) (log : Log) (scope : declared_scope.Scope P) (out : Out (Reply P C)) (world : World P C)
+      → IsKnown n closed world → Lands {Y = Unit {0}} (λ _. reply.Done) out
       (λ after. BringsAt {C = C} (λ q. q.logs) log_came (λ x client. refl) n (value_at world.clients n)
-      (value_at after.clients n) (logs_by meanings n world (group.Client (ClientCaptureLog key log scope))))
+      (value_at after.clients n) (logs_by meanings n closed world (group.Client (ClientCaptureLog key log scope))))
       (telemetry.client_capture_log meanings key log scope world)
   unfolding telemetry.client_capture_log
-  client_log_lands n key log scope out world =
+  client_log_lands n closed key log scope out world known =
       lands_client (λ _. reply.Done) out _ Stale world (client_at world key) _ (λ client found.
       lands_require (λ _. reply.Done) out _ Stale world (is_held (span_table world) scope.span)
-      (record { lands = λ e. log_comes n key world client (λ client. client_log meanings (span_table world) (stored_client client) scope log) found }))
+      (record { lands = λ e. log_comes n closed key world client (λ client. client_log meanings (span_table world) (stored_client client) scope log) found known }))
 
-  hub_log_lands : (n : ℕ) (key : HubKey) (log : Log) (out : Out (Reply P C)) (world : World P C)
-      → Lands {Y = Unit {0}} (λ _. reply.Done) out
+  hub_log_lands : (n : ℕ) (closed : Bool) (key : HubKey) (log : Log) (out : Out (Reply P C)) (world : World P C)
+      → IsKnown n closed world → Lands {Y = Unit {0}} (λ _. reply.Done) out
       (λ after. BringsAt {C = C} (λ q. q.logs) log_came (λ x client. refl) n (value_at world.clients n)
-      (value_at after.clients n) (logs_by meanings n world (group.Hub (CaptureLog key log))))
+      (value_at after.clients n) (logs_by meanings n closed world (group.Hub (CaptureLog key log))))
       (telemetry.capture_log meanings key log world)
   unfolding telemetry.capture_log
-  hub_log_lands n key log out world =
+  hub_log_lands n closed key log out world known =
       lands_some (λ _. reply.Done) out _ Stale world (hub_at world key) (λ hub found.
       lands_let (λ _. reply.Done) out _ hub.stack.top.client
       (λ none. record {
         lands = λ e. unchanged (λ q. q.logs) log_came (λ x client. refl) n (value_at world.clients n) _
-            (ap (λ o. comes_on n world o (λ scope client. client_log meanings (span_table world) (stored_client client) scope log)) found
-            ∙ ap (λ o. comes_under n world o (λ client. client_log meanings (span_table world) (stored_client client) hub.stack.top.scope log)) none);
+            (ap (λ o. comes_on n closed world o (λ scope client. client_log meanings (span_table world) (stored_client client) scope log)) found
+            ∙ ap (λ o. comes_under n closed world o (λ client. client_log meanings (span_table world) (stored_client client) hub.stack.top.scope log)) none);
       })
       (λ client_key named_.
       lands_let_client (λ _. reply.Done) out _ (client_at world client_key) _ _
       (λ none. record {
         lands = λ e. unchanged (λ q. q.logs) log_came (λ x client. refl) n (value_at world.clients n) _
-            (ap (λ o. comes_on n world o (λ scope client. client_log meanings (span_table world) (stored_client client) scope log)) found
-            ∙ (ap (λ o. comes_under n world o (λ client. client_log meanings (span_table world) (stored_client client) hub.stack.top.scope log)) named_
-            ∙ ap (λ o. comes_to n client_key o (λ client. client_log meanings (span_table world) (stored_client client) hub.stack.top.scope log)) none));
+            (ap (λ o. comes_on n closed world o (λ scope client. client_log meanings (span_table world) (stored_client client) scope log)) found
+            ∙ (ap (λ o. comes_under n closed world o (λ client. client_log meanings (span_table world) (stored_client client) hub.stack.top.scope log)) named_
+            ∙ ap (λ o. comes_to n closed client_key o (λ client. client_log meanings (span_table world) (stored_client client) hub.stack.top.scope log)) none));
       })
       (λ client held. record {
         lands = λ e.
             subst (λ l. BringsAt {C = C} (λ q. q.logs) log_came (λ x client. refl) n (value_at world.clients n)
             (value_at (keep_log client_key client.label (client_log meanings (span_table world) (stored_client client) hub.stack.top.scope log) world).after.clients n) l)
-            (sym (ap (λ o. comes_on n world o (λ scope client. client_log meanings (span_table world) (stored_client client) scope log)) found
-            ∙ ap (λ o. comes_under n world o (λ client. client_log meanings (span_table world) (stored_client client) hub.stack.top.scope log)) named_))
-            (log_comes n client_key world client (λ client. client_log meanings (span_table world) (stored_client client) hub.stack.top.scope log) held);
+            (sym (ap (λ o. comes_on n closed world o (λ scope client. client_log meanings (span_table world) (stored_client client) scope log)) found
+            ∙ ap (λ o. comes_under n closed world o (λ client. client_log meanings (span_table world) (stored_client client) hub.stack.top.scope log)) named_))
+            (log_comes n closed client_key world client (λ client. client_log meanings (span_table world) (stored_client client) hub.stack.top.scope log) held known);
       })))
 
-  log_brings : (n : ℕ) (call : Call P C) (out : Out (Reply P C)) (world next : World P C)
-      → list_any (is_mine true) (effects meanings call out.reply) ≡ true → StepsTo gives meanings world call (Ok out) next
+  log_brings : (n : ℕ) (closed : Bool) (call : Call P C) (out : Out (Reply P C)) (world next : World P C)
+      → list_any (is_mine a_log) (effects meanings call out.reply) ≡ true → StepsTo gives meanings world call (Ok out) next
+      → IsKnown n closed world
       → BringsAt {C = C} (λ q. q.logs) log_came (λ x client. refl) n (value_at world.clients n)
-      (value_at next.clients n) (logs_by meanings n world call)
+      (value_at next.clients n) (logs_by meanings n closed world call)
   unfolding client_step hub_step
-  log_brings n (group.Client call) out world next h may = by_client call out.reply h may.0 may.1
+  log_brings n closed (group.Client call) out world next h may known = by_client call out.reply h may.0 may.1
     where
       by_client : (call : ClientCall P C) (made : Reply P C)
-          → list_any (is_mine true) (client_effects meanings call made) ≡ true
+          → list_any (is_mine a_log) (client_effects meanings call made) ≡ true
           → (client_step gives meanings call world).answer ≡ Ok out
           → next ≡ (client_step gives meanings call world).after
           → BringsAt {C = C} (λ q. q.logs) log_came (λ x client. refl) n (value_at world.clients n)
-          (value_at next.clients n) (logs_by meanings n world (group.Client call))
+          (value_at next.clients n) (logs_by meanings n closed world (group.Client call))
       by_client (ClientCaptureLog key log scope) made h answered is =
           subst (λ (w : World P C). BringsAt {C = C} (λ q. q.logs) log_came (λ x client. refl) n
-          (value_at world.clients n) (value_at w.clients n) (logs_by meanings n world (group.Client (ClientCaptureLog key log scope))))
-          (sym is) ((client_log_lands n key log scope out world).lands answered)
+          (value_at world.clients n) (value_at w.clients n) (logs_by meanings n closed world (group.Client (ClientCaptureLog key log scope))))
+          (sym is) ((client_log_lands n closed key log scope out world known).lands answered)
       by_client (AddClient options transport label now) (reply.Client key) h answered is = absurd cc
       by_client (AddClient options transport label now) _ h answered is = absurd cc
       by_client (CloneClient client now) (reply.Client key) h answered is = absurd cc
@@ -580,28 +421,28 @@ module _ {P C : Type 0} (gives : P → Partial) (meanings : C → Meanings) wher
       by_client (TakeReport label) (reply.Report report) h answered is = absurd cc
       by_client (TakeReport label) _ h answered is = absurd cc
       by_client call made h answered is = absurd cc
-  log_brings n (group.Hub call) out world next h may = by_hub call out.reply h may.0 may.1
+  log_brings n closed (group.Hub call) out world next h may known = by_hub call out.reply h may.0 may.1
     where
       by_hub : (call : HubCall P) (made : Reply P C)
-          → list_any (is_mine {P = P} {C = C} true) (hub_effects meanings call made) ≡ true
+          → list_any (is_mine {P = P} {C = C} a_log) (hub_effects meanings call made) ≡ true
           → (hub_step gives meanings call world).answer ≡ Ok out
           → next ≡ (hub_step gives meanings call world).after
           → BringsAt {C = C} (λ q. q.logs) log_came (λ x client. refl) n (value_at world.clients n)
-          (value_at next.clients n) (logs_by meanings n world (group.Hub call))
+          (value_at next.clients n) (logs_by meanings n closed world (group.Hub call))
       by_hub (CaptureLog key log) made h answered is =
           subst (λ (w : World P C). BringsAt {C = C} (λ q. q.logs) log_came (λ x client. refl) n
-          (value_at world.clients n) (value_at w.clients n) (logs_by meanings n world (group.Hub (CaptureLog key log))))
-          (sym is) ((hub_log_lands n key log out world).lands answered)
+          (value_at world.clients n) (value_at w.clients n) (logs_by meanings n closed world (group.Hub (CaptureLog key log))))
+          (sym is) ((hub_log_lands n closed key log out world known).lands answered)
       by_hub (NewHub client scope) (reply.Hub key) h answered is = absurd cc
       by_hub (NewHub client scope) _ h answered is = absurd cc
       by_hub (NewHubFromTop hub) (reply.Hub key) h answered is = absurd cc
       by_hub (NewHubFromTop hub) _ h answered is = absurd cc
       by_hub call made h answered is = absurd cc
-  log_brings n (group.Span call) out world next h may = absurd cc
+  log_brings n closed (group.Span call) out world next h may known = absurd cc
 
-  logs_keep : (arrival : Arrival) (client : ClientHistory C) → (IsItem true arrival → ⊥)
+  logs_keep : (arrival : Arrival) (client : ClientHistory C) → (kind_of arrival ≡ Some a_log → ⊥)
       → accepted_items (after_arrival arrival client).queues.logs ≡ accepted_items client.queues.logs
-  logs_keep (log_came item) client other = absurd (other tt)
+  logs_keep (log_came item) client other = absurd (other refl)
   logs_keep (metric_came item) client other = refl
   logs_keep (session_ended update) client other = refl
   logs_keep (flush_came flush) client other =
@@ -615,9 +456,9 @@ module _ {P C : Type 0} (gives : P → Partial) (meanings : C → Meanings) wher
   pub accepts_logs : (tag start : ℕ) (calls : List (Call P C)) (answers : List (Result (Out (Reply P C)) Refusal))
       (last : World P C) (run : Run gives meanings (starting_world tag start) calls answers last)
       → AcceptsLogsByCalls gives meanings (starting_world tag start) calls answers last run
-  accepts_logs tag start calls answers last run =
-      accepts_run (λ q. q.logs) true (λ now. refl) logs_keep gives meanings (logs_by meanings) log_none log_brings
-      calls answers (starting_world tag start) last run (none_numbered tag start)
+  accepts_logs tag start calls answers last run n =
+      accepts_run (λ q. q.logs) a_log (λ now. refl) logs_keep gives meanings (logs_by meanings) log_none log_brings
+      calls answers (starting_world tag start) last run (none_numbered tag start) n false (none_closed tag start n)
 
 -- ---- metrics
 
@@ -658,97 +499,104 @@ module _ {P C : Type 0} where
           else (if n == key.number then Some (after_arrival (metric_came item) client) else value_at world.clients n))) same
           (by_closed client.closed)
 
-  metric_comes : (n : ℕ) (key : ClientKey) (world : World P C) (client : ClientHistory C)
-      (item : ClientHistory C → Option Metric) → client_at world key ≡ Some client
+  metric_comes : (n : ℕ) (closed : Bool) (key : ClientKey) (world : World P C) (client : ClientHistory C)
+      (item : ClientHistory C → Option Metric) → client_at world key ≡ Some client → IsKnown n closed world
       → BringsAt {C = C} (λ q. q.metrics) metric_came (λ x client. refl) n (value_at world.clients n)
       (value_at (keep_metric key client.label (item client) world).after.clients n)
-      (comes_to n key (client_at world key) item)
-  metric_comes n key world client item found =
+      (comes_to n closed key (client_at world key) item)
+  metric_comes n closed key world client item found known =
+      let here : (n == key.number) ≡ true → value_at world.clients n ≡ Some client =
+      λ own. ap (value_at world.clients) (same_number n key.number own)
+      ∙ found_under world.tag world.clients key.tag key.number client found in
       subst (λ l. BringsAt {C = C} (λ q. q.metrics) metric_came (λ x client. refl) n (value_at world.clients n)
       (value_at (keep_metric key client.label (item client) world).after.clients n) l)
-      (sym (ap (λ o. comes_to n key o item) found))
+      (sym (ap (λ o. comes_to n closed key o item) found))
+      (subst (λ b. BringsAt {C = C} (λ q. q.metrics) metric_came (λ x client. refl) n (value_at world.clients n)
+      (value_at (keep_metric key client.label (item client) world).after.clients n)
+      (if b then option_to_list (item client) else []))
+      (open_test (n == key.number) client.closed closed (λ own. known client (here own)))
       (subst (λ o. BringsAt {C = C} (λ q. q.metrics) metric_came (λ x client. refl) n (value_at world.clients n) o
-      (comes_to n key (Some client) item)) (sym (kept_metric key client.label (item client) world client found n))
-      (kept_brings (λ q. q.metrics) metric_came (λ x client. refl) n key client (item client) (value_at world.clients n)
-      (λ own. ap (value_at world.clients) (same_number n key.number own)
-      ∙ found_under world.tag world.clients key.tag key.number client found)))
+      (if (n == key.number) && not client.closed then option_to_list (item client) else []))
+      (sym (kept_metric key client.label (item client) world client found n))
+      (kept_brings (λ q. q.metrics) metric_came (λ x client. refl) n key client (item client) (value_at world.clients n) here)))
 
 module _ {P C : Type 0} (gives : P → Partial) (meanings : C → Meanings) where
-  metric_none : (n : ℕ) (call : Call P C) (made : Reply P C) (world : World P C)
-      → list_any (is_mine false) (effects meanings call made) ≡ false → metrics_by meanings n world call ≡ []
-  metric_none n (group.Client call) made world h = by_client call h
+  metric_none : (n : ℕ) (closed : Bool) (call : Call P C) (made : Reply P C) (world : World P C)
+      → list_any (is_mine a_metric) (effects meanings call made) ≡ false → metrics_by meanings n closed world call ≡ []
+  metric_none n closed (group.Client call) made world h = by_client call h
     where
-      by_client : (call : ClientCall P C) → list_any (is_mine false) (client_effects meanings call made) ≡ false
-          → metrics_by meanings n world (group.Client call) ≡ []
+      by_client : (call : ClientCall P C) → list_any (is_mine a_metric) (client_effects meanings call made) ≡ false
+          → metrics_by meanings n closed world (group.Client call) ≡ []
       by_client (ClientCaptureMetric key draft scope now) h = absurd cc
       by_client call h = refl
-  metric_none n (group.Hub call) made world h = by_hub call h
+  metric_none n closed (group.Hub call) made world h = by_hub call h
     where
-      by_hub : (call : HubCall P) → list_any (is_mine {P = P} {C = C} false) (hub_effects meanings call made) ≡ false
-          → metrics_by meanings n world (group.Hub call) ≡ []
+      by_hub : (call : HubCall P) → list_any (is_mine {P = P} {C = C} a_metric) (hub_effects meanings call made) ≡ false
+          → metrics_by meanings n closed world (group.Hub call) ≡ []
       by_hub (CaptureMetric key draft now) h = absurd cc
       by_hub call h = refl
-  metric_none n (group.Span call) made world h = refl
+  metric_none n closed (group.Span call) made world h = refl
 
-  client_metric_lands : (n : ℕ) (key : ClientKey) (draft : MetricDraft) (scope : declared_scope.Scope P) (now : ℕ) (out : Out (Reply P C)) (world : World P C)
-      → Lands {Y = Unit {0}} (λ _. reply.Done) out
+  client_metric_lands : (n : ℕ) (closed : Bool) (key : ClientKey) (draft : MetricDraft) (scope : declared_scope.Scope P) (now : ℕ) (out : Out (Reply P C)) (world : World P C)
+      → IsKnown n closed world → Lands {Y = Unit {0}} (λ _. reply.Done) out
       (λ after. BringsAt {C = C} (λ q. q.metrics) metric_came (λ x client. refl) n (value_at world.clients n)
-      (value_at after.clients n) (metrics_by meanings n world (group.Client (ClientCaptureMetric key draft scope now))))
+      (value_at after.clients n) (metrics_by meanings n closed world (group.Client (ClientCaptureMetric key draft scope now))))
       (telemetry.client_capture_metric meanings key draft scope now world)
   unfolding telemetry.client_capture_metric
-  client_metric_lands n key draft scope now out world =
+  client_metric_lands n closed key draft scope now out world known =
       lands_client (λ _. reply.Done) out _ Stale world (client_at world key) _ (λ client found.
       lands_require (λ _. reply.Done) out _ Stale world (is_held (span_table world) scope.span)
-      (record { lands = λ e. metric_comes n key world client (λ client. client_metric meanings (span_table world) (stored_client client) scope now draft) found }))
+      (record { lands = λ e. metric_comes n closed key world client (λ client. client_metric meanings (span_table world) (stored_client client) scope now draft) found known }))
 
-  hub_metric_lands : (n : ℕ) (key : HubKey) (draft : MetricDraft) (now : ℕ) (out : Out (Reply P C)) (world : World P C)
-      → Lands {Y = Unit {0}} (λ _. reply.Done) out
+  hub_metric_lands : (n : ℕ) (closed : Bool) (key : HubKey) (draft : MetricDraft) (now : ℕ) (out : Out (Reply P C)) (world : World P C)
+      → IsKnown n closed world → Lands {Y = Unit {0}} (λ _. reply.Done) out
       (λ after. BringsAt {C = C} (λ q. q.metrics) metric_came (λ x client. refl) n (value_at world.clients n)
-      (value_at after.clients n) (metrics_by meanings n world (group.Hub (CaptureMetric key draft now))))
+      (value_at after.clients n) (metrics_by meanings n closed world (group.Hub (CaptureMetric key draft now))))
       (telemetry.capture_metric meanings key draft now world)
   unfolding telemetry.capture_metric
-  hub_metric_lands n key draft now out world =
+  hub_metric_lands n closed key draft now out world known =
       lands_some (λ _. reply.Done) out _ Stale world (hub_at world key) (λ hub found.
       lands_let (λ _. reply.Done) out _ hub.stack.top.client
       (λ none. record {
         lands = λ e. unchanged (λ q. q.metrics) metric_came (λ x client. refl) n (value_at world.clients n) _
-            (ap (λ o. comes_on n world o (λ scope client. client_metric meanings (span_table world) (stored_client client) scope now draft)) found
-            ∙ ap (λ o. comes_under n world o (λ client. client_metric meanings (span_table world) (stored_client client) hub.stack.top.scope now draft)) none);
+            (ap (λ o. comes_on n closed world o (λ scope client. client_metric meanings (span_table world) (stored_client client) scope now draft)) found
+            ∙ ap (λ o. comes_under n closed world o (λ client. client_metric meanings (span_table world) (stored_client client) hub.stack.top.scope now draft)) none);
       })
       (λ client_key named_.
       lands_let_client (λ _. reply.Done) out _ (client_at world client_key) _ _
       (λ none. record {
         lands = λ e. unchanged (λ q. q.metrics) metric_came (λ x client. refl) n (value_at world.clients n) _
-            (ap (λ o. comes_on n world o (λ scope client. client_metric meanings (span_table world) (stored_client client) scope now draft)) found
-            ∙ (ap (λ o. comes_under n world o (λ client. client_metric meanings (span_table world) (stored_client client) hub.stack.top.scope now draft)) named_
-            ∙ ap (λ o. comes_to n client_key o (λ client. client_metric meanings (span_table world) (stored_client client) hub.stack.top.scope now draft)) none));
+            (ap (λ o. comes_on n closed world o (λ scope client. client_metric meanings (span_table world) (stored_client client) scope now draft)) found
+            ∙ (ap (λ o. comes_under n closed world o (λ client. client_metric meanings (span_table world) (stored_client client) hub.stack.top.scope now draft)) named_
+            ∙ ap (λ o. comes_to n closed client_key o (λ client. client_metric meanings (span_table world) (stored_client client) hub.stack.top.scope now draft)) none));
       })
       (λ client held. record {
         lands = λ e.
             subst (λ l. BringsAt {C = C} (λ q. q.metrics) metric_came (λ x client. refl) n (value_at world.clients n)
             (value_at (keep_metric client_key client.label (client_metric meanings (span_table world) (stored_client client) hub.stack.top.scope now draft) world).after.clients n) l)
-            (sym (ap (λ o. comes_on n world o (λ scope client. client_metric meanings (span_table world) (stored_client client) scope now draft)) found
-            ∙ ap (λ o. comes_under n world o (λ client. client_metric meanings (span_table world) (stored_client client) hub.stack.top.scope now draft)) named_))
-            (metric_comes n client_key world client (λ client. client_metric meanings (span_table world) (stored_client client) hub.stack.top.scope now draft) held);
+            (sym (ap (λ o. comes_on n closed world o (λ scope client. client_metric meanings (span_table world) (stored_client client) scope now draft)) found
+            ∙ ap (λ o. comes_under n closed world o (λ client. client_metric meanings (span_table world) (stored_client client) hub.stack.top.scope now draft)) named_))
+            (metric_comes n closed client_key world client (λ client. client_metric meanings (span_table world) (stored_client client) hub.stack.top.scope now draft) held known);
       })))
 
-  metric_brings : (n : ℕ) (call : Call P C) (out : Out (Reply P C)) (world next : World P C)
-      → list_any (is_mine false) (effects meanings call out.reply) ≡ true → StepsTo gives meanings world call (Ok out) next
+  metric_brings : (n : ℕ) (closed : Bool) (call : Call P C) (out : Out (Reply P C)) (world next : World P C)
+      → list_any (is_mine a_metric) (effects meanings call out.reply) ≡ true → StepsTo gives meanings world call (Ok out) next
+      → IsKnown n closed world
       → BringsAt {C = C} (λ q. q.metrics) metric_came (λ x client. refl) n (value_at world.clients n)
-      (value_at next.clients n) (metrics_by meanings n world call)
+      (value_at next.clients n) (metrics_by meanings n closed world call)
   unfolding client_step hub_step
-  metric_brings n (group.Client call) out world next h may = by_client call out.reply h may.0 may.1
+  metric_brings n closed (group.Client call) out world next h may known = by_client call out.reply h may.0 may.1
     where
       by_client : (call : ClientCall P C) (made : Reply P C)
-          → list_any (is_mine false) (client_effects meanings call made) ≡ true
+          → list_any (is_mine a_metric) (client_effects meanings call made) ≡ true
           → (client_step gives meanings call world).answer ≡ Ok out
           → next ≡ (client_step gives meanings call world).after
           → BringsAt {C = C} (λ q. q.metrics) metric_came (λ x client. refl) n (value_at world.clients n)
-          (value_at next.clients n) (metrics_by meanings n world (group.Client call))
+          (value_at next.clients n) (metrics_by meanings n closed world (group.Client call))
       by_client (ClientCaptureMetric key draft scope now) made h answered is =
           subst (λ (w : World P C). BringsAt {C = C} (λ q. q.metrics) metric_came (λ x client. refl) n
-          (value_at world.clients n) (value_at w.clients n) (metrics_by meanings n world (group.Client (ClientCaptureMetric key draft scope now))))
-          (sym is) ((client_metric_lands n key draft scope now out world).lands answered)
+          (value_at world.clients n) (value_at w.clients n) (metrics_by meanings n closed world (group.Client (ClientCaptureMetric key draft scope now))))
+          (sym is) ((client_metric_lands n closed key draft scope now out world known).lands answered)
       by_client (AddClient options transport label now) (reply.Client key) h answered is = absurd cc
       by_client (AddClient options transport label now) _ h answered is = absurd cc
       by_client (CloneClient client now) (reply.Client key) h answered is = absurd cc
@@ -756,28 +604,28 @@ module _ {P C : Type 0} (gives : P → Partial) (meanings : C → Meanings) wher
       by_client (TakeReport label) (reply.Report report) h answered is = absurd cc
       by_client (TakeReport label) _ h answered is = absurd cc
       by_client call made h answered is = absurd cc
-  metric_brings n (group.Hub call) out world next h may = by_hub call out.reply h may.0 may.1
+  metric_brings n closed (group.Hub call) out world next h may known = by_hub call out.reply h may.0 may.1
     where
       by_hub : (call : HubCall P) (made : Reply P C)
-          → list_any (is_mine {P = P} {C = C} false) (hub_effects meanings call made) ≡ true
+          → list_any (is_mine {P = P} {C = C} a_metric) (hub_effects meanings call made) ≡ true
           → (hub_step gives meanings call world).answer ≡ Ok out
           → next ≡ (hub_step gives meanings call world).after
           → BringsAt {C = C} (λ q. q.metrics) metric_came (λ x client. refl) n (value_at world.clients n)
-          (value_at next.clients n) (metrics_by meanings n world (group.Hub call))
+          (value_at next.clients n) (metrics_by meanings n closed world (group.Hub call))
       by_hub (CaptureMetric key draft now) made h answered is =
           subst (λ (w : World P C). BringsAt {C = C} (λ q. q.metrics) metric_came (λ x client. refl) n
-          (value_at world.clients n) (value_at w.clients n) (metrics_by meanings n world (group.Hub (CaptureMetric key draft now))))
-          (sym is) ((hub_metric_lands n key draft now out world).lands answered)
+          (value_at world.clients n) (value_at w.clients n) (metrics_by meanings n closed world (group.Hub (CaptureMetric key draft now))))
+          (sym is) ((hub_metric_lands n closed key draft now out world known).lands answered)
       by_hub (NewHub client scope) (reply.Hub key) h answered is = absurd cc
       by_hub (NewHub client scope) _ h answered is = absurd cc
       by_hub (NewHubFromTop hub) (reply.Hub key) h answered is = absurd cc
       by_hub (NewHubFromTop hub) _ h answered is = absurd cc
       by_hub call made h answered is = absurd cc
-  metric_brings n (group.Span call) out world next h may = absurd cc
+  metric_brings n closed (group.Span call) out world next h may known = absurd cc
 
-  metrics_keep : (arrival : Arrival) (client : ClientHistory C) → (IsItem false arrival → ⊥)
+  metrics_keep : (arrival : Arrival) (client : ClientHistory C) → (kind_of arrival ≡ Some a_metric → ⊥)
       → accepted_items (after_arrival arrival client).queues.metrics ≡ accepted_items client.queues.metrics
-  metrics_keep (metric_came item) client other = absurd (other tt)
+  metrics_keep (metric_came item) client other = absurd (other refl)
   metrics_keep (log_came item) client other = refl
   metrics_keep (session_ended update) client other = refl
   metrics_keep (flush_came flush) client other =
@@ -791,6 +639,6 @@ module _ {P C : Type 0} (gives : P → Partial) (meanings : C → Meanings) wher
   pub accepts_metrics : (tag start : ℕ) (calls : List (Call P C)) (answers : List (Result (Out (Reply P C)) Refusal))
       (last : World P C) (run : Run gives meanings (starting_world tag start) calls answers last)
       → AcceptsMetricsByCalls gives meanings (starting_world tag start) calls answers last run
-  accepts_metrics tag start calls answers last run =
-      accepts_run (λ q. q.metrics) false (λ now. refl) metrics_keep gives meanings (metrics_by meanings) metric_none metric_brings
-      calls answers (starting_world tag start) last run (none_numbered tag start)
+  accepts_metrics tag start calls answers last run n =
+      accepts_run (λ q. q.metrics) a_metric (λ now. refl) metrics_keep gives meanings (metrics_by meanings) metric_none metric_brings
+      calls answers (starting_world tag start) last run (none_numbered tag start) n false (none_closed tag start n)

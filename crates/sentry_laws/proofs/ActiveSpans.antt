@@ -14,7 +14,7 @@ use Rattle.sentry_base.specs.declared.protocol.keys.TransactionKey.{TransactionK
 use Rattle.sentry_base.specs.declared.protocol.keys.TransactionOrSpanKey.{TransactionOrSpanKey}
 use Rattle.sentry_base.specs.declared.protocol.keys.TransactionOrSpanKey.TheVariants as key_of
 use Rattle.sentry_base.specs.declared.protocol.refusal.Refusal.{Refusal}
-use Rattle.sentry_hub_table.specs.declared.hub.Hub.{Hub}
+use Rattle.sentry_hub_table.specs.declared.hub.HubState.{HubState}
 use Rattle.sentry_options.specs.Meanings.{Meanings}
 use Rattle.sentry_options.specs.declared.clientoptions.ClientOptions.{ClientOptions}
 use Rattle.sentry_scope.specs.EditLists.{all_name_held_spans, names_held_span}
@@ -43,10 +43,10 @@ use Rattle.sentry_laws.proofs.Changes.{Change, SpanChange, changes_transaction, 
 use Rattle.sentry_laws.specs.Reachable.{ActiveSpansAreHeld}
 use Rattle.sentry_laws.proofs.Found.{same_number, found_put, found_replaced, found_without, all_by, all_without}
 use Rattle.sentry_laws.proofs.Keeping.{kept_by_run}
-use Rattle.sentry_laws.proofs.LabelBooks.{and_left, and_right, own_number}
+use Rattle.sentry_laws.proofs.LabelBooks.{own_number}
 use Rattle.sentry_laws.proofs.Layers.{AllLayers, all_map, all_pushed, all_popped}
 use Rattle.sentry_laws.proofs.Numbered.{IsNumbered, client_numbered, numbered_change, none_numbered}
-use Rattle.sentry_laws.proofs.Tests.{fails_found, or_left, or_right}
+use Rattle.sentry_laws.proofs.Tests.{fails_found, or_left, or_right, and_left, and_right}
 use Rattle.sentry_laws.proofs.Traces.{value_mapped}
 use Rattle.sentry_laws.proofs.Trails.{found_under}
 
@@ -201,7 +201,7 @@ still_named spans new keeps (Some name) h = keeps name h
 module _ {P C : Type 0} where
   record HoldsActive (world : World P C) : Type 0 where
     numbers : IsNumbered world
-    held : (n : ℕ) (hub : Hub P) → value_at world.hubs n ≡ Some hub → AllLayers (IsActiveHeld (span_table world))
+    held : (n : ℕ) (hub : HubState P) → value_at world.hubs n ≡ Some hub → AllLayers (IsActiveHeld (span_table world))
         hub.stack
 
   held_sending : (label : Label) (sent : List (ClientKey × Envelope)) (world : World P C)
@@ -209,20 +209,20 @@ module _ {P C : Type 0} where
   held_sending label [] world n h = h
   held_sending label (first ∷ rest) world n h = record { numbers = n; held = h.held }
 
-  hub_put : (world : World P C) (new : Hub P) → AllLayers (IsActiveHeld (span_table world)) new.stack
+  hub_put : (world : World P C) (new : HubState P) → AllLayers (IsActiveHeld (span_table world)) new.stack
       → HoldsActive world
-      → (k : ℕ) (hub : Hub P) → value_at (put world.hubs world.next.hub new) k ≡ Some hub
+      → (k : ℕ) (hub : HubState P) → value_at (put world.hubs world.next.hub new) k ≡ Some hub
       → AllLayers (IsActiveHeld (span_table world)) hub.stack
   hub_put world new good h k hub at =
-      all_by (λ (x : Hub P). AllLayers (IsActiveHeld (span_table world)) x.stack) (k == world.next.hub) new hub
+      all_by (λ (x : HubState P). AllLayers (IsActiveHeld (span_table world)) x.stack) (k == world.next.hub) new hub
       (value_at world.hubs k) good (λ z zat. h.held k z zat) (sym (found_put world.hubs world.next.hub k new) ∙ at)
 
-  hub_replaced : (world : World P C) (number : ℕ) (old new : Hub P) → value_at world.hubs number ≡ Some old
+  hub_replaced : (world : World P C) (number : ℕ) (old new : HubState P) → value_at world.hubs number ≡ Some old
       → AllLayers (IsActiveHeld (span_table world)) new.stack → HoldsActive world
-      → (k : ℕ) (hub : Hub P) → value_at (replace_at world.hubs number new) k ≡ Some hub
+      → (k : ℕ) (hub : HubState P) → value_at (replace_at world.hubs number new) k ≡ Some hub
       → AllLayers (IsActiveHeld (span_table world)) hub.stack
   hub_replaced world number old new found good h k hub at =
-      all_by (λ (x : Hub P). AllLayers (IsActiveHeld (span_table world)) x.stack) (k == number) new hub
+      all_by (λ (x : HubState P). AllLayers (IsActiveHeld (span_table world)) x.stack) (k == number) new hub
       (value_at world.hubs k) good (λ z zat. h.held k z zat) (sym (found_replaced world.hubs number k new old found)
       ∙ at)
 
@@ -264,7 +264,7 @@ module _ {P C : Type 0} where
     held = λ k hub at.
         let found = sym (ap (λ m. value_at m k) same) ∙ at in
         unnamed_layers world new dropped keeps (hub.stack.top ∷ hub.stack.below)
-        (fails_found (λ (x : Hub P). list_any (λ layer. is_named dropped layer.scope.span) (x.stack.top ∷ x.stack.below))
+        (fails_found (λ (x : HubState P). list_any (λ layer. is_named dropped layer.scope.span) (x.stack.top ∷ x.stack.below))
         world.hubs k hub found unnamed) (h.held k hub found);
   }
 
@@ -342,7 +342,7 @@ module _ {P C : Type 0} (meanings : C → Meanings) where
   }
   held_by (releases_hub world number hub found alone) n h = record {
     numbers = n;
-    held = λ k other at. all_without (λ (x : Hub P). AllLayers (IsActiveHeld (span_table world)) x.stack) (k == number)
+    held = λ k other at. all_without (λ (x : HubState P). AllLayers (IsActiveHeld (span_table world)) x.stack) (k == number)
         other (value_at world.hubs k) (λ z zat. h.held k z zat)
         (sym (found_without 0 world.next.hub world.hubs number k h.numbers.hubs) ∙ at);
   }
@@ -354,7 +354,7 @@ module _ {P C : Type 0} (meanings : C → Meanings) where
       (with_client_history world key (after_arrival arrival client))).sent
       (with_client_history world key (after_arrival arrival client)) n
       (record { numbers = client_numbered world key (after_arrival arrival client) h.numbers; held = h.held })
-  held_by (accepts world key client arrival is_log is_off found open_ came) n h =
+  held_by (accepts world key client arrival kind is_off found open_ came) n h =
       held_sending client.label (send key client (envelopes_on_arrival arrival client)
       (with_client_history world key (after_arrival arrival client))).sent
       (with_client_history world key (after_arrival arrival client)) n
@@ -364,7 +364,7 @@ module _ {P C : Type 0} (meanings : C → Meanings) where
   held_by (takes_report world label has) n h = record { numbers = n; held = h.held }
   held_by (absorbs world label losses has) n h = record { numbers = n; held = h.held }
   held_by (starts_none world number id) n h = record { numbers = n; held = h.held }
-  held_by (accepts_none world is_log) n h = record { numbers = n; held = h.held }
+  held_by (accepts_none world kind) n h = record { numbers = n; held = h.held }
   held_by (starts_session world number start) n h = record { numbers = n; held = h.held }
   held_by (changes_session world number old new later found same) n h = record { numbers = n; held = h.held }
   held_by (ends_session world number) n h = record { numbers = n; held = h.held }

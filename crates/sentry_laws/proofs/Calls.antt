@@ -33,7 +33,7 @@ use Rattle.sentry_scope.specs.Stacks.{depth, push, pop, stack_of_any}
 use Rattle.sentry_sessions.specs.Sessions.{session_attributes, start_of}
 use Rattle.sentry_pipeline.specs.Pipeline.{loss_reason}
 use Rattle.sentry_pipeline.specs.Pipeline as pipeline
-use Rattle.sentry_hub_table.specs.declared.hub.Hub.{Hub}
+use Rattle.sentry_hub_table.specs.declared.hub.HubState.{HubState}
 use Rattle.sentry_state.specs.Worlds.{World, ClientHistory, stored_client, span_table}
 use Rattle.sentry_state.specs.Outcomes.{client_at, hub_at, is_held_or_none, reply_with}
 use Rattle.sentry_hub_table.specs.Hubs.{with_stack, with_scope, with_client, with_session}
@@ -42,9 +42,9 @@ use Rattle.sentry_calls.specs.Clients.{holds_active_span}
 use Rattle.sentry_state.specs.Clients.{new_client, is_client_named, has_session_of}
 use Rattle.sentry_state.specs.Changes.{with_breadcrumbs, is_session_number_left, next_hub_key}
 use Rattle.sentry_state.specs.Books.{has_book}
-use Rattle.sentry_sending.specs.SessionEnds.{release_session}
+use Rattle.sentry_sending.specs.Sending.{release_session, Sending, reply_sending}
 use Rattle.sentry_events.specs.Captures.{capture, captured_id, capture_event, message_event, capture_named_session, attachments_of}
-use Rattle.sentry_telemetry.specs.declared.flushes.Flush.TheVariants.{All, Due, Closing}
+use Rattle.sentry_telemetry.specs.declared.flushes.Flush.TheVariants.{All, Due}
 use Rattle.sentry_telemetry.specs.Flushes.{flush_queues}
 use Rattle.sentry_telemetry.specs.Telemetry.{client_log, client_metric}
 use Rattle.sentry_state.specs.Breadcrumbs.{add_breadcrumbs}
@@ -63,16 +63,16 @@ use Rattle.sentry_calls.specs.Losses as losses
 use Rattle.sentry_calls.specs.Sessions as sessions
 use Rattle.sentry_calls.specs.Telemetry as telemetry
 use Rattle.sentry_calls.specs.Steps.{step, client_step, hub_step}
-use Rattle.sentry_laws.proofs.Effects.{Effect, scope_edited, breadcrumbs_came, client_bound, layer_pushed, layer_popped, hub_changed, hub_released, losses_absorbed, report_taken, session_begun, client_dropped, item_came, effects, client_effects, hub_effects, change_layers, add_under}
+use Rattle.sentry_laws.proofs.Effects.{Came, a_log, a_metric, a_close, Effect, scope_edited, breadcrumbs_came, client_bound, layer_pushed, layer_popped, hub_changed, hub_released, losses_absorbed, report_taken, session_begun, client_dropped, came_to_queues, effects, client_effects, hub_effects, change_layers, add_under}
 use Rattle.sentry_laws.proofs.Changes.{one, held_options, makes_hub, makes_hub_from, changes_hub, leaves_hub, notes_event_id, releases_hub, adds_client, clones_client, drops_client, mails, takes_report, absorbs, starts_none, accepts_none}
 use Rattle.sentry_laws.specs.SentItems.{handed_in}
 use Rattle.sentry_laws.proofs.SpanTrails.{quiet_names, told_span_step}
-use Rattle.sentry_sending.specs.Sending.{Sending, reply_sending}
 use Rattle.sentry_laws.proofs.Trails.{found_under, Sends, Told, told_trail, told_named, told_nothing, told_some, told_client, told_let, told_let_client, told_require, told_if, told_sending, told_mapped, quiet_last}
-use Rattle.sentry_laws.proofs.SendingTrails.{flushes, flush_hubs, flushed_client, keeps_log, keeps_metric, ends, releases, replaces, found_released, release_spans}
+use Rattle.sentry_laws.proofs.SendingTrails.{flushes, closes_queues, flush_hubs, flushed_client, keeps_log, keeps_metric, ends, releases, replaces, found_released, release_spans}
 use Rattle.sentry_laws.proofs.Naming.{hub_replaced_named}
 use Rattle.sentry_laws.proofs.Releases.{all_released_named, popped_named, hub_released_named, renamed_named, replaced_named}
 use Rattle.sentry_laws.proofs.CaptureTrails.{fate_of, captures, captures_with_session, loses_if_any, found_captured}
+use Rattle.sentry_laws.proofs.Tests.{and_left}
 
 abbrev quiet : {P C T : Type 0} → T → List (Effect P C)
 quiet reply = []
@@ -80,10 +80,6 @@ quiet reply = []
 and_right : (a b : Bool) → (a && b) ≡ true → b ≡ true
 and_right true b e = e
 and_right false b e = absurd cc
-
-and_left : (a b : Bool) → (a && b) ≡ true → a ≡ true
-and_left true b e = refl
-and_left false b e = e
 
 not_true : (b : Bool) → not b ≡ true → b ≡ false
 not_true true e = absurd cc
@@ -108,7 +104,7 @@ same_depth deep given top = let same : (deep == given) ≡ true = and_left (deep
     (arith, nat_tests)
 
 module _ {P C : Type 0} (meanings : C → Meanings) where
-  found_hub : (key : HubKey) (world : World P C) (hub : Hub P) → hub_at world key ≡ Some hub
+  found_hub : (key : HubKey) (world : World P C) (hub : HubState P) → hub_at world key ≡ Some hub
       → value_at world.hubs key.number ≡ Some hub
   found_hub key world hub found = found_under world.tag world.hubs key.tag key.number hub found
 
@@ -143,7 +139,7 @@ module _ {P C : Type 0} (meanings : C → Meanings) where
       told_require meanings None StillNamed (not (has_session_of key world.sessions)) (λ no_session.
       told_require meanings None StillNamed (not (has_transaction_of (span_table world) key)) (λ no_transaction.
       let left = flushed_client All key world client found in
-      told_trail meanings None tt (quiet_last meanings None (flushes meanings All key world).changes
+      told_trail meanings None tt (quiet_last meanings None (flushes meanings All refl key world).changes
       (drops_client (flush_queues All key world).after key left.0 client.label left.1 left.2
       (ap (is_client_named key) (flush_hubs All key world) ∙ not_true _ unnamed))) refl refl))))
 
@@ -170,18 +166,13 @@ module _ {P C : Type 0} (meanings : C → Meanings) where
   told_flush : (key : ClientKey) (world : World P C) → Told meanings None world quiet (clients.flush key world)
   unfolding clients.flush
   told_flush key world = told_client meanings None Stale (client_at world key) _
-      (λ client found. told_sending meanings None tt (flushes meanings All key world) refl)
+      (λ client found. told_sending meanings None tt (flushes meanings All refl key world) refl)
 
   told_tick : (key : ClientKey) (now : ℕ) (world : World P C) → Told meanings None world quiet
       (clients.tick key now world)
   unfolding clients.tick
   told_tick key now world = told_client meanings None Stale (client_at world key) _
-      (λ client found. told_sending meanings None tt (flushes meanings (Due now) key world) refl)
-
-  told_close : (key : ClientKey) (world : World P C) → Told meanings None world quiet (clients.close key world)
-  unfolding clients.close
-  told_close key world = told_client meanings None Stale (client_at world key) _
-      (λ client found. told_sending meanings None tt (flushes meanings Closing key world) refl)
+      (λ client found. told_sending meanings None tt (flushes meanings (Due now) refl key world) refl)
 
   told_send : (key : ClientKey) (envelope : Envelope) (world : World P C) → Told meanings (Some envelope) world quiet
       (clients.send_envelope key envelope world)
@@ -248,59 +239,65 @@ module _ {P C : Type 0} (meanings : C → Meanings) where
     unfolding hubs.capture_error
     told_error key links fresh world = told_capture key (error_event links fresh.uuid fresh.now) fresh world
 
-  -- ---- logs and metrics
+  -- ---- logs and metrics, and the last flush
 
-  told_came : {world : World P C} {sending : Sending P C} (is_log : Bool)
-      → Sends meanings None world (item_came is_log ∷ []) sending
-      → Told meanings None world (λ _. item_came is_log ∷ []) (reply_sending {T = Unit {0}} tt sending)
-  told_came is_log s = told_trail meanings None tt s.changes refl refl
+  told_came : {world : World P C} {sending : Sending P C} (kind : Came)
+      → Sends meanings None world (came_to_queues kind ∷ []) sending
+      → Told meanings None world (λ _. came_to_queues kind ∷ []) (reply_sending {T = Unit {0}} tt sending)
+  told_came kind s = told_trail meanings None tt s.changes refl refl
 
-  told_came_none : (is_log : Bool) (world : World P C)
-      → Told meanings None world (λ _. item_came is_log ∷ []) (reply_with {T = Unit {0}} tt [] world)
-  told_came_none is_log world = told_trail meanings None tt (one (accepts_none world is_log)) refl refl
+  told_came_none : (kind : Came) (world : World P C)
+      → Told meanings None world (λ _. came_to_queues kind ∷ []) (reply_with {T = Unit {0}} tt [] world)
+  told_came_none kind world = told_trail meanings None tt (one (accepts_none world kind)) refl refl
+
+  told_close : (key : ClientKey) (world : World P C)
+      → Told meanings None world (λ _. came_to_queues a_close ∷ []) (clients.close key world)
+  unfolding clients.close
+  told_close key world = told_client meanings None Stale (client_at world key) _
+      (λ client found. told_came a_close (closes_queues meanings key world))
 
   told_client_log : (key : ClientKey) (log : Log) (scope : declared_scope.Scope P) (world : World P C)
-      → Told meanings None world (λ _. item_came true ∷ []) (telemetry.client_capture_log meanings key log scope world)
+      → Told meanings None world (λ _. came_to_queues a_log ∷ []) (telemetry.client_capture_log meanings key log scope world)
   unfolding telemetry.client_capture_log
   told_client_log key log scope world =
       told_client meanings None Stale (client_at world key) _ (λ client found.
       told_require meanings None Stale (is_held (span_table world) scope.span) (λ active.
-      told_came true
+      told_came a_log
       (keeps_log meanings key client (client_log meanings (span_table world) (stored_client client) scope log)
       world found)))
 
   told_client_metric : (key : ClientKey) (draft : MetricDraft) (scope : declared_scope.Scope P) (now : ℕ)
-      (world : World P C) → Told meanings None world (λ _. item_came false ∷ [])
+      (world : World P C) → Told meanings None world (λ _. came_to_queues a_metric ∷ [])
       (telemetry.client_capture_metric meanings key draft scope now world)
   unfolding telemetry.client_capture_metric
   told_client_metric key draft scope now world =
       told_client meanings None Stale (client_at world key) _ (λ client found.
       told_require meanings None Stale (is_held (span_table world) scope.span) (λ active.
-      told_came false
+      told_came a_metric
       (keeps_metric meanings key client (client_metric meanings (span_table world) (stored_client client)
       scope now draft) world found)))
 
-  told_log : (key : HubKey) (log : Log) (world : World P C) → Told meanings None world (λ _. item_came true ∷ [])
+  told_log : (key : HubKey) (log : Log) (world : World P C) → Told meanings None world (λ _. came_to_queues a_log ∷ [])
       (telemetry.capture_log meanings key log world)
   unfolding telemetry.capture_log
   told_log key log world =
       told_some meanings None Stale (hub_at world key) (λ hub found.
-      told_let meanings None hub.stack.top.client (λ none. told_came_none true world) (λ client_key named_.
-      told_let_client meanings None (client_at world client_key) _ _ (λ none. told_came_none true world)
+      told_let meanings None hub.stack.top.client (λ none. told_came_none a_log world) (λ client_key named_.
+      told_let_client meanings None (client_at world client_key) _ _ (λ none. told_came_none a_log world)
       (λ client held.
-      told_came true
+      told_came a_log
       (keeps_log meanings client_key client (client_log meanings (span_table world) (stored_client client)
       hub.stack.top.scope log) world held))))
 
-  told_metric : (key : HubKey) (draft : MetricDraft) (now : ℕ) (world : World P C) → Told meanings None world (λ _. item_came false ∷ [])
+  told_metric : (key : HubKey) (draft : MetricDraft) (now : ℕ) (world : World P C) → Told meanings None world (λ _. came_to_queues a_metric ∷ [])
       (telemetry.capture_metric meanings key draft now world)
   unfolding telemetry.capture_metric
   told_metric key draft now world =
       told_some meanings None Stale (hub_at world key) (λ hub found.
-      told_let meanings None hub.stack.top.client (λ none. told_came_none false world) (λ client_key named_.
-      told_let_client meanings None (client_at world client_key) _ _ (λ none. told_came_none false world)
+      told_let meanings None hub.stack.top.client (λ none. told_came_none a_metric world) (λ client_key named_.
+      told_let_client meanings None (client_at world client_key) _ _ (λ none. told_came_none a_metric world)
       (λ client held.
-      told_came false
+      told_came a_metric
       (keeps_metric meanings client_key client (client_metric meanings (span_table world) (stored_client client)
       hub.stack.top.scope now draft) world held))))
 
@@ -363,20 +360,20 @@ module _ {P C : Type 0} (meanings : C → Meanings) where
       told_trail meanings None (next_hub_key world)
       (one (makes_hub_from world key.number hub (found_hub key world hub found))) refl refl))
 
-  came_by : (world : World P C) (breadcrumbs : List Breadcrumb) (hub : Hub P) → (length breadcrumbs == 0) ≡ false
+  came_by : (world : World P C) (breadcrumbs : List Breadcrumb) (hub : HubState P) → (length breadcrumbs == 0) ≡ false
       → change_layers meanings (held_options world) (breadcrumbs_came breadcrumbs) hub.stack ≡ add_under meanings
       (option_and_then (held_options world) hub.stack.top.client) breadcrumbs hub.stack
   came_by world breadcrumbs hub e =
       ap (λ (b : Bool). if b then hub.stack else add_under meanings
       (option_and_then (held_options world) hub.stack.top.client) breadcrumbs hub.stack) e
 
-  came_none : (world : World P C) (breadcrumbs : List Breadcrumb) (hub : Hub P) → (length breadcrumbs == 0) ≡ true
+  came_none : (world : World P C) (breadcrumbs : List Breadcrumb) (hub : HubState P) → (length breadcrumbs == 0) ≡ true
       → change_layers meanings (held_options world) (breadcrumbs_came breadcrumbs) hub.stack ≡ hub.stack
   came_none world breadcrumbs hub e =
       ap (λ (b : Bool). if b then hub.stack else add_under meanings
       (option_and_then (held_options world) hub.stack.top.client) breadcrumbs hub.stack) e
 
-  came_no_client : (world : World P C) (breadcrumbs : List Breadcrumb) (hub : Hub P) → (length breadcrumbs == 0) ≡ false
+  came_no_client : (world : World P C) (breadcrumbs : List Breadcrumb) (hub : HubState P) → (length breadcrumbs == 0) ≡ false
       → hub.stack.top.client ≡ None
       → change_layers meanings (held_options world) (breadcrumbs_came breadcrumbs) hub.stack ≡ hub.stack
   came_no_client world breadcrumbs hub e none =
@@ -384,7 +381,7 @@ module _ {P C : Type 0} (meanings : C → Meanings) where
       ∙ ap (λ (o : Option ClientKey). add_under meanings (option_and_then (held_options world) o)
       breadcrumbs hub.stack) none
 
-  came_client : (world : World P C) (breadcrumbs : List Breadcrumb) (hub : Hub P) (key : ClientKey)
+  came_client : (world : World P C) (breadcrumbs : List Breadcrumb) (hub : HubState P) (key : ClientKey)
       (o : Option (ClientHistory C)) → (length breadcrumbs == 0) ≡ false → hub.stack.top.client ≡ Some key
       → client_at world key ≡ o
       → change_layers meanings (held_options world) (breadcrumbs_came breadcrumbs) hub.stack ≡ add_under meanings

@@ -17,9 +17,10 @@ use Rattle.sentry_calls.specs.declared.call.Reply.{Reply}
 use Rattle.sentry_laws.specs.Losses.{came_in}
 use Rattle.sentry_laws.specs.LossesByCalls.{losses_in, losses_by_answer, brought_since, CallsAddUp}
 use Rattle.sentry_laws.specs.Reports.{history_of}
-use Rattle.sentry_laws.proofs.LabelBooks.{HasBooks, no_books, and_left}
+use Rattle.sentry_laws.proofs.LabelBooks.{HasBooks, no_books}
 use Rattle.sentry_laws.proofs.LossesByCalls.{kept_books, kept_tag, records_call}
 use Rattle.sentry_laws.proofs.Reports.{reports_add_up}
+use Rattle.sentry_laws.proofs.Tests.{and_left}
 
 -- what came to a book, reports aside
 came_but : (history : List LossEntry) (i : ℕ) → came_in history i ≡ came_in (losses_in history) i

@@ -8,6 +8,7 @@ use Rattle.sentry_base.specs.Callbacks.{Partial}
 use Rattle.sentry_base.specs.Envelopes.{with_item, empty_envelope}
 use Rattle.sentry_base.specs.declared.protocol.attachment.Attachment.{Attachment}
 use Rattle.sentry_base.specs.declared.protocol.envelope.Envelope.{Envelope}
+use Rattle.sentry_base.specs.declared.protocol.envelope.EnvelopeHeaders.{EnvelopeHeaders}
 use Rattle.sentry_base.specs.declared.protocol.envelope.EnvelopeItem.{EnvelopeItem}
 use Rattle.sentry_base.specs.declared.protocol.envelope.EnvelopeItem.TheVariants as item
 use Rattle.sentry_base.specs.declared.protocol.event.Event.{Event}
@@ -32,13 +33,14 @@ use Rattle.sentry_pipeline.specs.declared.pipeline.Place.{Place}
 use Rattle.sentry_pipeline.specs.declared.pipeline.Place.TheVariants.{EventProcessor, Integration, BeforeSend}
 use Rattle.sentry_pipeline.specs.declared.pipeline.Preparation.TheVariants.{Kept, SampledOut, Dropped}
 use Rattle.sentry_span_table.specs.declared.table.records.SpanTable.{SpanTable}
-use Rattle.sentry_state.specs.declared.state.Client.{Client}
-use Rattle.sentry_hub_table.specs.declared.hub.Hub.{Hub}
+use Rattle.sentry_state.specs.declared.state.ClientState.{ClientState}
+use Rattle.sentry_hub_table.specs.declared.hub.HubState.{HubState}
 use Rattle.sentry_state.specs.Worlds.{World, ClientHistory, SessionHistory, stored_client, stored_session}
 use Rattle.sentry_state.specs.Outcomes.{client_at, session_at}
 use Rattle.sentry_state.specs.Books.{pending_report, with_entry_if_any}
 use Rattle.sentry_events.specs.Captures.{Capture, capture, capture_of_prepared, event_loss, capture_entry, event_to_send, captured_envelopes, with_update, with_attachments, capture_session, with_reached, takes_update, SessionCapture, capture_named_session, captured_update, with_captured_session}
-use Rattle.sentry_laws.proofs.Changes.{Changes, IsOfHeld, ItemIsOfHeld, AreOfHeld, status_of, nothing, one, both, mails, loses, changes_session, is_batch_or_report}
+use Rattle.sentry_laws.specs.Statuses.{status_of}
+use Rattle.sentry_laws.proofs.Changes.{Changes, IsOfHeld, ItemIsOfHeld, AreOfHeld, ItemIsOfTransaction, AreOfTransactions, nothing, one, both, mails, loses, changes_session, is_batch_or_report}
 use Rattle.sentry_laws.proofs.Tables.{own_replaced}
 use Rattle.sentry_laws.proofs.Trails.{found_under}
 use Rattle.sentry_laws.proofs.SendingTrails.{pending_told}
@@ -94,7 +96,7 @@ module _ {P C : Type 0} (gives : P → Partial) (meanings : C → Meanings) wher
   captured-by true prepared h = h
   captured-by false prepared h = ignored
 
-  pub fate_of : (spans : SpanTable) (client : Client C) (scope : Option (Scope P)) (fresh : Fresh) (event : Event)
+  pub fate_of : (spans : SpanTable) (client : ClientState C) (scope : Option (Scope P)) (fresh : Fresh) (event : Event)
       → Fate client.occupied (capture gives meanings spans client scope fresh event).event
       (capture gives meanings spans client scope fresh event).entry
   unfolding capture
@@ -144,6 +146,26 @@ module _ {P C : Type 0} (world : World P C) where
   held_updated None event h = (tt, tt)
   held_updated (Some update) event h = (tt, (h update refl, tt))
 
+-- ---- no transaction goes along with an event
+
+module _ {P C : Type 0} (world : World P C) (header : EnvelopeHeaders) where
+  of_more : (items : List EnvelopeItem) (added : EnvelopeItem) → AreOfTransactions world header items
+      → ItemIsOfTransaction world header added → AreOfTransactions world header (items ++ added ∷ [])
+  of_more [] added h k = (k, tt)
+  of_more (first ∷ rest) added h k = (h.0, of_more rest added h.1 k)
+
+  of_attached : (attachments : List Attachment) (envelope : Envelope) → AreOfTransactions world header envelope.items
+      → AreOfTransactions world header (with_attachments attachments envelope).items
+  of_attached [] envelope h = h
+  of_attached (attachment ∷ rest) envelope h =
+      of_attached rest (with_item envelope (item.Attachment attachment))
+      (of_more envelope.items (item.Attachment attachment) h tt)
+
+  of_updated : (update : Option SessionUpdate) (event : Event)
+      → AreOfTransactions world header (with_update update (with_item empty_envelope (item.Event event))).items
+  of_updated None event = (tt, tt)
+  of_updated (Some update) event = (tt, (tt, tt))
+
 module _ {P C : Type 0} (meanings : C → Meanings) (given : Option Envelope) where
   -- the envelopes of a capture and its entry in the book
   pub captures : given ≡ None → (world : World P C) (key : ClientKey) (client : ClientHistory C)
@@ -158,7 +180,12 @@ module _ {P C : Type 0} (meanings : C → Meanings) (given : Option Envelope) wh
       one (loses world key client _ found)
   captures own world key client found update attachments event entry (goes sent occupied) held =
       one (mails world key client _ found occupied (inr (own, attached attachments _ (updated update sent)))
-      (λ none. held_attached world attachments _ (held_updated world update sent held)))
+      (λ none. (
+        held_attached world attachments _ (held_updated world update sent held),
+        let first = with_update update (with_item empty_envelope (item.Event sent)) in
+            let header = (with_attachments attachments first).header in
+            of_attached world header attachments first (of_updated world header update sent),
+      )))
 
   pub loses_if_any : (world : World P C) (key : ClientKey) (client : ClientHistory C) → client_at world key ≡ Some client
       → (reason : Option Reason)
@@ -207,7 +234,7 @@ module _ {P C : Type 0} where
 
   -- the hub of a capture is found after it
   pub found_captured : (world : World P C) (label : Label) (entry : Option LossEntry) (name : Option SessionKey)
-      (captured : Option SessionCapture) (number : ℕ) (hub : Hub P)
+      (captured : Option SessionCapture) (number : ℕ) (hub : HubState P)
       → value_at world.hubs number ≡ Some hub
       → value_at (with_captured_session (with_entry_if_any world label entry) name captured).hubs number ≡ Some hub
   found_captured world label entry name captured number hub found =
@@ -226,7 +253,7 @@ module _ {P C : Type 0} (meanings : C → Meanings) (given : Option Envelope) wh
       ∙ found_under world.tag world.sessions key.tag key.number before found) later.1)
 
   pub captures_session : (world : World P C) (label : Label) (entry : Option LossEntry) (name : Option SessionKey)
-      (client : Client C) (made : Capture)
+      (client : ClientState C) (made : Capture)
       → Changes meanings given (with_entry_if_any world label entry) [] []
       (with_captured_session (with_entry_if_any world label entry) name (capture_named_session world name client made))
   captures_session world label entry None client made = nothing _
@@ -278,7 +305,7 @@ module _ {P C : Type 0} where
         told_.1,
       )
 
-  update_told : (world : World P C) (name : Option SessionKey) (client : Client C) (made : Capture)
+  update_told : (world : World P C) (name : Option SessionKey) (client : ClientState C) (made : Capture)
       (update : SessionUpdate) → captured_update (capture_named_session world name client made) ≡ Some update
       → IsOfHeld (with_captured_session world name (capture_named_session world name client made)) update
   update_told world None client made update e = absurd cc

@@ -1,10 +1,11 @@
 -- The changes that every call is a sequence of.
-use Rattle.std.specs.Prelude.{◌≡◌, ◌≢◌, ℕ, ◌+◌, Bool, true, false, Option, Some, None, List, [], ◌∷◌, ◌++◌, ◌⊎◌, ◌==◌, ◌<◌}
-use Rattle.std.specs.List.{list_any}
+use Rattle.std.specs.Prelude.{◌≡◌, ◌≢◌, ℕ, ◌+◌, Bool, true, false, Option, Some, None, List, [], ◌∷◌, ◌++◌, ◌⊎◌, ◌==◌, ◌<◌, if◌then◌else◌}
+use Rattle.std.specs.List.{list_any, AllByRecursion}
 use Rattle.std.specs.Option.{option_map}
 use Rattle.sentry_plain.specs.Tables.{value_at, put, replace_at, without}
 use Rattle.sentry_base.specs.Envelopes.{with_report}
 use Rattle.sentry_base.specs.declared.protocol.envelope.Envelope.{Envelope}
+use Rattle.sentry_base.specs.declared.protocol.envelope.EnvelopeHeaders.{EnvelopeHeaders}
 use Rattle.sentry_base.specs.declared.protocol.envelope.EnvelopeItem.{EnvelopeItem}
 use Rattle.sentry_base.specs.declared.protocol.envelope.EnvelopeItem.TheVariants as item
 use Rattle.sentry_base.specs.declared.protocol.keys.ClientKey.{ClientKey}
@@ -12,7 +13,6 @@ use Rattle.sentry_base.specs.declared.protocol.keys.Label.{Label}
 use Rattle.sentry_base.specs.declared.protocol.keys.SessionKey.{SessionKey}
 use Rattle.sentry_base.specs.declared.protocol.log.Log.{Log}
 use Rattle.sentry_base.specs.declared.protocol.metric.Metric.{Metric}
-use Rattle.sentry_base.specs.declared.protocol.session.SessionStatus.{SessionStatus}
 use Rattle.sentry_base.specs.declared.protocol.session.SessionStatus.TheVariants as session_status
 use Rattle.sentry_base.specs.declared.protocol.session.SessionUpdate.{SessionUpdate}
 use Rattle.sentry_options.specs.Meanings.{Meanings}
@@ -24,19 +24,19 @@ use Rattle.sentry_scope.specs.declared.scope.Scope.{Scope}
 use Rattle.sentry_scope.specs.declared.scope.stack.Stack.{Stack}
 use Rattle.sentry_scope.specs.Stacks.{one_layer, top_alone, depth}
 use Rattle.sentry_sessions.specs.SessionQueues.{enqueued, envelopes_on}
-use Rattle.sentry_sessions.specs.Sessions.{SessionEntry, end_of, end_status}
+use Rattle.sentry_sessions.specs.Sessions.{SessionEntry}
 use Rattle.sentry_sessions.specs.declared.session.record.SessionStart.{SessionStart}
-use Rattle.sentry_hub_table.specs.declared.hub.Hub.{Hub}
+use Rattle.sentry_hub_table.specs.declared.hub.HubState.{HubState}
 use Rattle.sentry_state.specs.Worlds.{World, ClientHistory, SessionHistory, span_table}
 use Rattle.sentry_base.specs.declared.protocol.keys.SpanKey.{SpanKey}
 use Rattle.sentry_base.specs.declared.protocol.keys.TransactionKey.{TransactionKey}
 use Rattle.sentry_base.specs.declared.protocol.keys.TransactionOrSpanKey.{TransactionOrSpanKey}
 use Rattle.sentry_base.specs.declared.protocol.keys.TransactionOrSpanKey.TheVariants as key_of
-use Rattle.sentry_span_table.specs.SpanLists.{TransactionHistory, with_span_finished}
+use Rattle.sentry_span_table.specs.SpanLists.{TransactionHistory, kept_spans, with_span_finished}
 use Rattle.sentry_span_table.specs.SpanTables.{has_span_of, is_held, place_in}
 use Rattle.sentry_span_table.specs.declared.table.records.SpanPlace.{SpanPlace}
 use Rattle.sentry_span_table.specs.declared.table.records.SpanRecord.{SpanRecord}
-use Rattle.sentry_span_edits.specs.Discards.{is_active_on}
+use Rattle.sentry_spans.specs.Discards.{is_active_on}
 use Rattle.sentry_state.specs.SpanChanges.{with_new_transaction, with_new_span}
 use Rattle.sentry_state.specs.Outcomes.{client_at, is_held_or_none, transaction_at, span_at}
 use Rattle.sentry_state.specs.Clients.{is_client_named, clone_from, queues_from}
@@ -44,8 +44,10 @@ use Rattle.sentry_state.specs.Changes.{with_log_entry, with_metric_entry, with_c
 use Rattle.sentry_state.specs.Books.{with_book, with_entry, pending_report, has_book, without_unused_book}
 use Rattle.sentry_sending.specs.Sending.{send}
 use Rattle.sentry_telemetry.specs.declared.flushes.Flush.{Flush}
-use Rattle.sentry_telemetry.specs.Flushes.{after_flush, flushed_envelopes, batch_envelopes}
-use Rattle.sentry_laws.proofs.Effects.{Effect, LayerChange, client_added, client_cloned, hub_made, hub_made_from, hub_changed, hub_released, losses_absorbed, report_taken, session_begun, client_dropped, item_came, scope_edited, client_bound, layer_popped, session_named, change_layers}
+use Rattle.sentry_telemetry.specs.Flushes.{is_closing, after_flush, flushed_envelopes, batch_envelopes}
+use Rattle.sentry_laws.specs.Statuses.{status_of}
+use Rattle.sentry_laws.specs.Traces.{trace_named}
+use Rattle.sentry_laws.proofs.Effects.{Came, a_log, a_metric, a_close, Effect, LayerChange, client_added, client_cloned, hub_made, hub_made_from, hub_changed, hub_released, losses_absorbed, report_taken, session_begun, client_dropped, came_to_queues, scope_edited, client_bound, layer_popped, session_named, change_layers}
 
 -- ---- what comes to the queues of a client
 
@@ -72,10 +74,6 @@ module _ {C : Type 0} where
   envelopes_on_arrival (flush_came flush) client =
       flushed_envelopes flush client.options.plain client.queues
 
--- the status of a session
-abbrev pub status_of : SessionHistory → SessionStatus
-status_of session = end_status (end_of session.history)
-
 module _ {P C : Type 0} where
   -- a session that is held has the id and the status of the update
   abbrev pub IsOfHeld : World P C → SessionUpdate → Type 0
@@ -92,17 +90,29 @@ module _ {P C : Type 0} where
   AreOfHeld world [] = Unit {0}
   AreOfHeld world (first ∷ rest) = ItemIsOfHeld world first × AreOfHeld world rest
 
-  -- an update that comes is one of a session that is held, and has another status than `Ok`
+  -- a transaction among items under a header has the spans that one which is held kept, and the header names its trace
+  abbrev pub ItemIsOfTransaction : World P C → EnvelopeHeaders → EnvelopeItem → Type 0
+  ItemIsOfTransaction world header (item.Transaction transaction) =
+      (number : ℕ) × (state : TransactionHistory) × (value_at world.transactions number ≡ Some state)
+      × (trace_named header ≡ Some state.context.trace_id)
+      × (transaction.spans ≡ kept_spans state.tracing state.max_spans state.finished)
+  ItemIsOfTransaction world header _ = Unit {0}
+
+  abbrev pub AreOfTransactions : World P C → EnvelopeHeaders → List EnvelopeItem → Type 0
+  AreOfTransactions world header items = AllByRecursion (ItemIsOfTransaction world header) items
+
+  -- an update that comes is one of a session that is held, and has another status than `Ok`; a flush isn't the last one
   abbrev pub IsArrival : World P C → Arrival → Type 0
   IsArrival world (session_ended update) = IsOfHeld world update × (update.status ≢ session_status.Ok)
-  IsArrival world (flush_came flush) = Unit {0}
+  IsArrival world (flush_came flush) = is_closing flush ≡ false
   IsArrival world _ = ⊥
 
--- a log (`true`) or a metric (`false`) comes
-abbrev pub IsItem : Bool → Arrival → Type 0
-IsItem true (log_came log) = Unit {0}
-IsItem false (metric_came metric) = Unit {0}
-IsItem _ _ = ⊥
+-- what comes, if it is one of what calls bring to queues by themselves
+abbrev pub kind_of : Arrival → Option Came
+kind_of (log_came log) = Some a_log
+kind_of (metric_came metric) = Some a_metric
+kind_of (session_ended update) = None
+kind_of (flush_came flush) = if is_closing flush then Some a_close else None
 
 -- no session is named, or one with the tag and a number that was given out
 abbrev pub IsGiven : ℕ → ℕ → Option SessionKey → Type 0
@@ -162,23 +172,23 @@ pub data Change {P C : Type 0} (meanings : C → Meanings) (given : Option Envel
       → is_held (span_table world) scope.span ≡ true
       → Change meanings given world (hub_made world.next.hub (one_layer client scope) ∷ []) []
       (with_new_hub (one_layer client scope) world)
-  makes_hub_from : (world : World P C) (maker : ℕ) (hub : Hub P) → value_at world.hubs maker ≡ Some hub
+  makes_hub_from : (world : World P C) (maker : ℕ) (hub : HubState P) → value_at world.hubs maker ≡ Some hub
       → Change meanings given world (hub_made_from world.next.hub maker ∷ []) []
       (with_new_hub (top_alone hub.stack) world)
-  changes_hub : (world : World P C) (number : ℕ) (old new : Hub P) (change : LayerChange P)
+  changes_hub : (world : World P C) (number : ℕ) (old new : HubState P) (change : LayerChange P)
       → value_at world.hubs number ≡ Some old
       → new.stack ≡ change_layers meanings (held_options world) change old.stack → IsAllowed world old.stack change
       → Change meanings given world (hub_changed number change ∷ []) []
       (record world { hubs = replace_at world.hubs number new })
   -- a change that leaves the hub as it was
-  leaves_hub : (world : World P C) (number : ℕ) (hub : Hub P) (change : LayerChange P)
+  leaves_hub : (world : World P C) (number : ℕ) (hub : HubState P) (change : LayerChange P)
       → value_at world.hubs number ≡ Some hub
       → change_layers meanings (held_options world) change hub.stack ≡ hub.stack
       → Change meanings given world (hub_changed number change ∷ []) [] world
-  notes_event_id : (world : World P C) (number : ℕ) (old new : Hub P) → value_at world.hubs number ≡ Some old
+  notes_event_id : (world : World P C) (number : ℕ) (old new : HubState P) → value_at world.hubs number ≡ Some old
       → new.stack ≡ old.stack
       → Change meanings given world [] [] (record world { hubs = replace_at world.hubs number new })
-  releases_hub : (world : World P C) (number : ℕ) (hub : Hub P) → value_at world.hubs number ≡ Some hub
+  releases_hub : (world : World P C) (number : ℕ) (hub : HubState P) → value_at world.hubs number ≡ Some hub
       → depth hub.stack ≡ 0
       → Change meanings given world (hub_released number ∷ []) [] (record world { hubs = without world.hubs number })
   -- a client under the next number
@@ -207,20 +217,21 @@ pub data Change {P C : Type 0} (meanings : C → Meanings) (given : Option Envel
       (with_client_history world key (after_arrival arrival client))).sent
       (send key client (envelopes_on_arrival arrival client)
       (with_client_history world key (after_arrival arrival client))).after
-  -- a log or a metric comes to the queues of a client that isn't closed, which may send what waits; or none does
-  accepts : (world : World P C) (key : ClientKey) (client : ClientHistory C) (arrival : Arrival) (is_log : Bool)
-      → given ≡ None → client_at world key ≡ Some client → client.closed ≡ false → IsItem is_log arrival
-      → Change meanings given world (item_came is_log ∷ [])
+  -- a log, a metric or the last flush comes to the queues of a client that isn't closed, which may send what waits; or
+  -- none does
+  accepts : (world : World P C) (key : ClientKey) (client : ClientHistory C) (arrival : Arrival) (kind : Came)
+      → given ≡ None → client_at world key ≡ Some client → client.closed ≡ false → kind_of arrival ≡ Some kind
+      → Change meanings given world (came_to_queues kind ∷ [])
       (send key client (envelopes_on_arrival arrival client)
       (with_client_history world key (after_arrival arrival client))).sent
       (send key client (envelopes_on_arrival arrival client)
       (with_client_history world key (after_arrival arrival client))).after
-  accepts_none : (world : World P C) (is_log : Bool) → Change meanings given world (item_came is_log ∷ []) [] world
+  accepts_none : (world : World P C) (kind : Came) → Change meanings given world (came_to_queues kind ∷ []) [] world
   -- an envelope leaves an occupied slot: the caller's own, or one without a batch
   mails : (world : World P C) (key : ClientKey) (client : ClientHistory C) (envelope : Envelope)
       → client_at world key ≡ Some client → client.occupied ≡ true
       → (given ≡ Some envelope) ⊎ ((given ≡ None) × (list_any is_batch_or_report envelope.items ≡ false))
-      → (given ≡ None → AreOfHeld world envelope.items)
+      → (given ≡ None → AreOfHeld world envelope.items × AreOfTransactions world envelope.header envelope.items)
       → Change meanings given world [] ((key, with_report (pending_report world client.label) envelope) ∷ [])
       (with_entry world client.label report_point)
   loses : (world : World P C) (key : ClientKey) (client : ClientHistory C) (losses : List ℕ)

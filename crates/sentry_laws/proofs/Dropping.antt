@@ -19,7 +19,7 @@ use Rattle.sentry_calls.specs.declared.call.hubs.HubCall.{HubCall}
 use Rattle.sentry_calls.specs.declared.call.hubs.HubCall.TheVariants.{NewHub, NewHubFromTop}
 use Rattle.sentry_calls.specs.declared.call.Reply.{Reply}
 use Rattle.sentry_calls.specs.declared.call.Reply.TheVariants as reply
-use Rattle.sentry_laws.proofs.Effects.{Effect, scope_edited, breadcrumbs_came, client_bound, layer_pushed, layer_popped, session_named, hub_changed, client_dropped, item_came, client_added, client_cloned, hub_made, hub_made_from, hub_released, losses_absorbed, report_taken, session_begun, effects, client_effects, hub_effects}
+use Rattle.sentry_laws.proofs.Effects.{Effect, scope_edited, breadcrumbs_came, client_bound, layer_pushed, layer_popped, session_named, hub_changed, client_dropped, came_to_queues, client_added, client_cloned, hub_made, hub_made_from, hub_released, losses_absorbed, report_taken, session_begun, effects, client_effects, hub_effects}
 use Rattle.sentry_laws.proofs.Changes.{Change, Changes, nothing, one, both, after_arrival, envelopes_on_arrival, makes_hub, makes_hub_from, changes_hub, leaves_hub, notes_event_id, releases_hub, adds_client, clones_client, drops_client, arrives, accepts, accepts_none, mails, loses, takes_report, absorbs, starts_none, starts_session, changes_session, ends_session, starts_transaction, starts_span, changes_spans}
 use Rattle.sentry_laws.proofs.Found.{found_put, found_replaced, found_without}
 use Rattle.sentry_laws.proofs.Numbered.{IsNumbered, numbered_changes}
@@ -77,7 +77,7 @@ module _ (n : ℕ) {P C : Type 0} where
         (ap is_some (found_replaced world.clients key.number n (after_arrival arrival client) client
         (found_under world.tag world.clients key.tag key.number client found))
         ∙ held_if (n == key.number) (after_arrival arrival client) (value_at world.clients n) h)
-    held_change (accepts world key client arrival is_log is_off found open_ came) m d h =
+    held_change (accepts world key client arrival kind is_off found open_ came) m d h =
         held_sending client.label (send key client (envelopes_on_arrival arrival client)
         (with_client_history world key (after_arrival arrival client))).sent
         (with_client_history world key (after_arrival arrival client))
@@ -89,7 +89,7 @@ module _ (n : ℕ) {P C : Type 0} where
     held_change (takes_report world label has) m d h = h
     held_change (absorbs world label losses has) m d h = h
     held_change (starts_none world number id) m d h = h
-    held_change (accepts_none world is_log) m d h = h
+    held_change (accepts_none world kind) m d h = h
     held_change (starts_session world number start) m d h = h
     held_change (changes_session world number old new later found same) m d h = h
     held_change (ends_session world number) m d h = h
@@ -125,7 +125,7 @@ module _ (n : ℕ) {P C : Type 0} where
     own_dropped (hub_released number ∷ rest) = own_dropped rest
     own_dropped (losses_absorbed label losses ∷ rest) = own_dropped rest
     own_dropped (report_taken label report ∷ rest) = own_dropped rest
-    own_dropped (item_came is_log ∷ rest) = own_dropped rest
+    own_dropped (came_to_queues kind ∷ rest) = own_dropped rest
 
     -- the call drops the client
     abbrev pub Drops : Call P C → Type 0

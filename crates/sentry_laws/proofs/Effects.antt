@@ -18,7 +18,7 @@ use Rattle.sentry_state.specs.declared.state.Out.{Out}
 use Rattle.sentry_calls.specs.declared.call.Call.{Call}
 use Rattle.sentry_calls.specs.declared.call.Call.TheVariants as group
 use Rattle.sentry_calls.specs.declared.call.clients.ClientCall.{ClientCall}
-use Rattle.sentry_calls.specs.declared.call.clients.ClientCall.TheVariants.{AddClient, Absorb, CloneClient, TakeReport, DropClient, ClientCaptureLog, ClientCaptureMetric}
+use Rattle.sentry_calls.specs.declared.call.clients.ClientCall.TheVariants.{AddClient, Absorb, Close, CloneClient, TakeReport, DropClient, ClientCaptureLog, ClientCaptureMetric}
 use Rattle.sentry_calls.specs.declared.call.hubs.HubCall.{HubCall}
 use Rattle.sentry_calls.specs.declared.call.hubs.HubCall.TheVariants.{NewHub, NewHubFromTop, ReleaseHub, Configure, AddBreadcrumbs, PushScope, PopScope, BindClient, StartSession, CaptureLog, CaptureMetric}
 use Rattle.sentry_calls.specs.declared.call.Reply.{Reply}
@@ -55,6 +55,13 @@ module _ {P C : Type 0} (meanings : C → Meanings) where
 
 -- ---- what a call changes
 
+-- what a call may bring to the queues of a client
+pub data Came : Type 0 where
+  a_log : Came
+  a_metric : Came
+  -- the last flush, after which nothing comes any more
+  a_close : Came
+
 pub data Effect (P C : Type 0) : Type 0 where
   client_added : ClientKey → ClientOptions C → Effect P C
   -- the first client is a clone of the second
@@ -72,8 +79,8 @@ pub data Effect (P C : Type 0) : Type 0 where
   session_begun : ℕ → List ℕ → Effect P C
   -- the client with this number was dropped
   client_dropped : ℕ → Effect P C
-  -- a log may have come to a queue (`true`), or a metric (`false`)
-  item_came : Bool → Effect P C
+  -- this may have come to the queues of a client
+  came_to_queues : Came → Effect P C
 
 module _ {P C : Type 0} where
   abbrev pub on_client : Reply P C → (ClientKey → Effect P C) → List (Effect P C)
@@ -110,8 +117,9 @@ module _ {P C : Type 0} (meanings : C → Meanings) where
       on_client made (λ key. client_added key (set_up meanings options))
   client_effects (CloneClient client now) made = on_client made (λ key. client_cloned key client)
   client_effects (Absorb label lost) made = losses_absorbed label lost.quantities ∷ []
-  client_effects (ClientCaptureLog client log scope) made = item_came true ∷ []
-  client_effects (ClientCaptureMetric client draft scope now) made = item_came false ∷ []
+  client_effects (ClientCaptureLog client log scope) made = came_to_queues a_log ∷ []
+  client_effects (ClientCaptureMetric client draft scope now) made = came_to_queues a_metric ∷ []
+  client_effects (Close client) made = came_to_queues a_close ∷ []
   client_effects (DropClient client) made = client_dropped client.number ∷ []
   client_effects (TakeReport label) made = on_report made (λ report. report_taken label report)
   client_effects call made = []
@@ -126,8 +134,8 @@ module _ {P C : Type 0} (meanings : C → Meanings) where
   hub_effects (PushScope hub) made = hub_changed hub.number layer_pushed ∷ []
   hub_effects (PopScope hub depth now) made = hub_changed hub.number (layer_popped depth) ∷ []
   hub_effects (BindClient hub client) made = hub_changed hub.number (client_bound client) ∷ []
-  hub_effects (CaptureLog hub log) made = item_came true ∷ []
-  hub_effects (CaptureMetric hub draft now) made = item_came false ∷ []
+  hub_effects (CaptureLog hub log) made = came_to_queues a_log ∷ []
+  hub_effects (CaptureMetric hub draft now) made = came_to_queues a_metric ∷ []
   hub_effects (StartSession hub fresh) made = session_begun hub.number fresh.uuid ∷ []
   hub_effects call made = []
 

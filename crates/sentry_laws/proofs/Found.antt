@@ -1,7 +1,9 @@
 -- What is found in tables after a change, as one equation for each change.
-use Rattle.std.proofs.Common.{◌≡◌, ◌≢◌, refl, ap, ◌∙◌, subst, ℕ, List, Bool, true, false, arith}
+use Rattle.std.proofs.Common.{◌≡◌, ◌≢◌, ◌<◌, ◌+◌, refl, ap, ◌∙◌, subst, ℕ, List, [], ◌∷◌, Bool, true, false, cond, arith}
 use Rattle.std.proofs.lemmas.Bool.Decides.{nat_tests}
 use Rattle.std.specs.Prelude.{Option, Some, None, ◌==◌, if◌then◌else◌}
+use Rattle.std.specs.BTreeMap.{is_at}
+use Rattle.std.specs.Ordering.{nat_cmp}
 use Rattle.sentry_plain.specs.Tables.{value_at, put, replace_at, without}
 use Rattle.sentry_laws.proofs.Tables.{AreBelow, own_put, others_put, own_replaced, others_replaced, gone, others_without}
 
@@ -50,3 +52,15 @@ module _ {X : Type 0} where
       → (if b then None else o) ≡ Some y → Q y
   all_without Q true y o h e = absurd cc
   all_without Q false y o h e = h y e
+
+-- a number that is found is below the next one
+found-at : {X : Type 0} (b : Bool) (n next : ℕ) (e : ℕ × X) (o : Option X) (x : X) → is_at (nat_cmp n) e.0 ≡ b
+    → e.0 < next → (o ≡ Some x → n < next) → cond b (Some e.1) o ≡ Some x → n < next
+found-at true n next e o x q h rest found = grind (arith, nat_tests)
+found-at false n next e o x q h rest found = rest found
+
+pub found_below : {X : Type 0} (low next n : ℕ) (m : List (ℕ × X)) (x : X) → AreBelow low next m → value_at m n ≡ Some x
+    → n < next
+found_below low next n [] x b found = absurd cc
+found_below low next n (e ∷ es) x b found = found-at (is_at (nat_cmp n) e.0) n next e (value_at es n) x refl b.1
+    (found_below (e.0 + 1) next n es x b.2) found

@@ -17,7 +17,7 @@ use Rattle.sentry_options.specs.declared.clientoptions.ClientOptions.{ClientOpti
 use Rattle.sentry_scope.specs.declared.scope.stack.Stack.{Stack}
 use Rattle.sentry_scope.specs.declared.scope.stack.StackLayer.{StackLayer}
 use Rattle.sentry_scope.specs.Stacks.{one_layer, pop, top_alone, stack_of, stack_of_any, is_client, names_client}
-use Rattle.sentry_hub_table.specs.declared.hub.Hub.{Hub}
+use Rattle.sentry_hub_table.specs.declared.hub.HubState.{HubState}
 use Rattle.sentry_state.specs.declared.state.Out.{Out}
 use Rattle.sentry_state.specs.Worlds.{World, ClientHistory, starting_world}
 use Rattle.sentry_state.specs.Outcomes.{client_at, is_held_or_none}
@@ -28,7 +28,7 @@ use Rattle.sentry_calls.specs.declared.call.Call.{Call}
 use Rattle.sentry_calls.specs.declared.call.Reply.{Reply}
 use Rattle.sentry_calls.specs.Runs.{StepsTo, Run}
 use Rattle.sentry_calls.specs.Steps.{step}
-use Rattle.sentry_laws.proofs.Effects.{item_came, Effect, LayerChange, scope_edited, breadcrumbs_came, client_bound, layer_pushed, layer_popped, session_named, hub_changed, hub_made, hub_made_from, hub_released, client_added, client_cloned, effects, onto, all_effects, change_layers, add_under, options_after, layers_after}
+use Rattle.sentry_laws.proofs.Effects.{Came, came_to_queues, Effect, LayerChange, scope_edited, breadcrumbs_came, client_bound, layer_pushed, layer_popped, session_named, hub_changed, hub_made, hub_made_from, hub_released, client_added, client_cloned, effects, onto, all_effects, change_layers, add_under, options_after, layers_after}
 use Rattle.sentry_laws.specs.OwnCalls.{nameless, without_sessions}
 use Rattle.sentry_laws.proofs.Changes.{Change, Changes, nothing, one, both, held_options, IsAllowed, after_arrival, Arrival, log_came, metric_came, session_ended, flush_came, makes_hub, makes_hub_from, changes_hub, leaves_hub, notes_event_id, releases_hub, adds_client, clones_client, drops_client, arrives, accepts, accepts_none, mails, loses, takes_report, absorbs, starts_none, starts_session, changes_session, ends_session, starts_transaction, starts_span, changes_spans}
 use Rattle.std.specs.BTreeMap.{is_at}
@@ -40,11 +40,12 @@ use Rattle.sentry_laws.proofs.Trails.{found_under, is_own, own_effects, Trail, T
 use Rattle.sentry_laws.specs.SentItems.{handed_in}
 use Rattle.sentry_laws.proofs.SendingTrails.{own_tag}
 use Rattle.sentry_laws.proofs.Calls.{told_step}
+use Rattle.sentry_laws.proofs.Tests.{or_left, or_right}
 
 -- ---- sessions left out
 
 module _ {P : Type 0} where
-  abbrev pub bare : Hub P → Stack P
+  abbrev pub bare : HubState P → Stack P
   bare hub = without_sessions hub.stack
 
   nameless-append : (xs : List (StackLayer P)) (x : StackLayer P) → map nameless (xs ++ x ∷ []) ≡ map nameless xs
@@ -76,14 +77,6 @@ module _ {P C : Type 0} (meanings : C → Meanings) where
   came_bare false (Some options) breadcrumbs stack = refl
 
 -- ---- tests of clients
-
-or_right : (a b : Bool) → (a || b) ≡ false → b ≡ false
-or_right true b h = absurd cc
-or_right false b h = h
-
-or_left : (a b : Bool) → (a || b) ≡ false → a ≡ false
-or_left true b h = h
-or_left false b h = refl
 
 same_tags : (a b c : ℕ) → (b == c) ≡ true → (a == c) ≡ true → (a == b) ≡ true
 same_tags a b c h k = grind (arith, nat_tests)
@@ -206,7 +199,7 @@ module _ {P C : Type 0} (meanings : C → Meanings) where
     pub layers : (number : ℕ) → option_map bare (value_at world.hubs number) ≡ layers_after meanings told number
     pub options : (key : ClientKey) (client : ClientHistory C) → client_at world key ≡ Some client
         → options_after told key ≡ Some client.options
-    pub held : (number : ℕ) (hub : Hub P) → value_at world.hubs number ≡ Some hub → AreHeld world hub.stack
+    pub held : (number : ℕ) (hub : HubState P) → value_at world.hubs number ≡ Some hub → AreHeld world hub.stack
     pub hubs : AreBelow 0 world.next.hub world.hubs
     pub clients : AreBelow 0 world.next.client world.clients
 
@@ -241,18 +234,18 @@ module _ {P C : Type 0} (meanings : C → Meanings) where
   changed_bare told world (layer_popped given) stack own a h = pop_bare stack
   changed_bare told world (session_named session) stack own a h = absurd cc
 
-  mapped_if : (b : Bool) (x : Hub P) (o : Option (Hub P)) → option_map bare (if b then Some x else o) ≡
+  mapped_if : (b : Bool) (x : HubState P) (o : Option (HubState P)) → option_map bare (if b then Some x else o) ≡
       (if b then Some (bare x) else option_map bare o)
   mapped_if true x o = refl
   mapped_if false x o = refl
 
-  mapped_none : (b : Bool) (o : Option (Hub P)) → option_map bare (if b then None else o) ≡
+  mapped_none : (b : Bool) (o : Option (HubState P)) → option_map bare (if b then None else o) ≡
       (if b then None else option_map bare o)
   mapped_none true o = refl
   mapped_none false o = refl
 
   -- a hub whose layers, sessions left out, are as they were
-  kept_bare : (b : Bool) (k n : ℕ) (hubs : List (ℕ × Hub P)) (x old : Hub P) → value_at hubs n ≡ Some old
+  kept_bare : (b : Bool) (k n : ℕ) (hubs : List (ℕ × HubState P)) (x old : HubState P) → value_at hubs n ≡ Some old
       → bare x ≡ bare old → (k == n) ≡ b
       → (if b then Some (bare x) else option_map bare (value_at hubs k)) ≡ option_map bare (value_at hubs k)
   kept_bare true k n hubs x old found same e =
@@ -260,11 +253,11 @@ module _ {P C : Type 0} (meanings : C → Meanings) where
   kept_bare false k n hubs x old found same e = refl
 
   -- the hub's layers, as its calls give them
-  layers_at : (told : List (Effect P C)) (world : World P C) (number : ℕ) (hub : Hub P) → Agrees told world
+  layers_at : (told : List (Effect P C)) (world : World P C) (number : ℕ) (hub : HubState P) → Agrees told world
       → value_at world.hubs number ≡ Some hub → layers_after meanings told number ≡ Some (bare hub)
   layers_at told world number hub a found = sym (a.layers number) ∙ ap (option_map bare) found
 
-  changed_if : (b : Bool) (told : List (Effect P C)) (world : World P C) (k n : ℕ) (new old : Hub P)
+  changed_if : (b : Bool) (told : List (Effect P C)) (world : World P C) (k n : ℕ) (new old : HubState P)
       (change : LayerChange P) → Agrees told world → value_at world.hubs n ≡ Some old → (k == n) ≡ b
       → bare new ≡ change_layers meanings (options_after told) change (bare old)
       → (if b then Some (bare new) else option_map bare (value_at world.hubs k))
@@ -275,7 +268,7 @@ module _ {P C : Type 0} (meanings : C → Meanings) where
       (ap (layers_after meanings told) (same_number k n e) ∙ layers_at told world n old a found))
   changed_if false told world k n new old change a found e same = a.layers k
 
-  left_if : (b : Bool) (told : List (Effect P C)) (world : World P C) (k n : ℕ) (hub : Hub P) (change : LayerChange P)
+  left_if : (b : Bool) (told : List (Effect P C)) (world : World P C) (k n : ℕ) (hub : HubState P) (change : LayerChange P)
       → Agrees told world → value_at world.hubs n ≡ Some hub → (k == n) ≡ b
       → bare hub ≡ change_layers meanings (options_after told) change (bare hub)
       → option_map bare (value_at world.hubs k) ≡
@@ -289,7 +282,7 @@ module _ {P C : Type 0} (meanings : C → Meanings) where
   left_if false told world k n hub change a found e same = a.layers k
 
   -- a hub is replaced by one whose layers, sessions left out, are as they were
-  agrees_renamed : (told : List (Effect P C)) (world : World P C) (number : ℕ) (old new : Hub P)
+  agrees_renamed : (told : List (Effect P C)) (world : World P C) (number : ℕ) (old new : HubState P)
       → value_at world.hubs number ≡ Some old → bare new ≡ bare old → AreHeld world new.stack
       → Agrees told world → Agrees told (record world { hubs = replace_at world.hubs number new })
   agrees_renamed told world number old new found same h a = record {
@@ -297,13 +290,13 @@ module _ {P C : Type 0} (meanings : C → Meanings) where
         ∙ (mapped_if (k == number) new (value_at world.hubs k)
         ∙ (kept_bare (k == number) k number world.hubs new old found same refl ∙ a.layers k));
     options = a.options;
-    held = λ k hub at. all_by (λ (x : Hub P). AreHeld world x.stack) (k == number) new hub (value_at world.hubs k) h
+    held = λ k hub at. all_by (λ (x : HubState P). AreHeld world x.stack) (k == number) new hub (value_at world.hubs k) h
         (λ z zat. a.held k z zat) (sym (found_replaced world.hubs number k new old found) ∙ at);
     hubs = below_replaced 0 world.next.hub number new world.hubs a.hubs;
     clients = a.clients;
   }
 
-  agrees_changed : (told : List (Effect P C)) (world : World P C) (number : ℕ) (old new : Hub P)
+  agrees_changed : (told : List (Effect P C)) (world : World P C) (number : ℕ) (old new : HubState P)
       (change : LayerChange P) → value_at world.hubs number ≡ Some old
       → new.stack ≡ change_layers meanings (held_options world) change old.stack → IsAllowed world old.stack change
       → is_own {C = C} (hub_changed 0 change) ≡ true
@@ -315,7 +308,7 @@ module _ {P C : Type 0} (meanings : C → Meanings) where
         ∙ changed_if (k == number) told world k number new old change a found refl
         (ap without_sessions fits ∙ changed_bare told world change old.stack own a (a.held number old found)));
     options = a.options;
-    held = λ k hub at. all_by (λ (x : Hub P). AreHeld world x.stack) (k == number) new hub (value_at world.hubs k)
+    held = λ k hub at. all_by (λ (x : HubState P). AreHeld world x.stack) (k == number) new hub (value_at world.hubs k)
         (subst (AreHeld world) (sym fits) (change_held world (held_options world) change old.stack names
         (a.held number old found))) (λ z zat. a.held k z zat) (sym (found_replaced world.hubs number k new old found)
         ∙ at);
@@ -323,7 +316,7 @@ module _ {P C : Type 0} (meanings : C → Meanings) where
     clients = a.clients;
   }
 
-  agrees_left : (told : List (Effect P C)) (world : World P C) (number : ℕ) (hub : Hub P) (change : LayerChange P)
+  agrees_left : (told : List (Effect P C)) (world : World P C) (number : ℕ) (hub : HubState P) (change : LayerChange P)
       → value_at world.hubs number ≡ Some hub
       → change_layers meanings (held_options world) change hub.stack ≡ hub.stack → is_own {C = C} (hub_changed 0 change)
       ≡ true → Agrees told world → Agrees (hub_changed number change ∷ told) world
@@ -350,7 +343,7 @@ module _ {P C : Type 0} (meanings : C → Meanings) where
         ∙ (ap (λ (o : Option (Stack P)). if k == world.next.hub then Some (without_sessions stack) else o) (a.layers k)
         ∙ gives_ k));
     options = λ key client at. options_ key ∙ a.options key client at;
-    held = λ k hub at. all_by (λ (x : Hub P). AreHeld world x.stack) (k == world.next.hub)
+    held = λ k hub at. all_by (λ (x : HubState P). AreHeld world x.stack) (k == world.next.hub)
         (record { stack = stack; last_event_id = None }) hub (value_at world.hubs k) h (λ z zat. a.held k z zat)
         (sym (found_put world.hubs world.next.hub k (record { stack = stack; last_event_id = None })) ∙ at);
     hubs = below_put world.next.hub (record { stack = stack; last_event_id = None }) world.hubs a.hubs;
@@ -364,7 +357,7 @@ module _ {P C : Type 0} (meanings : C → Meanings) where
         ∙ (mapped_none (k == number) (value_at world.hubs k)
         ∙ ap (λ (o : Option (Stack P)). if k == number then None else o) (a.layers k));
     options = a.options;
-    held = λ k hub at. all_without (λ (x : Hub P). AreHeld world x.stack) (k == number) hub (value_at world.hubs k)
+    held = λ k hub at. all_without (λ (x : HubState P). AreHeld world x.stack) (k == number) hub (value_at world.hubs k)
         (λ z zat. a.held k z zat) (sym (found_without 0 world.next.hub world.hubs number k a.hubs) ∙ at);
     hubs = below_without 0 world.next.hub number world.hubs a.hubs;
     clients = a.clients;
@@ -435,14 +428,14 @@ module _ {P C : Type 0} (meanings : C → Meanings) where
         clients = below_replaced 0 world.next.client key.number new world.clients a.clients;
       }
 
-  unnamed-at : (b : Bool) (key : ClientKey) (x hub : Hub P) (o : Option (Hub P)) → names_client key x.stack ≡ false
+  unnamed-at : (b : Bool) (key : ClientKey) (x hub : HubState P) (o : Option (HubState P)) → names_client key x.stack ≡ false
       → (o ≡ Some hub → names_client key hub.stack ≡ false)
       → cond b (Some x) o ≡ Some hub → names_client key hub.stack ≡ false
   unnamed-at true key x hub o h rest e = let same : x ≡ hub =
-      cc in subst (λ (y : Hub P). names_client key y.stack ≡ false) same h
+      cc in subst (λ (y : HubState P). names_client key y.stack ≡ false) same h
   unnamed-at false key x hub o h rest e = rest e
 
-  unnamed : (key : ClientKey) (hubs : List (ℕ × Hub P)) (n : ℕ) (hub : Hub P) → is_client_named key hubs ≡ false
+  unnamed : (key : ClientKey) (hubs : List (ℕ × HubState P)) (n : ℕ) (hub : HubState P) → is_client_named key hubs ≡ false
       → value_at hubs n ≡ Some hub → names_client key hub.stack ≡ false
   unnamed key [] n hub h e = absurd cc
   unnamed key (entry ∷ rest) n hub h e =
@@ -512,7 +505,7 @@ module _ {P C : Type 0} (meanings : C → Meanings) where
   own_onto [] told = told
   own_onto (effect ∷ rest) told = own_onto rest (cond (is_own effect) (effect ∷ told) told)
 
-  hub_case : (told : List (Effect P C)) (world : World P C) (number : ℕ) (old new : Hub P) (change : LayerChange P)
+  hub_case : (told : List (Effect P C)) (world : World P C) (number : ℕ) (old new : HubState P) (change : LayerChange P)
       → value_at world.hubs number ≡ Some old
       → new.stack ≡ change_layers meanings (held_options world) change old.stack → IsAllowed world old.stack change
       → Agrees told world
@@ -532,7 +525,7 @@ module _ {P C : Type 0} (meanings : C → Meanings) where
       agrees_renamed told world number old new found (ap without_sessions fits)
       (subst (AreHeld world) (sym fits) (a.held number old found)) a
 
-  left_case : (told : List (Effect P C)) (world : World P C) (number : ℕ) (hub : Hub P) (change : LayerChange P)
+  left_case : (told : List (Effect P C)) (world : World P C) (number : ℕ) (hub : HubState P) (change : LayerChange P)
       → value_at world.hubs number ≡ Some hub
       → change_layers meanings (held_options world) change hub.stack ≡ hub.stack → Agrees told world
       → Agrees (own_onto (hub_changed number change ∷ []) told) world
@@ -558,7 +551,7 @@ module _ {P C : Type 0} (meanings : C → Meanings) where
       ap (λ (o : Option (ClientOptions C)). if is_client (record { tag = world.tag; number = world.next.client })
       (Some key) then o else options_after told key) (a.options original client found)
 
-  made_from : (told : List (Effect P C)) (world : World P C) (maker : ℕ) (hub : Hub P)
+  made_from : (told : List (Effect P C)) (world : World P C) (maker : ℕ) (hub : HubState P)
       → value_at world.hubs maker ≡ Some hub → Agrees told world → (k : ℕ)
       → (if k == world.next.hub then Some (without_sessions (top_alone hub.stack)) else layers_after meanings told k)
       ≡ (if k == world.next.hub then option_map top_alone (layers_after meanings told maker)
@@ -567,9 +560,9 @@ module _ {P C : Type 0} (meanings : C → Meanings) where
       ap (λ (o : Option (Stack P)). if k == world.next.hub then o else layers_after meanings told k)
       (sym (ap (option_map top_alone) (layers_at told world maker hub a found)))
 
-  agrees_came : (told : List (Effect P C)) (is_log : Bool) (world : World P C) → Agrees told world
-      → Agrees (item_came is_log ∷ told) world
-  agrees_came told is_log world a =
+  agrees_came : (told : List (Effect P C)) (kind : Came) (world : World P C) → Agrees told world
+      → Agrees (came_to_queues kind ∷ told) world
+  agrees_came told kind world a =
       record { layers = a.layers; options = a.options; held = a.held; hubs = a.hubs; clients = a.clients }
 
   agrees_change : {f : Option Envelope} {old new : World P C} {some : List (Effect P C)} {sent : List
@@ -602,8 +595,8 @@ module _ {P C : Type 0} (meanings : C → Meanings) where
   agrees_change (arrives world key client arrival is_off found open_ came) told a =
       agrees_sending told client.label _ _ (agrees_client told world key client (after_arrival arrival client) found
       (arrival_options arrival client) a)
-  agrees_change (accepts world key client arrival is_log is_off found open_ came) told a =
-      agrees_came told is_log _ (agrees_sending told client.label _ _ (agrees_client told world key client (after_arrival arrival client) found
+  agrees_change (accepts world key client arrival kind is_off found open_ came) told a =
+      agrees_came told kind _ (agrees_sending told client.label _ _ (agrees_client told world key client (after_arrival arrival client) found
       (arrival_options arrival client) a))
   agrees_change (mails world key client envelope found occupied none told_) told a =
       record { layers = a.layers; options = a.options; held = a.held; hubs = a.hubs; clients = a.clients }
@@ -633,7 +626,7 @@ module _ {P C : Type 0} (meanings : C → Meanings) where
   }
   agrees_change (starts_none world number id) told a =
       record { layers = a.layers; options = a.options; held = a.held; hubs = a.hubs; clients = a.clients }
-  agrees_change (accepts_none world is_log) told a =
+  agrees_change (accepts_none world kind) told a =
       record { layers = a.layers; options = a.options; held = a.held; hubs = a.hubs; clients = a.clients }
   agrees_change (starts_session world number start) told a = record {
     layers = a.layers;

@@ -28,7 +28,7 @@ use Rattle.sentry_laws.proofs.Found.{same_number, found_put, found_replaced}
 use Rattle.sentry_laws.proofs.Increasing.{IsIncreasing, increasing_put, increasing_replaced, increasing_without, without_if}
 use Rattle.sentry_laws.proofs.Absorbed.{replace_absent, call_keeps}
 use Rattle.sentry_laws.specs.Losses.{AbsorbedStays}
-use Rattle.sentry_laws.proofs.Tests.{or_true, passes_put, passes_replaced, passes_without, passes_found}
+use Rattle.sentry_laws.proofs.Tests.{or_true, passes_put, passes_replaced, passes_without, passes_found, and_left, and_right, or_none}
 use Rattle.sentry_laws.proofs.Trails.{found_under}
 use Rattle.sentry_laws.proofs.Keeping.{kept_by_run}
 
@@ -37,14 +37,6 @@ other_way a b = grind (arith, nat_tests)
 
 pub own_number : (n : ℕ) → (n == n) ≡ true
 own_number n = grind (arith, nat_tests)
-
-pub and_left : (a b : Bool) → (a && b) ≡ true → a ≡ true
-and_left true b h = refl
-and_left false b h = absurd cc
-
-pub and_right : (a b : Bool) → (a && b) ≡ true → b ≡ true
-and_right true b h = h
-and_right false b h = absurd cc
 
 or_known : (a b : Bool) → (b ≡ true → a ≡ true) → (a || b) ≡ a
 or_known true b h = refl
@@ -108,10 +100,6 @@ module _ {C : Type 0} where
 added-by : (a s some any own : Bool) → own ≡ (a && s) → (a && some) ≡ any → (a && (s || some)) ≡ (any || own)
 added-by true true some any own o e = sym (or_true any own o)
 added-by true false some any own o e = e ∙ sym (ap (λ b. any || b) o ∙ or_none any)
-  where
-    or_none : (b : Bool) → (b || false) ≡ b
-    or_none true = refl
-    or_none false = refl
 added-by false s some any own o e = sym (ap (λ b. b || own) (sym e) ∙ o)
 
 same_label : (one_ other : Label) → one_.tag ≡ other.tag → one_.number ≡ other.number → one_ ≡ other
@@ -313,7 +301,7 @@ module _ {P C : Type 0} (meanings : C → Meanings) where
       (with_client_history world key (after_arrival arrival client))
       (changed_books world key.number client (after_arrival arrival client)
       (found_under world.tag world.clients key.tag key.number client found) (arrival_label arrival client) h)
-  books_change (accepts world key client arrival is_log is_off found open_ came) h =
+  books_change (accepts world key client arrival kind is_off found open_ came) h =
       sending_books client.label (send key client (envelopes_on_arrival arrival client)
       (with_client_history world key (after_arrival arrival client))).sent
       (with_client_history world key (after_arrival arrival client))
@@ -324,7 +312,7 @@ module _ {P C : Type 0} (meanings : C → Meanings) where
   books_change (takes_report world label has) h = entered_books world label report_point h
   books_change (absorbs world label losses has) h = entered_books world label (drained_losses losses) h
   books_change (starts_none world number id) h = unmoved world _ refl refl refl refl h
-  books_change (accepts_none world is_log) h = unmoved world _ refl refl refl refl h
+  books_change (accepts_none world kind) h = unmoved world _ refl refl refl refl h
   books_change (starts_session world number start) h = unmoved world _ refl refl refl refl h
   books_change (changes_session world number old new later found same) h = unmoved world _ refl refl refl refl h
   books_change (ends_session world number) h = unmoved world _ refl refl refl refl h

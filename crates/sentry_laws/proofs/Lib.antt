@@ -17,6 +17,8 @@ pub mod Calls
 pub mod Isolation
 pub mod Dropping
 pub mod Shown
+pub mod OneClient
+pub mod Closings
 pub mod SentBatches
 pub mod SentKinds
 pub mod PartsOfRuns
@@ -25,6 +27,7 @@ pub mod Sessions
 pub mod SecondEnds
 pub mod ToldUpdates
 pub mod Updates
+pub mod KeptStatuses
 pub mod Accepted
 pub mod Wrong
 pub mod Losses
@@ -37,6 +40,7 @@ pub mod LossesByCalls
 pub mod CallsAddUp
 pub mod Numbers
 pub mod Traces
+pub mod SentTraces
 pub mod Layers
 pub mod ActiveSpans
 pub mod NamedSessions

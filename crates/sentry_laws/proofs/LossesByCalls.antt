@@ -44,7 +44,7 @@ use Rattle.sentry_sessions.specs.Sessions.{session_attributes, start_of}
 use Rattle.sentry_client_reports.specs.LossBooks.{LossEntry, engine_losses, drained_losses, report_point}
 use Rattle.sentry_pipeline.specs.Pipeline.{Prepared, loss_reason}
 use Rattle.sentry_pipeline.specs.Pipeline as pipeline
-use Rattle.sentry_hub_table.specs.declared.hub.Hub.{Hub}
+use Rattle.sentry_hub_table.specs.declared.hub.HubState.{HubState}
 use Rattle.sentry_span_table.specs.SpanLists.{TransactionHistory, fate_of, with_span_finished}
 use Rattle.sentry_span_table.specs.SpanTables.{has_transaction_of, has_span_of, is_held, place_in}
 use Rattle.sentry_span_table.specs.declared.table.records.SpanFate.{SpanFate}
@@ -54,13 +54,13 @@ use Rattle.sentry_span_table.specs.declared.table.records.TracingState.{TracingS
 use Rattle.sentry_span_table.specs.declared.table.records.TracingState.TheVariants.{Enabled, Disabled}
 use Rattle.sentry_span_table.specs.declared.table.records.TransactionRecord.{TransactionRecord}
 use Rattle.sentry_trace.specs.declared.performance.context.TransactionContext.{TransactionContext}
-use Rattle.sentry_span_edits.specs.Discards.{discard, is_active_on}
+use Rattle.sentry_spans.specs.Discards.{discard, is_active_on}
 use Rattle.sentry_span_edits.specs.Reads.{read, get_status, read_data, is_sampled, get_span_id, get_trace_context, iter_headers}
 use Rattle.sentry_span_edits.specs.Setters.{change, with_edited, with_found_edited}
 use Rattle.sentry_span_edits.specs.declared.edit.SpanEdit.{SpanEdit}
 use Rattle.sentry_span_edits.specs.declared.edit.SpanEdit.TheVariants as edit_by
 use Rattle.sentry_spans.specs.Spans.{start_transaction_with_timestamp, start_child_with_details, continue_from_span, finish_span, finish_transaction, is_transaction_number_left, is_span_number_left, by_tracing, with_loss_of, with_fate, with_span_in}
-use Rattle.sentry_state.specs.declared.state.Client.{Client}
+use Rattle.sentry_state.specs.declared.state.ClientState.{ClientState}
 use Rattle.sentry_state.specs.declared.state.Out.{Out}
 use Rattle.sentry_state.specs.Books.{with_entry, with_entry_if_any, is_label, has_client_of, has_book}
 use Rattle.sentry_state.specs.Breadcrumbs.{add_breadcrumbs}
@@ -69,8 +69,7 @@ use Rattle.sentry_state.specs.Clients.{is_client_named, has_session_of}
 use Rattle.sentry_state.specs.Outcomes.{Outcome, require_some, let_some, require, reply_with, client_at, hub_at, stored_client_at, stored_transaction_at, span_at, transaction_at, is_held_or_none}
 use Rattle.sentry_state.specs.SpanChanges.{with_transaction_finished, with_span, with_transaction, finished_span}
 use Rattle.sentry_state.specs.Worlds.{World, ClientHistory, stored_client, span_table, starting_world}
-use Rattle.sentry_sending.specs.Sending.{after_sending}
-use Rattle.sentry_sending.specs.SessionEnds.{release_session}
+use Rattle.sentry_sending.specs.Sending.{after_sending, release_session}
 use Rattle.sentry_events.specs.Captures.{SessionCapture, capture, capture_of_prepared, capture_entry, capture_event, capture_named_session, event_loss, with_captured_session, message_event}
 use Rattle.sentry_telemetry.specs.declared.flushes.Flush.{Flush}
 use Rattle.sentry_telemetry.specs.declared.flushes.Flush.TheVariants.{All, Due, Closing}
@@ -105,13 +104,14 @@ use Rattle.sentry_laws.specs.Reports.{history_of}
 use Rattle.sentry_laws.proofs.Changes.{Change, makes_hub, makes_hub_from, changes_hub, leaves_hub, notes_event_id, releases_hub, adds_client, clones_client, drops_client, arrives, accepts, accepts_none, mails, loses, takes_report, absorbs, starts_none, starts_session, changes_session, ends_session, starts_transaction, starts_span, changes_spans}
 use Rattle.sentry_laws.proofs.Effects.{Effect}
 use Rattle.sentry_laws.proofs.Keeping.{kept_by_call, kept_by_changes}
-use Rattle.sentry_laws.proofs.LabelBooks.{HasBooks, books_change, no_books, label_known, and_left, and_right}
+use Rattle.sentry_laws.proofs.LabelBooks.{HasBooks, books_change, no_books, label_known}
 use Rattle.sentry_laws.proofs.LossEntries.{losses_at, none_if, entered, pointed, booked, left, same_labels}
 use Rattle.sentry_laws.proofs.Parts.{after_part, flush_part, log_part, metric_part, end_part, release_part}
 use Rattle.sentry_laws.proofs.PartsOfRuns.{from_each_call}
 use Rattle.sentry_laws.proofs.SendingTrails.{flushes}
 use Rattle.sentry_laws.proofs.SpanTrails.{closed_books, closed_client}
 use Rattle.sentry_laws.proofs.Trails.{found_under}
+use Rattle.sentry_laws.proofs.Tests.{and_left, and_right}
 
 -- ---- what a call leaves
 
@@ -126,7 +126,7 @@ module _ {P C T : Type 0} {R : World P C → Type 0} where
   leaves_some refusal world None h = record { leaves = λ e. absurd cc }
   leaves_some refusal world (Some x) h = h x refl
 
-  leaves_client : (refusal : Refusal) (world : World P C) (o : Option (ClientHistory C)) (go : Client C → Outcome P C T)
+  leaves_client : (refusal : Refusal) (world : World P C) (o : Option (ClientHistory C)) (go : ClientState C → Outcome P C T)
       → ((client : ClientHistory C) → o ≡ Some client → Leaves R (go (stored_client client)))
       → Leaves R (require_some refusal world (option_map stored_client o) go)
   leaves_client refusal world None go h = record { leaves = λ e. absurd cc }
@@ -142,7 +142,7 @@ module _ {P C T : Type 0} {R : World P C → Type 0} where
   leaves_let None k h = k refl
   leaves_let (Some x) k h = h x refl
 
-  leaves_let_client : (o : Option (ClientHistory C)) (otherwise : Outcome P C T) (go : Client C → Outcome P C T)
+  leaves_let_client : (o : Option (ClientHistory C)) (otherwise : Outcome P C T) (go : ClientState C → Outcome P C T)
       → (o ≡ None → Leaves R otherwise)
       → ((client : ClientHistory C) → o ≡ Some client → Leaves R (go (stored_client client)))
       → Leaves R (let_some (option_map stored_client o) otherwise go)
@@ -302,8 +302,8 @@ module _ {P C : Type 0} (gives : P → Partial) (meanings : C → Meanings) (wor
 
   -- a capture on a hub, under the client of its top layer
   on_top : {T : Type 0} (key : HubKey) (lost : Scope P → ClientHistory C → Option LossEntry) (reply : T)
-      (go : Hub P → ClientKey → Client C → Outcome P C T)
-      → ((hub : Hub P) (client_key : ClientKey) (client : ClientHistory C) → client_at world client_key ≡ Some client
+      (go : HubState P → ClientKey → ClientState C → Outcome P C T)
+      → ((hub : HubState P) (client_key : ClientKey) (client : ClientHistory C) → client_at world client_key ≡ Some client
       → Leaves (Brings (lost_at label (client_at world client_key) (lost hub.stack.top.scope)))
       (go hub client_key (stored_client client)))
       → Leaves (Brings (lost_on label world (hub_at world key) lost))
@@ -312,7 +312,7 @@ module _ {P C : Type 0} (gives : P → Partial) (meanings : C → Meanings) (wor
       let_some (stored_client_at world client_key) (reply_with reply [] world) (λ client. go hub client_key client))))
   on_top key lost reply go h =
       leaves_some Stale world (hub_at world key) (λ hub found.
-      brings_same (ap (λ (o : Option (Hub P)). lost_on label world o lost) found)
+      brings_same (ap (λ (o : Option (HubState P)). lost_on label world o lost) found)
       (leaves_let hub.stack.top.client
       (λ none. brings_same (ap (λ (o : Option ClientKey). lost_at label (option_and_then (client_at world) o)
       (lost hub.stack.top.scope)) none) (stays reply refl))
@@ -498,7 +498,7 @@ module _ {P C : Type 0} (gives : P → Partial) (meanings : C → Meanings) (wor
       leaves_require StillNamed world (not (has_transaction_of (span_table world) key)) (λ no_transaction.
       let flushed = flush_queues All key world in
       let after : HasBooks flushed.after = kept_by_changes gives meanings HasBooks
-      (λ given old new some sent c. books_change meanings c) (flushes meanings All key world).changes books in
+      (λ given old new some sent c. books_change meanings c) (flushes meanings All refl key world).changes books in
       record {
         leaves = λ accepted there.
             left flushed.after.books client.label.number label.number after.books
@@ -562,7 +562,7 @@ module _ {P C : Type 0} (gives : P → Partial) (meanings : C → Meanings) (wor
       leaves_some Stale world (hub_at world key) (λ hub found.
       leaves_require Full world (nat_lt world.next.hub (2 ^ 64 - 1)) (λ some. stays _ refl))
 
-  released_same : (number : ℕ) (hub : Hub P) (now : ℕ) (w : World P C)
+  released_same : (number : ℕ) (hub : HubState P) (now : ℕ) (w : World P C)
       → held_in (release_session number hub now w).after ≡ held_in w
   released_same number hub now w =
       release_part held_in no_report (λ w c. refl) (λ w s. refl) number hub now w
@@ -874,8 +874,8 @@ module _ {P C : Type 0} (meanings : C → Meanings) where
   same_tag (clones_client world original client now found) = refl
   same_tag (drops_client world key client label found same none) = refl
   same_tag (arrives world key client arrival is_off found open_ came) = sent_tag client.label _ _
-  same_tag (accepts world key client arrival is_log is_off found open_ came) = sent_tag client.label _ _
-  same_tag (accepts_none world is_log) = refl
+  same_tag (accepts world key client arrival kind is_off found open_ came) = sent_tag client.label _ _
+  same_tag (accepts_none world kind) = refl
   same_tag (mails world key client envelope found occupied none told_) = refl
   same_tag (loses world key client losses found) = refl
   same_tag (takes_report world label has) = refl

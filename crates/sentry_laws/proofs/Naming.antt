@@ -15,7 +15,7 @@ use Rattle.sentry_scope.specs.declared.scope.stack.Stack.{Stack}
 use Rattle.sentry_scope.specs.declared.scope.stack.StackLayer.{StackLayer}
 use Rattle.sentry_scope.specs.Stacks.{one_layer, push, top_alone, is_session, names_session}
 use Rattle.sentry_hub_table.specs.Hubs.{is_session_named}
-use Rattle.sentry_hub_table.specs.declared.hub.Hub.{Hub}
+use Rattle.sentry_hub_table.specs.declared.hub.HubState.{HubState}
 use Rattle.sentry_sending.specs.Sending.{send, after_sending}
 use Rattle.sentry_state.specs.Changes.{with_client_history}
 use Rattle.sentry_state.specs.Outcomes.{session_at}
@@ -97,7 +97,7 @@ module _ {P : Type 0} (key : SessionKey) where
   has_session layer = is_session key layer.session
 
   -- a layer of the hub names the session
-  abbrev pub is_on : Hub P → Bool
+  abbrev pub is_on : HubState P → Bool
   is_on hub = names_session key hub.stack
 
   any_longer : (layers : List (StackLayer P)) (last : StackLayer P) → list_any has_session layers ≡ true
@@ -147,7 +147,7 @@ module _ {P C : Type 0} where
       ∙ ap (λ b. b || names_session key stack) h
 
   -- a hub whose layers name what they named
-  pub hub_replaced_named : (world : World P C) (number : ℕ) (old new : Hub P) → value_at world.hubs number ≡ Some old
+  pub hub_replaced_named : (world : World P C) (number : ℕ) (old new : HubState P) → value_at world.hubs number ≡ Some old
       → ((key : SessionKey) → names_session key old.stack ≡ true → names_session key new.stack ≡ true)
       → SessionsAreNamed world → SessionsAreNamed (record world { hubs = replace_at world.hubs number new })
   hub_replaced_named world number old new found more h key session at =
@@ -181,7 +181,7 @@ module _ {P C : Type 0} (meanings : C → Meanings) where
       named_sending client.label (send key client (envelopes_on_arrival arrival client)
       (with_client_history world key (after_arrival arrival client))).sent
       (with_client_history world key (after_arrival arrival client)) h
-  named_change (accepts world key client arrival is_log is_off found open_ came) calm n h =
+  named_change (accepts world key client arrival kind is_off found open_ came) calm n h =
       named_sending client.label (send key client (envelopes_on_arrival arrival client)
       (with_client_history world key (after_arrival arrival client))).sent
       (with_client_history world key (after_arrival arrival client)) h
@@ -190,7 +190,7 @@ module _ {P C : Type 0} (meanings : C → Meanings) where
   named_change (takes_report world label has) calm n h = h
   named_change (absorbs world label losses has) calm n h = h
   named_change (starts_none world number id) calm n h = h
-  named_change (accepts_none world is_log) calm n h = h
+  named_change (accepts_none world kind) calm n h = h
   named_change (starts_session world number start) calm n h = absurd cc
   named_change (changes_session world number old new later found same) calm n h =
       λ key session at.

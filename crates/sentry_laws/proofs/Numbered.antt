@@ -179,7 +179,7 @@ module _ {P C : Type 0} (meanings : C → Meanings) where
         transactions = h.transactions;
         spans = h.spans;
       })
-  numbered_change (accepts world key client arrival is_log is_off found open_ came) h =
+  numbered_change (accepts world key client arrival kind is_off found open_ came) h =
       numbered_sending client.label (send key client (envelopes_on_arrival arrival client)
       (with_client_history world key (after_arrival arrival client))).sent
       (with_client_history world key (after_arrival arrival client))
@@ -225,7 +225,7 @@ module _ {P C : Type 0} (meanings : C → Meanings) where
     spans = h.spans;
   }
   numbered_change (starts_none world number id) h = h
-  numbered_change (accepts_none world is_log) h = h
+  numbered_change (accepts_none world kind) h = h
   numbered_change (starts_session world number start) h = record {
     clients = h.clients;
     hubs = h.hubs;

@@ -14,7 +14,7 @@ use Rattle.sentry_laws.specs.Reachable.{IsFreeFrom, NumbersAreFree}
 use Rattle.sentry_laws.proofs.Tables.{AreBelow}
 use Rattle.sentry_laws.proofs.Numbered.{IsNumbered, numbered_change, none_numbered}
 use Rattle.sentry_laws.proofs.Keeping.{kept_by_run}
-use Rattle.sentry_laws.proofs.SentBatches.{found_below}
+use Rattle.sentry_laws.proofs.Found.{found_below}
 
 -- what stands under increasing numbers below the next one
 pub free_from : {X : Type 0} (next : ℕ) (table : List (ℕ × X)) → AreBelow 0 next table → IsFreeFrom next table

@@ -9,14 +9,7 @@ use Rattle.sentry_options.specs.declared.clientoptions.ClientOptions.{ClientOpti
 use Rattle.sentry_scope.specs.declared.scope.stack.Stack.{Stack}
 use Rattle.sentry_scope.specs.Stacks.{is_client, top_alone}
 use Rattle.sentry_laws.specs.OwnCalls.{Effect, LayerChange, client_added, client_cloned, hub_made, hub_made_from, hub_changed, hub_released, options_after, layers_after, change_layers, own_alone, is_derived, OwnAloneSuffice}
-
-or_left : (a b : Bool) → (a || b) ≡ false → a ≡ false
-or_left true b h = h
-or_left false b h = refl
-
-or_right : (a b : Bool) → (a || b) ≡ false → b ≡ false
-or_right true b h = absurd cc
-or_right false b h = h
+use Rattle.sentry_laws.proofs.Tests.{or_left, or_right}
 
 module _ {P C : Type 0} (meanings : C → Meanings) (number : ℕ) where
   -- an effect that says nothing of clients, left out or not

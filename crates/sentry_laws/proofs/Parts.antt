@@ -12,13 +12,12 @@ use Rattle.sentry_base.specs.declared.protocol.metric.Metric.{Metric}
 use Rattle.sentry_base.specs.declared.protocol.session.SessionStatus.{SessionStatus}
 use Rattle.sentry_base.specs.declared.protocol.session.SessionUpdate.{SessionUpdate}
 use Rattle.sentry_client_reports.specs.LossBooks.{report_point}
-use Rattle.sentry_hub_table.specs.declared.hub.Hub.{Hub}
+use Rattle.sentry_hub_table.specs.declared.hub.HubState.{HubState}
 use Rattle.sentry_telemetry.specs.declared.flushes.Flush.{Flush}
 use Rattle.sentry_telemetry.specs.Flushes.{flush_queues, flushed_envelopes, after_flush, batch_envelopes}
 use Rattle.sentry_telemetry.specs.Telemetry.{accept_log, accept_metric}
 use Rattle.sentry_batches.specs.Batches.{accept, batch_on}
-use Rattle.sentry_sending.specs.Sending.{Sending, send, send_nothing, send_some, after_sending}
-use Rattle.sentry_sending.specs.SessionEnds.{is_session_named, queue_update, end_session, end_unnamed_session, release_session}
+use Rattle.sentry_sending.specs.Sending.{Sending, send, send_nothing, send_some, after_sending, is_session_named, queue_update, end_session, end_unnamed_session, release_session}
 use Rattle.sentry_sessions.specs.SessionQueues.{enqueued, envelopes_on}
 use Rattle.sentry_sessions.specs.Sessions.{closed, session_of, pending_update}
 use Rattle.sentry_state.specs.Books.{with_entry}
@@ -104,7 +103,7 @@ module _ {P C X : Type 0} (part : World P C → X) (no_reports : (world : World 
         some_part world name _ (λ key. unless_part world (is_session_named key world.hubs) _
         (end_part key None now world))
 
-    pub release_part : (number : ℕ) (hub : Hub P) (now : ℕ) (world : World P C)
+    pub release_part : (number : ℕ) (hub : HubState P) (now : ℕ) (world : World P C)
         → part (release_session number hub now world).after ≡ part
         (record world { hubs = replace_at world.hubs number (with_session hub None) })
     release_part number hub now world =

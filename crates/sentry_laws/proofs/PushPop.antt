@@ -19,14 +19,13 @@ use Rattle.sentry_options.specs.declared.clientoptions.ClientOptions.{ClientOpti
 use Rattle.sentry_scope.specs.declared.scope.stack.Stack.{Stack}
 use Rattle.sentry_scope.specs.declared.scope.stack.StackLayer.{StackLayer}
 use Rattle.sentry_scope.specs.Stacks.{layers, push, pop, depth, stack_of, stack_of_any}
-use Rattle.sentry_hub_table.specs.declared.hub.Hub.{Hub}
+use Rattle.sentry_hub_table.specs.declared.hub.HubState.{HubState}
 use Rattle.sentry_state.specs.declared.state.Out.{Out}
 use Rattle.sentry_state.specs.Worlds.{World, starting_world}
 use Rattle.sentry_state.specs.Outcomes.{hub_at, with_hub, require_some, require, reply_with}
 use Rattle.sentry_hub_table.specs.Hubs.{with_stack, with_session}
 use Rattle.sentry_state.specs.Changes.{with_client_history}
-use Rattle.sentry_sending.specs.Sending.{after_sending, send}
-use Rattle.sentry_sending.specs.SessionEnds.{release_session}
+use Rattle.sentry_sending.specs.Sending.{after_sending, send, release_session}
 use Rattle.sentry_calls.specs.declared.call.Call.{Call}
 use Rattle.sentry_calls.specs.declared.call.Call.TheVariants as group
 use Rattle.sentry_calls.specs.declared.call.clients.ClientCall.{ClientCall}
@@ -39,33 +38,20 @@ use Rattle.sentry_calls.specs.Layers as layer_calls
 use Rattle.sentry_calls.specs.Runs.{StepsTo, Run}
 use Rattle.sentry_calls.specs.Steps.{step, hub_step}
 use Rattle.sentry_calls.specs.Replies.{map_answer}
-use Rattle.sentry_laws.proofs.Effects.{Effect, LayerChange, scope_edited, breadcrumbs_came, client_bound, layer_pushed, layer_popped, session_named, hub_changed, hub_made, hub_made_from, hub_released, losses_absorbed, report_taken, session_begun, client_dropped, item_came, client_added, client_cloned, effects, client_effects, hub_effects, on_client, on_hub, on_report, change_layers, add_under}
+use Rattle.sentry_laws.proofs.Effects.{Effect, LayerChange, scope_edited, breadcrumbs_came, client_bound, layer_pushed, layer_popped, session_named, hub_changed, hub_made, hub_made_from, hub_released, losses_absorbed, report_taken, session_begun, client_dropped, came_to_queues, client_added, client_cloned, effects, client_effects, hub_effects, on_client, on_hub, on_report, change_layers, add_under}
 use Rattle.sentry_laws.proofs.Changes.{Change, Changes, nothing, one, both, held_options, IsAllowed, after_arrival, envelopes_on_arrival, makes_hub, makes_hub_from, changes_hub, leaves_hub, notes_event_id, releases_hub, adds_client, clones_client, drops_client, arrives, accepts, accepts_none, mails, loses, takes_report, absorbs, starts_none, starts_session, changes_session, ends_session, starts_transaction, starts_span, changes_spans}
 use Rattle.sentry_laws.specs.SentItems.{handed_in}
 use Rattle.sentry_laws.specs.PartsOfRuns.{IfElse}
 use Rattle.sentry_laws.specs.PushPop.{pops, PopLeaves, UndoesPush, PushesAreUndone, stack_at, PopUndoesPush}
 use Rattle.sentry_laws.proofs.Tables.{AreBelow, below_put, below_replaced, below_without, own_replaced, others_put}
-use Rattle.sentry_laws.proofs.Found.{same_number, found_replaced, found_without}
-use Rattle.sentry_laws.proofs.SentBatches.{found_below}
-use Rattle.sentry_laws.proofs.Tests.{any_first, any_second}
+use Rattle.sentry_laws.proofs.Found.{same_number, found_replaced, found_without, found_below}
+use Rattle.sentry_laws.proofs.Tests.{any_first, any_second, or_left, or_right, and_left}
 use Rattle.sentry_laws.proofs.SendingTrails.{found_released}
 use Rattle.sentry_laws.proofs.Trails.{found_under, is_own, own_effects, Trail, TellsBy}
 use Rattle.sentry_laws.proofs.Calls.{told_step}
 use Rattle.sentry_laws.proofs.Keeping.{kept_by_call, kept_by_run}
 use Rattle.sentry_laws.proofs.Numbered.{IsNumbered, numbered_change, none_numbered}
 use Rattle.sentry_laws.proofs.PartsOfRuns.{from_each_call}
-
-or_left : (a b : Bool) → (a || b) ≡ false → a ≡ false
-or_left true b h = h
-or_left false b h = refl
-
-or_right : (a b : Bool) → (a || b) ≡ false → b ≡ false
-or_right true b h = absurd cc
-or_right false b h = h
-
-and_left : (a b : Bool) → (a && b) ≡ true → a ≡ true
-and_left true b h = refl
-and_left false b h = h
 
 and_right : (a b : Bool) → (a && b) ≡ true → b ≡ true
 and_right true b h = h
@@ -123,7 +109,7 @@ module _ {P C : Type 0} (meanings : C → Meanings) (n : ℕ) (base : List (Stac
   StandsOn stack = (more : List (StackLayer P)) × (stack.below ≡ base ++ more)
 
   record OnBase (world : World P C) : Type 0 where
-    hub : Hub P
+    hub : HubState P
     found : value_at world.hubs n ≡ Some hub
     on : StandsOn hub.stack
     hubs : AreBelow 0 world.next.hub world.hubs
@@ -168,7 +154,7 @@ module _ {P C : Type 0} (meanings : C → Meanings) (n : ℕ) (base : List (Stac
       pop_on stack given allowed (sym (ap (λ (b : Bool). b && (given == length base)) (equal n n refl)) ∙ not_popped) s
   change_on options world (session_named session) stack allowed not_popped s = s
 
-  replaced-on : (b : Bool) (world : World P C) (number : ℕ) (old new : Hub P) → value_at world.hubs number ≡ Some old
+  replaced-on : (b : Bool) (world : World P C) (number : ℕ) (old new : HubState P) → value_at world.hubs number ≡ Some old
       → (n == number) ≡ b → (n ≡ number → StandsOn old.stack → StandsOn new.stack) → OnBase world
       → OnBase (record world { hubs = replace_at world.hubs number new })
   replaced-on true world number old new found e goes o =
@@ -178,7 +164,7 @@ module _ {P C : Type 0} (meanings : C → Meanings) (n : ℕ) (base : List (Stac
       record {
         hub = new;
         found = ap (value_at (replace_at world.hubs number new)) same ∙ own_replaced world.hubs number new old found;
-        on = goes same (subst (λ (h : Hub P). StandsOn h.stack) (sym is) o.on);
+        on = goes same (subst (λ (h : HubState P). StandsOn h.stack) (sym is) o.on);
         hubs = below_replaced 0 world.next.hub number new world.hubs o.hubs;
       }
   replaced-on false world number old new found e goes o = record {
@@ -189,7 +175,7 @@ module _ {P C : Type 0} (meanings : C → Meanings) (n : ℕ) (base : List (Stac
     hubs = below_replaced 0 world.next.hub number new world.hubs o.hubs;
   }
 
-  released-on : (b : Bool) (world : World P C) (number : ℕ) (hub : Hub P) → 0 < length base
+  released-on : (b : Bool) (world : World P C) (number : ℕ) (hub : HubState P) → 0 < length base
       → value_at world.hubs number ≡ Some hub → depth hub.stack ≡ 0 → (n == number) ≡ b → OnBase world
       → OnBase (record world { hubs = without world.hubs number })
   released-on true world number hub some found alone e o =
@@ -197,7 +183,7 @@ module _ {P C : Type 0} (meanings : C → Meanings) (n : ℕ) (base : List (Stac
       let is : hub ≡ o.hub = same_value (value_at world.hubs number) hub o.hub found
       (sym (ap (value_at world.hubs) same) ∙ o.found) in
       let long : length o.hub.stack.below ≡ length (base ++ o.on.0) = ap length o.on.1 in
-      let none : length o.hub.stack.below ≡ 0 = sym (ap (λ (h : Hub P). length h.stack.below) is) ∙ alone in
+      let none : length o.hub.stack.below ≡ 0 = sym (ap (λ (h : HubState P). length h.stack.below) is) ∙ alone in
       absurd (omega (arith, long, none, some, length-append base o.on.0))
   released-on false world number hub some found alone e o = record {
     hub = o.hub;
@@ -207,7 +193,7 @@ module _ {P C : Type 0} (meanings : C → Meanings) (n : ℕ) (base : List (Stac
     hubs = below_without 0 world.next.hub number world.hubs o.hubs;
   }
 
-  made_on : (world : World P C) (new : Hub P) → OnBase world
+  made_on : (world : World P C) (new : HubState P) → OnBase world
       → OnBase (record world {
         next = record world.next { hub = world.next.hub + 1 };
         hubs =
@@ -256,7 +242,7 @@ module _ {P C : Type 0} (meanings : C → Meanings) (n : ℕ) (base : List (Stac
       (with_client_history world key (after_arrival arrival client))).sent
       (with_client_history world key (after_arrival arrival client))
       (record { hub = o.hub; found = o.found; on = o.on; hubs = o.hubs })
-  on_change (accepts world key client arrival is_log is_off found open_ came) long h o =
+  on_change (accepts world key client arrival kind is_off found open_ came) long h o =
       sending_on client.label (send key client (envelopes_on_arrival arrival client)
       (with_client_history world key (after_arrival arrival client))).sent
       (with_client_history world key (after_arrival arrival client))
@@ -279,7 +265,7 @@ module _ {P C : Type 0} (meanings : C → Meanings) (n : ℕ) (base : List (Stac
         o.hubs;
   }
   on_change (starts_none world number id) long h o = o
-  on_change (accepts_none world is_log) long h o = o
+  on_change (accepts_none world kind) long h o = o
   on_change (starts_session world number start) long h o = record { hub = o.hub; found = o.found; on = o.on; hubs = o.hubs }
   on_change (changes_session world number old new later found same) long h o =
       record { hub = o.hub; found = o.found; on = o.on; hubs = o.hubs }
@@ -322,7 +308,7 @@ module _ {P C : Type 0} (meanings : C → Meanings) (n : ℕ) (base : List (Stac
   session_unpopped (report_taken label report) h = refl
   session_unpopped (session_begun number id) h = refl
   session_unpopped (client_dropped number) h = refl
-  session_unpopped (item_came is_log) h = refl
+  session_unpopped (came_to_queues kind) h = refl
 
   unpopped-at : (b : Bool) (effect : Effect P C) (rest : List (Effect P C)) → is_own effect ≡ b
       → (list_any is_popped (own_effects rest) ≡ false → list_any is_popped rest ≡ false)
@@ -399,12 +385,12 @@ module _ {P C : Type 0} where
 module _ {P C : Type 0} (gives : P → Partial) (meanings : C → Meanings) where
   -- what a push leaves
   record Opened (first open_ : World P C) (n deep : ℕ) : Type 0 where
-    hub : Hub P
+    hub : HubState P
     found : value_at first.hubs n ≡ Some hub
     deep_is : length (layers hub.stack) ≡ deep
     on : OnBase {C = C} meanings n (layers hub.stack) open_
 
-  opened_from : (first open_ : World P C) (key : HubKey) (deep : ℕ) (opened : Out (Reply P C)) (o : Option (Hub P))
+  opened_from : (first open_ : World P C) (key : HubKey) (deep : ℕ) (opened : Out (Reply P C)) (o : Option (HubState P))
       → hub_at first key ≡ o
       → map_answer (λ pushed_. reply.Depth pushed_.1) (require_some {P = P} {C = C} {T = HubKey × ℕ} Stale first o
       (λ hub. reply_with (key, depth (push hub.stack)) []
@@ -415,7 +401,7 @@ module _ {P C : Type 0} (gives : P → Partial) (meanings : C → Meanings) wher
   opened_from first open_ key deep opened None at answer after replied below = absurd cc
   opened_from first open_ key deep opened (Some hub) at answer after replied below =
       let here = found_under first.tag first.hubs key.tag key.number hub at in
-      let new : Hub P = with_stack hub (push hub.stack) in
+      let new : HubState P = with_stack hub (push hub.stack) in
       record {
         hub = hub;
         found = here;
@@ -437,12 +423,12 @@ module _ {P C : Type 0} (gives : P → Partial) (meanings : C → Meanings) wher
 
   -- what a pop leaves
   record Closed (middle last : World P C) (n deep : ℕ) : Type 0 where
-    hub : Hub P
+    hub : HubState P
     found : value_at middle.hubs n ≡ Some hub
     deep_is : depth hub.stack ≡ deep
     after : stack_at last n ≡ Some (pop hub.stack)
 
-  closed_require : (middle last : World P C) (key : HubKey) (given now : ℕ) (closed : Out (Reply P C)) (hub : Hub P)
+  closed_require : (middle last : World P C) (key : HubKey) (given now : ℕ) (closed : Out (Reply P C)) (hub : HubState P)
       → hub_at middle key ≡ Some hub → (b : Bool) → (depth hub.stack == given && nat_lt 0 given) ≡ b
       → map_answer (λ _. reply.Done) (require {P = P} {C = C} {T = Unit {0}} OutOfOrder middle b
       (reply_with tt (release_session key.number hub now middle).sent
@@ -460,12 +446,12 @@ module _ {P C : Type 0} (gives : P → Partial) (meanings : C → Meanings) wher
         found = here;
         deep_is = same_depth (depth hub.stack) given top;
         after = ap (λ (w : World P C). stack_at w key.number) after
-            ∙ ap (option_map (λ (h : Hub P). h.stack))
+            ∙ ap (option_map (λ (h : HubState P). h.stack))
             (own_replaced (release_session key.number hub now middle).after.hubs key.number
             (with_stack hub (pop hub.stack)) (with_session hub None) (found_released key.number hub now middle here));
       }
 
-  closed_from : (middle last : World P C) (key : HubKey) (given now : ℕ) (closed : Out (Reply P C)) (o : Option (Hub P))
+  closed_from : (middle last : World P C) (key : HubKey) (given now : ℕ) (closed : Out (Reply P C)) (o : Option (HubState P))
       → hub_at middle key ≡ o
       → map_answer (λ _. reply.Done) (require_some {P = P} {C = C} {T = Unit {0}} Stale middle o
       (λ hub. require OutOfOrder middle (depth hub.stack == given && nat_lt 0 given)
@@ -496,7 +482,7 @@ module _ {P C : Type 0} (gives : P → Partial) (meanings : C → Meanings) wher
   left_by n stack middle last given c deep m =
       let base = layers stack in
       let same : m.hub ≡ c.hub = same_value (value_at middle.hubs n) m.hub c.hub m.found c.found in
-      let below : c.hub.stack.below ≡ base ++ m.on.0 = sym (ap (λ (h : Hub P). h.stack.below) same) ∙ m.on.1 in
+      let below : c.hub.stack.below ≡ base ++ m.on.0 = sym (ap (λ (h : HubState P). h.stack.below) same) ∙ m.on.1 in
       let none : m.on.0 ≡ [] = no_more base m.on.0 (sym (ap length below) ∙ (c.deep_is ∙ deep)) in
       let all : c.hub.stack.below ≡ base = below ∙ (ap (λ l. base ++ l) none ∙ append-nil base) in
       c.after ∙ (ap (λ (l : List (StackLayer P)). Some (stack_of_any l c.hub.stack)) all
@@ -555,7 +541,7 @@ module _ {P C : Type 0} (gives : P → Partial) (meanings : C → Meanings) wher
       let pushed_ = subst (λ c. StepsTo gives meanings world c (Ok out) run.0) is run.1 in
       let o : Opened world run.0 hub.number depth = opened_by world run.0 hub depth out pushed_ replied n.hubs in
       subst (λ (s : Option (Stack P)). PopLeaves gives meanings hub.number depth s run.0 calls answers last run.2)
-      (sym (ap (option_map (λ (h : Hub P). h.stack)) o.found))
+      (sym (ap (option_map (λ (h : HubState P). h.stack)) o.found))
       (subst (λ d. PopLeaves gives meanings hub.number d (Some o.hub.stack) run.0 calls answers last run.2) o.deep_is
       (restores hub.number o.hub.stack calls answers run.0 last run.2 o.on))
 

@@ -12,14 +12,12 @@ use Rattle.sentry_scope.specs.declared.scope.stack.StackLayer.{StackLayer}
 use Rattle.sentry_scope.specs.Stacks.{depth, pop, stack_of, stack_of_any, is_session, names_session}
 use Rattle.sentry_sessions.specs.Sessions.{closed, session_of, pending_update}
 use Rattle.sentry_sessions.specs.declared.session.record.SessionStart.{SessionStart}
-use Rattle.sentry_hub_table.specs.declared.hub.Hub.{Hub}
+use Rattle.sentry_hub_table.specs.declared.hub.HubState.{HubState}
 use Rattle.sentry_state.specs.Worlds.{World, SessionHistory}
 use Rattle.sentry_state.specs.Outcomes.{session_at, transaction_at, value_under}
 use Rattle.sentry_hub_table.specs.Hubs.{with_stack, with_session}
 use Rattle.sentry_state.specs.Changes.{with_new_session}
-use Rattle.sentry_sending.specs.Sending.{Sending, send_nothing, send_some}
-use Rattle.sentry_sending.specs.SessionEnds.{is_session_named, end_session, end_unnamed_session, release_session}
-use Rattle.sentry_sending.specs.Sessions.{replace_session}
+use Rattle.sentry_sending.specs.Sending.{Sending, send_nothing, send_some, is_session_named, end_session, end_unnamed_session, release_session, replace_session}
 use Rattle.sentry_span_edits.specs.Setters.{with_edited, with_found_edited}
 use Rattle.sentry_span_edits.specs.declared.edit.SpanEdit.{SpanEdit}
 use Rattle.sentry_span_edits.specs.declared.edit.SpanEdit.TheVariants.{Name}
@@ -28,7 +26,7 @@ use Rattle.sentry_calls.specs.Hubs.{with_renames}
 use Rattle.sentry_laws.specs.Reachable.{SessionsAreNamed}
 use Rattle.sentry_laws.proofs.Tables.{AreBelow, below_put, own_replaced}
 use Rattle.sentry_laws.proofs.Found.{same_number, found_put}
-use Rattle.sentry_laws.proofs.Tests.{or_true, passes_found, passes_raised, passes_without}
+use Rattle.sentry_laws.proofs.Tests.{or_true, passes_found, passes_raised, passes_without, and_left, and_right}
 use Rattle.sentry_laws.proofs.Numbered.{IsNumbered}
 use Rattle.sentry_laws.proofs.Naming.{IsNamed, has_session, is_on, hub_replaced_named, without_before}
 use Rattle.sentry_laws.proofs.Parts.{end_part}
@@ -43,14 +41,6 @@ other_way a b false e = grind (arith, nat_tests)
 and_false : (a b : Bool) → b ≡ false → (a && b) ≡ false
 and_false true b h = h
 and_false false b h = refl
-
-and_left : (a b : Bool) → (a && b) ≡ true → a ≡ true
-and_left true b h = refl
-and_left false b h = h
-
-and_right : (a b : Bool) → (a && b) ≡ true → b ≡ true
-and_right true b h = h
-and_right false b h = absurd cc
 
 or_second : (a b : Bool) → a ≡ false → (a || b) ≡ true → b ≡ true
 or_second true b e h = absurd cc
@@ -158,7 +148,7 @@ module _ {P C : Type 0} where
       by_name false e here = let held = held_still key k now world next session below here in (held.0, inl held.1)
 
   -- the session of a key stays named, or ended, where the top layer of a hub gave up its session
-  pub released_named : (number : ℕ) (hub : Hub P) (now : ℕ) (world : World P C) (next : ℕ) (key : SessionKey)
+  pub released_named : (number : ℕ) (hub : HubState P) (now : ℕ) (world : World P C) (next : ℕ) (key : SessionKey)
       → value_at world.hubs number ≡ Some hub → AreBelow 0 next world.sessions → IsNamed world key
       → IsNamed (release_session number hub now world).after key
   released_named number hub now world next key found below h session at =
@@ -176,7 +166,7 @@ module _ {P C : Type 0} where
       by_name (inr still) named = still
 
   -- the same of all sessions
-  pub all_released_named : (number : ℕ) (hub : Hub P) (now : ℕ) (world : World P C)
+  pub all_released_named : (number : ℕ) (hub : HubState P) (now : ℕ) (world : World P C)
       → value_at world.hubs number ≡ Some hub → IsNumbered world → SessionsAreNamed world
       → SessionsAreNamed (release_session number hub now world).after
   all_released_named number hub now world found n h key =
@@ -208,7 +198,7 @@ module _ {P : Type 0} (key : SessionKey) where
 
 module _ {P C : Type 0} where
   -- a pop
-  pub popped_named : (number : ℕ) (hub : Hub P) (now : ℕ) (world : World P C) → value_at world.hubs number ≡ Some hub
+  pub popped_named : (number : ℕ) (hub : HubState P) (now : ℕ) (world : World P C) → value_at world.hubs number ≡ Some hub
       → IsNumbered world → SessionsAreNamed world
       → SessionsAreNamed (record (release_session number hub now world).after {
         hubs = replace_at (release_session number hub now world).after.hubs number (with_stack hub (pop hub.stack));
@@ -219,7 +209,7 @@ module _ {P C : Type 0} where
       (all_released_named number hub now world found n h)
 
   -- a release of a hub of one layer
-  pub hub_released_named : (number : ℕ) (hub : Hub P) (now : ℕ) (world : World P C)
+  pub hub_released_named : (number : ℕ) (hub : HubState P) (now : ℕ) (world : World P C)
       → value_at world.hubs number ≡ Some hub → depth hub.stack ≡ 0 → IsNumbered world → SessionsAreNamed world
       → SessionsAreNamed (record (release_session number hub now world).after {
         hubs = without (release_session number hub now world).after.hubs number;
@@ -257,7 +247,7 @@ module _ {P C : Type 0} where
       ∙ at
   started_before world start key session false own apart at = absurd cc
 
-  pub replaced_named : (number : ℕ) (hub : Hub P) (now : ℕ) (start : SessionStart) (world : World P C)
+  pub replaced_named : (number : ℕ) (hub : HubState P) (now : ℕ) (start : SessionStart) (world : World P C)
       → value_at world.hubs number ≡ Some hub → IsNumbered world → SessionsAreNamed world
       → SessionsAreNamed (replace_session number hub now start world).after
   replaced_named number hub now start world found n h key session at =

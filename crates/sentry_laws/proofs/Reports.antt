@@ -43,7 +43,7 @@ use Rattle.sentry_calls.specs.declared.call.hubs.HubCall.{HubCall}
 use Rattle.sentry_calls.specs.declared.call.hubs.HubCall.TheVariants.{NewHub, NewHubFromTop}
 use Rattle.sentry_calls.specs.declared.call.Reply.{Reply}
 use Rattle.sentry_calls.specs.declared.call.Reply.TheVariants as reply
-use Rattle.sentry_laws.proofs.Effects.{Effect, client_added, client_cloned, hub_made, hub_made_from, hub_changed, hub_released, losses_absorbed, report_taken, session_begun, client_dropped, item_came, effects, client_effects, hub_effects, on_client, on_hub, on_report}
+use Rattle.sentry_laws.proofs.Effects.{Effect, client_added, client_cloned, hub_made, hub_made_from, hub_changed, hub_released, losses_absorbed, report_taken, session_begun, client_dropped, came_to_queues, effects, client_effects, hub_effects, on_client, on_hub, on_report}
 use Rattle.sentry_laws.proofs.Changes.{Change, Changes, nothing, one, both, is_batch_or_report, Arrival, log_came, metric_came, session_ended, flush_came, after_arrival, envelopes_on_arrival, makes_hub, makes_hub_from, changes_hub, leaves_hub, notes_event_id, releases_hub, adds_client, clones_client, drops_client, arrives, accepts, accepts_none, mails, loses, takes_report, absorbs, starts_none, starts_session, changes_session, ends_session, starts_transaction, starts_span, changes_spans}
 use Rattle.sentry_laws.specs.Losses.{told_by, reported}
 use Rattle.sentry_laws.specs.Reports.{told_by_item, told_by_items, own_items, told_by_envelopes, has_label, told_by_reply, told_by_answer, history_of, told_since, ReportsAddUp}
@@ -51,11 +51,11 @@ use Rattle.sentry_laws.specs.SentItems.{handed_in, batches_among}
 use Rattle.sentry_laws.proofs.Found.{same_number, found_put, found_replaced, found_without}
 use Rattle.sentry_laws.proofs.Increasing.{without_if}
 use Rattle.sentry_laws.proofs.Keeping.{trail_of, kept_by_call}
-use Rattle.sentry_laws.proofs.LabelBooks.{HasBooks, books_change, changed_books, entered_books, no_books, label_known, arrival_label, own_number, and_left, and_right}
+use Rattle.sentry_laws.proofs.LabelBooks.{HasBooks, books_change, changed_books, entered_books, no_books, label_known, arrival_label, own_number}
 use Rattle.sentry_laws.proofs.Losses.{books_balance}
 use Rattle.sentry_laws.proofs.SentBatches.{all_batches}
 use Rattle.sentry_laws.proofs.SentKinds.{session_none, flushed_none}
-use Rattle.sentry_laws.proofs.Tests.{or_left, or_right}
+use Rattle.sentry_laws.proofs.Tests.{or_left, or_right, and_left, and_right}
 use Rattle.sentry_laws.proofs.Trails.{found_under, is_own, own_effects}
 
 -- ---- what items tell
@@ -201,7 +201,7 @@ module _ (label : Label) (i : ℕ) where
     session_silent (losses_absorbed other losses) h = refl
     session_silent (session_begun number id) h = refl
     session_silent (client_dropped number) h = refl
-    session_silent (item_came is_log) h = refl
+    session_silent (came_to_queues kind) h = refl
 
     own-by : (b : Bool) (effect : Effect P C) (rest : List (Effect P C)) → is_own effect ≡ b
         → told_by_effects (own_effects rest) ≡ told_by_effects rest
@@ -597,7 +597,7 @@ module _ (label : Label) (i : ℕ) where
                 (a.labels k) at;
             adds = a.adds;
           }))
-      adds_change (accepts world key client arrival is_log is_off found open_ came) none books told a =
+      adds_change (accepts world key client arrival kind is_off found open_ came) none books told a =
           let arrived = with_client_history world key (after_arrival arrival client) in
           let middle : HasBooks arrived = changed_books world key.number client (after_arrival arrival client)
           (found_under world.tag world.clients key.tag key.number client found) (arrival_label arrival client)
@@ -637,7 +637,7 @@ module _ (label : Label) (i : ℕ) where
           same_told told (told + 0) _ (no_more told) (silent_entry told world other (drained_losses losses) books has
           (λ held. refl) a)
       adds_change (starts_none world number id) none books told a = still told world _ books refl refl refl a
-      adds_change (accepts_none world is_log) none books told a = still told world _ books refl refl refl a
+      adds_change (accepts_none world kind) none books told a = still told world _ books refl refl refl a
       adds_change (starts_session world number start) none books told a = still told world _ books refl refl refl a
       adds_change (changes_session world number old new later found same) none books told a =
           still told world _ books refl refl refl a

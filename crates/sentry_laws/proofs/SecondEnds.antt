@@ -19,13 +19,12 @@ use Rattle.sentry_options.specs.declared.clientoptions.ClientOptions.{ClientOpti
 use Rattle.sentry_scope.specs.declared.scope.stack.Stack.{Stack}
 use Rattle.sentry_scope.specs.declared.scope.stack.StackLayer.{StackLayer}
 use Rattle.sentry_scope.specs.Stacks.{push, pop, stack_of_any}
-use Rattle.sentry_hub_table.specs.declared.hub.Hub.{Hub}
+use Rattle.sentry_hub_table.specs.declared.hub.HubState.{HubState}
 use Rattle.sentry_state.specs.declared.state.Out.{Out}
 use Rattle.sentry_state.specs.Worlds.{World, SessionHistory, starting_world}
 use Rattle.sentry_state.specs.Outcomes.{Outcome, hub_at, session_at, refuse, reply_with}
 use Rattle.sentry_state.specs.Changes.{with_client_history}
-use Rattle.sentry_sending.specs.Sending.{Sending, after_sending, send, reply_sending}
-use Rattle.sentry_sending.specs.SessionEnds.{end_session}
+use Rattle.sentry_sending.specs.Sending.{Sending, after_sending, send, reply_sending, end_session}
 use Rattle.sentry_calls.specs.declared.call.Call.{Call}
 use Rattle.sentry_calls.specs.declared.call.Call.TheVariants as group
 use Rattle.sentry_calls.specs.declared.call.clients.ClientCall.{ClientCall}
@@ -38,16 +37,15 @@ use Rattle.sentry_calls.specs.Sessions as session_calls
 use Rattle.sentry_calls.specs.Runs.{StepsTo, Run}
 use Rattle.sentry_calls.specs.Replies.{map_answer}
 use Rattle.sentry_laws.specs.Sessions.{TopChange, covered, popped, started, ended, untouched, top_change, UntilStarted, EndsAreSilent, SecondEndIsSilent, SecondEndsAreSilent, EndsOnce}
-use Rattle.sentry_laws.proofs.Effects.{Effect, LayerChange, scope_edited, breadcrumbs_came, client_bound, layer_pushed, layer_popped, session_named, hub_changed, hub_made, hub_made_from, hub_released, losses_absorbed, report_taken, session_begun, client_dropped, item_came, client_added, client_cloned, effects, client_effects, hub_effects, change_layers, add_under}
+use Rattle.sentry_laws.proofs.Effects.{Effect, LayerChange, scope_edited, breadcrumbs_came, client_bound, layer_pushed, layer_popped, session_named, hub_changed, hub_made, hub_made_from, hub_released, losses_absorbed, report_taken, session_begun, client_dropped, came_to_queues, client_added, client_cloned, effects, client_effects, hub_effects, change_layers, add_under}
 use Rattle.sentry_laws.proofs.Changes.{IsGiven, Change, Changes, nothing, one, both, held_options, after_arrival, envelopes_on_arrival, makes_hub, makes_hub_from, changes_hub, leaves_hub, notes_event_id, releases_hub, adds_client, clones_client, drops_client, arrives, accepts, accepts_none, mails, loses, takes_report, absorbs, starts_none, starts_session, changes_session, ends_session, starts_transaction, starts_span, changes_spans}
 use Rattle.sentry_laws.proofs.Tables.{AreBelow, below_put, below_replaced, below_without, others_put}
-use Rattle.sentry_laws.proofs.Found.{same_number, found_replaced, found_without, all_without}
+use Rattle.sentry_laws.proofs.Found.{same_number, found_replaced, found_without, all_without, found_below}
 use Rattle.sentry_laws.proofs.Increasing.{gone_}
-use Rattle.sentry_laws.proofs.Tests.{or_left, any_first, any_second}
+use Rattle.sentry_laws.proofs.Tests.{or_left, any_first, any_second, or_right}
 use Rattle.sentry_laws.proofs.Naming.{is_naming, is_begun}
 use Rattle.sentry_laws.proofs.Trails.{found_under, is_own, own_effects, neither}
 use Rattle.sentry_laws.proofs.Keeping.{trail_of}
-use Rattle.sentry_laws.proofs.SentBatches.{found_below}
 use Rattle.sentry_laws.proofs.SendingTrails.{ended_gone}
 use Rattle.sentry_laws.proofs.PushPop.{restored, front, popped_below}
 use Rattle.sentry_laws.proofs.PartsOfRuns.{from_each_call}
@@ -107,10 +105,6 @@ no_end : {A : Type 0} (b : Bool) (change : TopChange) → is_end change ≡ fals
     → is_end (if b then change else untouched) ≡ true → A
 no_end true change h k = neither (is_end change) h k
 no_end false change h k = absurd cc
-
-or_right : (a b : Bool) → (a || b) ≡ false → b ≡ false
-or_right true b h = absurd cc
-or_right false b h = h
 
 abbrev IsCovered : Option ℕ → Type 0
 IsCovered (Some (suc above)) = Unit {0}
@@ -238,7 +232,7 @@ module _ (Q : Option SessionKey → Type 0) (none : Q None) where
     record OnLayer (place : Option ℕ) (world : World P C) : Type 0 where
       hubs : AreBelow 0 world.next.hub world.hubs
       given : n < world.next.hub
-      at : (hub : Hub P) → value_at world.hubs n ≡ Some hub → HasNameAt place hub.stack
+      at : (hub : HubState P) → value_at world.hubs n ≡ Some hub → HasNameAt place hub.stack
 
     -- by these effects the layer is named by no session, or it stays covered
     abbrev Calm : List (Effect P C) → Option ℕ → Type 0
@@ -249,18 +243,18 @@ module _ (Q : Option SessionKey → Type 0) (none : Q None) where
     calm_one effect place (inl c) = inl (or_left (is_naming n effect) _ c)
     calm_one effect place (inr c) = inr c.1
 
-    layer_replaced : (b : Bool) (place other : Option ℕ) (world : World P C) (number : ℕ) (old new hub : Hub P)
+    layer_replaced : (b : Bool) (place other : Option ℕ) (world : World P C) (number : ℕ) (old new hub : HubState P)
         → value_at world.hubs number ≡ Some old → (n == number) ≡ b
         → ((n == number) ≡ true → HasNameAt place old.stack → HasNameAt other new.stack) → OnLayer place world
         → (if b then Some new else value_at world.hubs n) ≡ Some hub
         → HasNameAt (if b then other else place) hub.stack
     layer_replaced true place other world number old new hub found e goes o at =
         let same : new ≡ hub = cc in
-        subst (λ (h : Hub P). HasNameAt other h.stack) same
+        subst (λ (h : HubState P). HasNameAt other h.stack) same
         (goes e (o.at old (ap (value_at world.hubs) (same_number n number e) ∙ found)))
     layer_replaced false place other world number old new hub found e goes o at = o.at hub at
 
-    layer_left : (b : Bool) (place other : Option ℕ) (world : World P C) (number : ℕ) (old hub : Hub P)
+    layer_left : (b : Bool) (place other : Option ℕ) (world : World P C) (number : ℕ) (old hub : HubState P)
         → value_at world.hubs number ≡ Some old → (n == number) ≡ b
         → ((n == number) ≡ true → HasNameAt place old.stack → HasNameAt other old.stack) → OnLayer place world
         → value_at world.hubs n ≡ Some hub → HasNameAt (if b then other else place) hub.stack
@@ -268,10 +262,10 @@ module _ (Q : Option SessionKey → Type 0) (none : Q None) where
         let here : value_at world.hubs n ≡ Some old = ap (value_at world.hubs) (same_number n number e) ∙ found in
         let both_ : Some old ≡ Some hub = sym here ∙ at in
         let same : old ≡ hub = cc in
-        subst (λ (h : Hub P). HasNameAt other h.stack) same (goes e (o.at old here))
+        subst (λ (h : HubState P). HasNameAt other h.stack) same (goes e (o.at old here))
     layer_left false place other world number old hub found e goes o at = o.at hub at
 
-    made_layer : (place : Option ℕ) (world : World P C) (new : Hub P) → OnLayer place world
+    made_layer : (place : Option ℕ) (world : World P C) (new : HubState P) → OnLayer place world
         → OnLayer place (record world {
           next = record world.next { hub = world.next.hub + 1 };
           hubs = put world.hubs world.next.hub new;
@@ -316,17 +310,17 @@ module _ (Q : Option SessionKey → Type 0) (none : Q None) where
       at = λ hub at. noted (n == number) hub refl (sym (found_replaced world.hubs number n new old found) ∙ at);
     }
       where
-        noted : (b : Bool) (hub : Hub P) → (n == number) ≡ b
+        noted : (b : Bool) (hub : HubState P) → (n == number) ≡ b
             → (if b then Some new else value_at world.hubs n) ≡ Some hub → HasNameAt place hub.stack
         noted true hub e at =
             let is : new ≡ hub = cc in
-            subst (λ (h : Hub P). HasNameAt place h.stack) is (subst (HasNameAt place) (sym same)
+            subst (λ (h : HubState P). HasNameAt place h.stack) is (subst (HasNameAt place) (sym same)
             (o.at old (ap (value_at world.hubs) (same_number n number e) ∙ found)))
         noted false hub e at = o.at hub at
     layer_change (releases_hub world number hub found alone) place calm o = record {
       hubs = below_without 0 world.next.hub number world.hubs o.hubs;
       given = o.given;
-      at = λ held at. all_without (λ (x : Hub P). HasNameAt place x.stack) (n == number) held (value_at world.hubs n)
+      at = λ held at. all_without (λ (x : HubState P). HasNameAt place x.stack) (n == number) held (value_at world.hubs n)
           (λ z zat. o.at z zat) (sym (found_without 0 world.next.hub world.hubs number n o.hubs) ∙ at);
     }
     layer_change (adds_client world client now queues open_ of_engine) place calm o =
@@ -340,7 +334,7 @@ module _ (Q : Option SessionKey → Type 0) (none : Q None) where
         (with_client_history world key (after_arrival arrival client))).sent
         (with_client_history world key (after_arrival arrival client))
         (record { hubs = o.hubs; given = o.given; at = o.at })
-    layer_change (accepts world key client arrival is_log is_off found open_ came) place calm o =
+    layer_change (accepts world key client arrival kind is_off found open_ came) place calm o =
         sending_layer place client.label (send key client (envelopes_on_arrival arrival client)
         (with_client_history world key (after_arrival arrival client))).sent
         (with_client_history world key (after_arrival arrival client))
@@ -352,7 +346,7 @@ module _ (Q : Option SessionKey → Type 0) (none : Q None) where
     layer_change (takes_report world label has) place calm o = record { hubs = o.hubs; given = o.given; at = o.at }
     layer_change (absorbs world label losses has) place calm o = record { hubs = o.hubs; given = o.given; at = o.at }
     layer_change (starts_none world number id) place calm o = o
-    layer_change (accepts_none world is_log) place calm o = o
+    layer_change (accepts_none world kind) place calm o = o
     layer_change (starts_session world number start) place calm o =
         record { hubs = o.hubs; given = o.given; at = o.at }
     layer_change (changes_session world number old new later found same) place calm o =
@@ -450,7 +444,7 @@ module _ (Q : Option SessionKey → Type 0) (none : Q None) where
     own_tests (report_taken label report) h = absurd cc
     own_tests (session_begun number id) h = absurd cc
     own_tests (client_dropped number) h = absurd cc
-    own_tests (item_came is_log) h = absurd cc
+    own_tests (came_to_queues kind) h = absurd cc
 
     moved-by : (b : Bool) (effect : Effect P C) (rest own : List (Effect P C)) (place : Option ℕ) → is_own effect ≡ b
         → ((place : Option ℕ) → moved_all own place ≡ moved_all rest place)
@@ -598,7 +592,7 @@ module _ {P C : Type 0} (gives : P → Partial) (meanings : C → Meanings) wher
   unfolding session_calls.end_session_with_status
   stale_end key status now world found = rw found refl
 
-  nameless_end : (key : HubKey) (status : SessionStatus) (now : ℕ) (world : World P C) (hub : Hub P)
+  nameless_end : (key : HubKey) (status : SessionStatus) (now : ℕ) (world : World P C) (hub : HubState P)
       → hub_at world key ≡ Some hub → hub.stack.top.session ≡ None
       → session_calls.end_session_with_status key status now world ≡ reply_with tt [] world
   unfolding session_calls.end_session_with_status
@@ -637,7 +631,7 @@ module _ {P C : Type 0} (gives : P → Partial) (meanings : C → Meanings) wher
       (gone : (world : World P C) → Dead world → (key : SessionKey) → Q (Some key) → session_at world key ≡ None) where
     silent_at : (key : HubKey) (status : SessionStatus) (now : ℕ) (out : Out (Reply P C)) (world next : World P C)
         → (n == key.number) ≡ true → StepsTo gives meanings world (group.Hub (EndSessionWithStatus key status now)) (Ok out)
-        next → OnLayer Q none {C = C} meanings n (Some zero) world → Dead world → (o : Option (Hub P))
+        next → OnLayer Q none {C = C} meanings n (Some zero) world → Dead world → (o : Option (HubState P))
         → hub_at world key ≡ o → (out.sent ≡ []) × (next ≡ world)
     silent_at key status now out world next own may o dead None found =
         not_stale key status now out world next may found
@@ -737,12 +731,12 @@ module _ {P C : Type 0} (gives : P → Partial) (meanings : C → Meanings) wher
       next may (record { counts = c; given = omega arith; holds = tt })).counts
   counts_next call (Err refusal) world next may c = subst Counts (sym may.1) c
 
-  same_hub : (o : Option (Hub P)) (x y : Hub P) → o ≡ Some x → o ≡ Some y → x ≡ y
+  same_hub : (o : Option (HubState P)) (x y : HubState P) → o ≡ Some x → o ≡ Some y → x ≡ y
   same_hub o x y p q = cc
 
   -- the first end leaves the layer with a name of these, if it had one
   first_end : (Q : Option SessionKey → Type 0) (none : Q None) (hub : HubKey) (status : SessionStatus) (now : ℕ)
-      (out : Out (Reply P C)) (world next : World P C) (held : Hub P)
+      (out : Out (Reply P C)) (world next : World P C) (held : HubState P)
       → StepsTo gives meanings world (group.Hub (EndSessionWithStatus hub status now)) (Ok out) next → Counts world
       → hub_at world hub ≡ Some held → Q held.stack.top.session
       → OnLayer Q none {C = C} meanings hub.number (Some zero) next
@@ -756,13 +750,13 @@ module _ {P C : Type 0} (gives : P → Partial) (meanings : C → Meanings) wher
       (record {
         hubs = c.hubs;
         given = found_below 0 world.next.hub hub.number world.hubs held c.hubs here;
-        at = λ other at. subst (λ (h : Hub P). Q h.stack.top.session)
+        at = λ other at. subst (λ (h : HubState P). Q h.stack.top.session)
             (same_hub (value_at world.hubs hub.number) held other here at) q;
       }))
 
   -- the first end, where the layer names no session
   end_none : (hub : HubKey) (status : SessionStatus) (now : ℕ) (out : Out (Reply P C)) (calls : List (Call P C))
-      (answers : List (Result (Out (Reply P C)) Refusal)) (world next last : World P C) (held : Hub P)
+      (answers : List (Result (Out (Reply P C)) Refusal)) (world next last : World P C) (held : HubState P)
       → StepsTo gives meanings world (group.Hub (EndSessionWithStatus hub status now)) (Ok out) next
       → (run : Run gives meanings next calls answers last) → Counts world → hub_at world hub ≡ Some held
       → held.stack.top.session ≡ None → EndsAreSilent gives meanings hub.number zero next calls answers last run
@@ -777,7 +771,7 @@ module _ {P C : Type 0} (gives : P → Partial) (meanings : C → Meanings) wher
 
   -- the first end, where the layer names a session
   end_some : (hub : HubKey) (status : SessionStatus) (now : ℕ) (out : Out (Reply P C)) (calls : List (Call P C))
-      (answers : List (Result (Out (Reply P C)) Refusal)) (world next last : World P C) (held : Hub P)
+      (answers : List (Result (Out (Reply P C)) Refusal)) (world next last : World P C) (held : HubState P)
       (session : SessionKey)
       → StepsTo gives meanings world (group.Hub (EndSessionWithStatus hub status now)) (Ok out) next
       → (run : Run gives meanings next calls answers last) → Counts world → hub_at world hub ≡ Some held
@@ -828,7 +822,7 @@ module _ {P C : Type 0} (gives : P → Partial) (meanings : C → Meanings) wher
     where
       by_hub : (hub : HubKey) (status : SessionStatus) (now : ℕ)
           → StepsTo gives meanings world (group.Hub (EndSessionWithStatus hub status now)) (Ok out) run.0
-          → (o : Option (Hub P)) → hub_at world hub ≡ o
+          → (o : Option (HubState P)) → hub_at world hub ≡ o
           → EndsAreSilent gives meanings hub.number zero run.0 calls answers last run.2
       by_hub hub status now may None found = not_stale gives meanings hub status now out world run.0 may found
       by_hub hub status now may (Some held) found = by_name held.stack.top.session refl

@@ -18,19 +18,18 @@ use Rattle.std.specs.BTreeMap.{is_at}
 use Rattle.std.specs.Ordering.{nat_cmp}
 use Rattle.std.specs.Option.{option_or}
 use Rattle.sentry_sessions.specs.declared.session.record.SessionStart.{SessionStart}
-use Rattle.sentry_hub_table.specs.declared.hub.Hub.{Hub}
+use Rattle.sentry_hub_table.specs.declared.hub.HubState.{HubState}
 use Rattle.sentry_state.specs.declared.state.NextNumbers.{NextNumbers}
 use Rattle.sentry_state.specs.Worlds.{World, ClientHistory, SessionHistory, span_table}
 use Rattle.sentry_state.specs.Outcomes.{client_at, session_at}
 use Rattle.sentry_state.specs.Changes.{with_new_session, with_client_history, with_client_entry}
 use Rattle.sentry_hub_table.specs.Hubs.{with_session}
-use Rattle.sentry_sending.specs.Sending.{Sending, send, send_nothing, send_some, after_sending}
-use Rattle.sentry_sending.specs.SessionEnds.{is_session_named, queue_update, end_session, end_unnamed_session, release_session}
-use Rattle.sentry_sending.specs.Sessions.{replace_session}
+use Rattle.sentry_sending.specs.Sending.{Sending, send, send_nothing, send_some, after_sending, is_session_named, queue_update, end_session, end_unnamed_session, release_session, replace_session}
 use Rattle.sentry_telemetry.specs.declared.flushes.Flush.{Flush}
-use Rattle.sentry_telemetry.specs.Flushes.{flush_queues, flushed_envelopes, after_flush}
+use Rattle.sentry_telemetry.specs.declared.flushes.Flush.TheVariants.{Closing}
+use Rattle.sentry_telemetry.specs.Flushes.{flush_queues, flushed_envelopes, after_flush, is_closing}
 use Rattle.sentry_telemetry.specs.Telemetry.{accept_log, accept_metric, keep_log, keep_metric}
-use Rattle.sentry_laws.proofs.Effects.{hub_changed, session_named, session_begun, item_came}
+use Rattle.sentry_laws.proofs.Effects.{Came, a_log, a_metric, a_close, hub_changed, session_named, session_begun, came_to_queues}
 use Rattle.sentry_laws.proofs.Changes.{Changes, IsArrival, nothing, one, both, log_came, metric_came, session_ended, flush_came, changes_hub, arrives, accepts, accepts_none, loses, starts_session, changes_session, ends_session}
 use Rattle.sentry_laws.proofs.Tables.{own_replaced}
 use Rattle.sentry_laws.proofs.Parts.{flush_part, queue_update_part, release_part}
@@ -43,22 +42,22 @@ tag-by false o x h = absurd cc
 module _ {P C : Type 0} where
   -- ---- the hubs, the tag, the next numbers and the spans stay
 
-  pub release_hubs : (number : ℕ) (hub : Hub P) (now : ℕ) (world : World P C)
+  pub release_hubs : (number : ℕ) (hub : HubState P) (now : ℕ) (world : World P C)
       → (release_session number hub now world).after.hubs ≡ replace_at world.hubs number (with_session hub None)
   release_hubs number hub now world = release_part (λ (w : World P C). w.hubs) (λ w b. refl) (λ w c. refl) (λ w s. refl)
       number hub now world
 
-  pub release_tag : (number : ℕ) (hub : Hub P) (now : ℕ) (world : World P C)
+  pub release_tag : (number : ℕ) (hub : HubState P) (now : ℕ) (world : World P C)
       → (release_session number hub now world).after.tag ≡ world.tag
   release_tag number hub now world = release_part (λ (w : World P C). w.tag) (λ w b. refl) (λ w c. refl) (λ w s. refl)
       number hub now world
 
-  pub release_next : (number : ℕ) (hub : Hub P) (now : ℕ) (world : World P C)
+  pub release_next : (number : ℕ) (hub : HubState P) (now : ℕ) (world : World P C)
       → (release_session number hub now world).after.next ≡ world.next
   release_next number hub now world = release_part (λ (w : World P C). w.next) (λ w b. refl) (λ w c. refl)
       (λ w s. refl) number hub now world
 
-  pub release_spans : (number : ℕ) (hub : Hub P) (now : ℕ) (world : World P C)
+  pub release_spans : (number : ℕ) (hub : HubState P) (now : ℕ) (world : World P C)
       → span_table (release_session number hub now world).after ≡ span_table world
   release_spans number hub now world = release_part (λ (w : World P C). span_table w) (λ w b. refl) (λ w c. refl)
       (λ w s. refl) number hub now world
@@ -97,7 +96,7 @@ module _ {P C : Type 0} where
       (λ update. queue_update_sessions session.start.client update world))) k l
 
   -- the hub after it gave up its session
-  pub found_released : (number : ℕ) (hub : Hub P) (now : ℕ) (world : World P C) → value_at world.hubs number ≡ Some hub
+  pub found_released : (number : ℕ) (hub : HubState P) (now : ℕ) (world : World P C) → value_at world.hubs number ≡ Some hub
       → value_at (release_session number hub now world).after.hubs number ≡ Some (with_session hub None)
   found_released number hub now world found =
       ap (λ hubs. value_at hubs number) (release_hubs number hub now world) ∙ own_replaced world.hubs number
@@ -212,7 +211,7 @@ module _ {P C : Type 0} (next : NextNumbers) where
       some_but world name _ _ (λ key. unless_but world (is_session_named key world.hubs) _ _
       (end_session_but key None now world))
 
-  release_but : (number : ℕ) (hub : Hub P) (now : ℕ) (world : World P C)
+  release_but : (number : ℕ) (hub : HubState P) (now : ℕ) (world : World P C)
       → SameBut (release_session number hub now world) (release_session number hub now (record world { next = next }))
   release_but number hub now world =
       end_unnamed_but hub.stack.top.session now
@@ -321,54 +320,61 @@ module _ {P C : Type 0} (meanings : C → Meanings) where
       (queue_update client update (record world { sessions = sessions })).sent w) but.after
       (queued client update (record world { sessions = sessions }) (told_ update refl)).changes)
 
-  pub flushes : (flush : Flush) (key : ClientKey) (world : World P C) → Sends meanings None world []
-      (flush_queues flush key world)
+  pub flushes : (flush : Flush) → is_closing flush ≡ false → (key : ClientKey) (world : World P C)
+      → Sends meanings None world [] (flush_queues flush key world)
   unfolding flush_queues
-  flushes flush key world =
+  flushes flush more key world =
       sends_some meanings None (client_at world key) (λ client found. sends_unless meanings None client.closed
-      (λ open_. record { changes = one (arrives world key client (flush_came flush) refl found open_ tt) }))
+      (λ open_. record { changes = one (arrives world key client (flush_came flush) refl found open_ more) }))
 
-  -- a log or a metric may come
-  comes_some : {X : Type 0} {world : World P C} (is_log : Bool) (o : Option X) {go : X → Sending P C}
-      → ((x : X) → o ≡ Some x → Sends meanings None world (item_came is_log ∷ []) (go x))
-      → Sends meanings None world (item_came is_log ∷ []) (send_some world o go)
-  comes_some {world = world} is_log None h = record { changes = one (accepts_none world is_log) }
-  comes_some is_log (Some x) h = h x refl
+  -- a log, a metric or the last flush may come
+  comes_some : {X : Type 0} {world : World P C} (kind : Came) (o : Option X) {go : X → Sending P C}
+      → ((x : X) → o ≡ Some x → Sends meanings None world (came_to_queues kind ∷ []) (go x))
+      → Sends meanings None world (came_to_queues kind ∷ []) (send_some world o go)
+  comes_some {world = world} kind None h = record { changes = one (accepts_none world kind) }
+  comes_some kind (Some x) h = h x refl
 
-  comes_unless : {world : World P C} (is_log b : Bool) {go : Sending P C}
-      → (b ≡ false → Sends meanings None world (item_came is_log ∷ []) go)
-      → Sends meanings None world (item_came is_log ∷ []) (if b then send_nothing world else go)
-  comes_unless {world} is_log true h = record { changes = one (accepts_none world is_log) }
-  comes_unless is_log false h = h refl
+  comes_unless : {world : World P C} (kind : Came) (b : Bool) {go : Sending P C}
+      → (b ≡ false → Sends meanings None world (came_to_queues kind ∷ []) go)
+      → Sends meanings None world (came_to_queues kind ∷ []) (if b then send_nothing world else go)
+  comes_unless {world} kind true h = record { changes = one (accepts_none world kind) }
+  comes_unless kind false h = h refl
 
-  accepts_log : (key : ClientKey) (log : Log) (world : World P C) → Sends meanings None world (item_came true ∷ [])
+  accepts_log : (key : ClientKey) (log : Log) (world : World P C) → Sends meanings None world (came_to_queues a_log ∷ [])
       (accept_log key log world)
   unfolding accept_log
   accepts_log key log world =
-      comes_some true (client_at world key) (λ client found. comes_unless true client.closed
-      (λ open_. record { changes = one (accepts world key client (log_came log) true refl found open_ tt) }))
+      comes_some a_log (client_at world key) (λ client found. comes_unless a_log client.closed
+      (λ open_. record { changes = one (accepts world key client (log_came log) a_log refl found open_ refl) }))
 
   accepts_metric : (key : ClientKey) (metric : Metric) (world : World P C) → Sends meanings None world
-      (item_came false ∷ []) (accept_metric key metric world)
+      (came_to_queues a_metric ∷ []) (accept_metric key metric world)
   unfolding accept_metric
   accepts_metric key metric world =
-      comes_some false (client_at world key) (λ client found. comes_unless false client.closed
-      (λ open_. record { changes = one (accepts world key client (metric_came metric) false refl found open_ tt) }))
+      comes_some a_metric (client_at world key) (λ client found. comes_unless a_metric client.closed
+      (λ open_. record { changes = one (accepts world key client (metric_came metric) a_metric refl found open_ refl) }))
+
+  pub closes_queues : (key : ClientKey) (world : World P C) → Sends meanings None world (came_to_queues a_close ∷ [])
+      (flush_queues Closing key world)
+  unfolding flush_queues
+  closes_queues key world =
+      comes_some a_close (client_at world key) (λ client found. comes_unless a_close client.closed
+      (λ open_. record { changes = one (accepts world key client (flush_came Closing) a_close refl found open_ refl) }))
 
   pub keeps_log : (key : ClientKey) (client : ClientHistory C) (log : Option Log) (world : World P C)
       → client_at world key ≡ Some client
-      → Sends meanings None world (item_came true ∷ []) (keep_log key client.label log world)
+      → Sends meanings None world (came_to_queues a_log ∷ []) (keep_log key client.label log world)
   unfolding keep_log
   keeps_log key client None world found =
-      record { changes = both (one (accepts_none world true)) (one (loses world key client _ found)) }
+      record { changes = both (one (accepts_none world a_log)) (one (loses world key client _ found)) }
   keeps_log key client (Some log) world found = accepts_log key log world
 
   pub keeps_metric : (key : ClientKey) (client : ClientHistory C) (metric : Option Metric) (world : World P C)
       → client_at world key ≡ Some client
-      → Sends meanings None world (item_came false ∷ []) (keep_metric key client.label metric world)
+      → Sends meanings None world (came_to_queues a_metric ∷ []) (keep_metric key client.label metric world)
   unfolding keep_metric
   keeps_metric key client None world found =
-      record { changes = both (one (accepts_none world false)) (one (loses world key client _ found)) }
+      record { changes = both (one (accepts_none world a_metric)) (one (loses world key client _ found)) }
   keeps_metric key client (Some metric) world found = accepts_metric key metric world
 
   -- ---- sessions
@@ -417,7 +423,7 @@ module _ {P C : Type 0} (meanings : C → Meanings) where
       sends_some meanings None name (λ key is. sends_unless meanings None (is_session_named key world.hubs)
       (λ unnamed. ends key None now world))
 
-  pub releases : (number : ℕ) (hub : Hub P) (now : ℕ) (world : World P C) → value_at world.hubs number ≡ Some hub
+  pub releases : (number : ℕ) (hub : HubState P) (now : ℕ) (world : World P C) → value_at world.hubs number ≡ Some hub
       → Sends meanings None world (hub_changed number (session_named None) ∷ []) (release_session number hub now world)
   releases number hub now world found = record {
     changes = both (one (changes_hub world number hub (with_session hub None) (session_named None) found refl tt))
@@ -425,7 +431,7 @@ module _ {P C : Type 0} (meanings : C → Meanings) where
         (record world { hubs = replace_at world.hubs number (with_session hub None) })).changes;
   }
 
-  pub replaces : (number : ℕ) (hub : Hub P) (now : ℕ) (start : SessionStart) (world : World P C)
+  pub replaces : (number : ℕ) (hub : HubState P) (now : ℕ) (start : SessionStart) (world : World P C)
       → value_at world.hubs number ≡ Some hub
       → Sends meanings None world (session_begun number start.session_id ∷ hub_changed number (session_named None)
       ∷ hub_changed number (session_named (Some (record {

@@ -2,8 +2,6 @@
 use Rattle.std.proofs.Common.{◌≡◌, ◌≢◌, ◌<◌, ◌≤◌, refl, ap, ◌∙◌, sym, subst, ℕ, ◌+◌, List, [], ◌∷◌, ◌++◌, Bool, true, false, cond, append_assoc, arith, ◌⊎◌, inl, inr}
 use Rattle.std.proofs.lemmas.Bool.Decides.{nat_tests}
 use Rattle.std.proofs.lemmas.List.{append-nil}
-use Rattle.std.specs.BTreeMap.{is_at}
-use Rattle.std.specs.Ordering.{nat_cmp}
 use Rattle.std.specs.Prelude.{Option, Some, None, Result, Ok, Err, if◌then◌else◌, ◌==◌, ◌&&◌, ◌||◌, not, is_some}
 use Rattle.std.specs.List.{list_any, AllByRecursion}
 use Rattle.std.specs.Option.{option_map, option_to_list}
@@ -22,7 +20,7 @@ use Rattle.sentry_batches.specs.Batches.{BatchEntry, cut, batches, items_of, que
 use Rattle.sentry_batches.proofs.BatchLemmas.{batches_sized, batches_joined}
 use Rattle.sentry_client_reports.specs.LossBooks.{LossEntry, report_point}
 use Rattle.sentry_state.specs.declared.state.Out.{Out}
-use Rattle.sentry_state.specs.declared.state.Client.{Client}
+use Rattle.sentry_state.specs.declared.state.ClientState.{ClientState}
 use Rattle.sentry_state.specs.Worlds.{World, ClientHistory, QueueHistories, stored_client, span_table, starting_world}
 use Rattle.sentry_state.specs.Outcomes.{Outcome, IsAnswer, require, require_some, client_at, stored_client_at}
 use Rattle.sentry_state.specs.Clients.{queues_from, clone_from, is_client_named, has_session_of}
@@ -44,38 +42,17 @@ use Rattle.sentry_calls.specs.Runs.{StepsTo, Run}
 use Rattle.sentry_calls.specs.Steps.{step, client_step, needs}
 use Rattle.sentry_laws.proofs.Effects.{Effect, effects}
 use Rattle.sentry_laws.proofs.Changes.{Change, Changes, nothing, one, both, is_batch_or_report, after_arrival, envelopes_on_arrival, Arrival, log_came, metric_came, session_ended, flush_came, makes_hub, makes_hub_from, changes_hub, leaves_hub, notes_event_id, releases_hub, adds_client, clones_client, drops_client, arrives, accepts, accepts_none, mails, loses, takes_report, absorbs, starts_none, starts_session, changes_session, ends_session, starts_transaction, starts_span, changes_spans}
-use Rattle.sentry_laws.specs.SentItems.{handed_in, batches_among, batches_for, batches_by, batches_sent, SendsAccepted, AreSent, IsSentBy, SendsAtEachCall}
+use Rattle.sentry_laws.specs.SentItems.{handed_in, batches_among, batches_for, batches_by, batches_sent, SendsAccepted, AreSent, what_waits, IsSentBy, SendsAtEachCall}
+use Rattle.sentry_laws.specs.Closed.{closes, HasNothingWaiting}
+use Rattle.sentry_laws.proofs.Closings.{IsClosedBy, closed_next, none_closed}
 use Rattle.sentry_laws.proofs.Dropping.{Drops, is_dropped, own_dropped, call_drops, held_changes}
 use Rattle.sentry_laws.proofs.Keeping.{trail_of}
 use Rattle.sentry_laws.proofs.Numbered.{IsNumbered, numbered_changes, none_numbered}
 use Rattle.sentry_laws.proofs.Tables.{AreBelow, below_put, below_replaced, below_without, others_put}
-use Rattle.sentry_laws.proofs.Found.{same_number, found_put, found_replaced, found_without}
+use Rattle.sentry_laws.proofs.Found.{same_number, found_put, found_replaced, found_without, found_below}
 use Rattle.sentry_laws.proofs.Trails.{found_under, Trail, TellsBy}
 use Rattle.sentry_laws.proofs.Calls.{told_step}
-
--- a number that is found is below the next one
-found-at : {X : Type 0} (b : Bool) (n next : ℕ) (e : ℕ × X) (o : Option X) (x : X) → is_at (nat_cmp n) e.0 ≡ b
-    → e.0 < next → (o ≡ Some x → n < next) → cond b (Some e.1) o ≡ Some x → n < next
-found-at true n next e o x q h rest found = grind (arith, nat_tests)
-found-at false n next e o x q h rest found = rest found
-
-pub found_below : {X : Type 0} (low next n : ℕ) (m : List (ℕ × X)) (x : X) → AreBelow low next m → value_at m n ≡ Some x
-    → n < next
-found_below low next n [] x b found = absurd cc
-found_below low next n (e ∷ es) x b found = found-at (is_at (nat_cmp n) e.0) n next e (value_at es n) x refl b.1
-    (found_below (e.0 + 1) next n es x b.2) found
-
-or_left : (a b : Bool) → (a || b) ≡ false → a ≡ false
-or_left true b h = h
-or_left false b h = refl
-
-or_right : (a b : Bool) → (a || b) ≡ false → b ≡ false
-or_right true b h = absurd cc
-or_right false b h = h
-
-and_left : (a b : Bool) → (a && b) ≡ true → a ≡ true
-and_left true b h = refl
-and_left false b h = h
+use Rattle.sentry_laws.proofs.Tests.{or_left, or_right, and_left}
 
 unequal : (n k : ℕ) → n ≢ k → (n == k) ≡ false
 unequal n k h = grind (arith, nat_tests)
@@ -388,7 +365,7 @@ module _ {T : Type 0} (batch_in : EnvelopeItem → Option (List T)) where
             (with_client_history world key (after_arrival arrival client))).sent) is_off
             ∙ from_slot n key client.occupied (n == key.number) refl (pending_report world client.label)
             (envelopes_on_arrival arrival client)) h)
-        holds_change f (accepts world key client arrival is_log is_off found open_ came) total h =
+        holds_change f (accepts world key client arrival kind is_off found open_ came) total h =
             sending_holds _ client.label _ _ (arrived_holds total _ world key client arrival found open_
             (λ n. ap (λ (b : Option Envelope). batches_by batch_in b n
             (send key client (envelopes_on_arrival arrival client)
@@ -405,7 +382,7 @@ module _ {T : Type 0} (batch_in : EnvelopeItem → Option (List T)) where
         holds_change f (absorbs world label losses has) total h =
             none_holds f total _ (record { sent = h.sent; open_slot = h.open_slot; fresh = h.fresh; clients = h.clients })
         holds_change f (starts_none world number id) total h = none_holds f total _ h
-        holds_change f (accepts_none world is_log) total h = none_holds f total _ h
+        holds_change f (accepts_none world kind) total h = none_holds f total _ h
         holds_change f (starts_session world number start) total h =
             none_holds f total _ (record { sent = h.sent; open_slot = h.open_slot; fresh = h.fresh; clients = h.clients })
         holds_change f (changes_session world number old new later found same) total h =
@@ -591,7 +568,7 @@ module _ {T : Type 0} (batch_in : EnvelopeItem → Option (List T)) where
             (with_client_history world key (after_arrival arrival client))).sent) is_off
             ∙ from_slot n key client.occupied (n == key.number) refl (pending_report world client.label)
             (envelopes_on_arrival arrival client)) i)
-        in_call_change f (accepts world key client arrival is_log is_off found open_ came) n total i =
+        in_call_change f (accepts world key client arrival kind is_off found open_ came) n total i =
             in_call_sending n _ client.label _ _ (in_call_arrived n total _ world key client arrival found open_
             (ap (λ (b : Option Envelope). batches_by batch_in b n
             (send key client (envelopes_on_arrival arrival client)
@@ -609,7 +586,7 @@ module _ {T : Type 0} (batch_in : EnvelopeItem → Option (List T)) where
         in_call_change f (absorbs world label losses has) n total i =
             padded f n total _ (record { so_far = i.so_far; given = i.given; clients = i.clients })
         in_call_change f (starts_none world number id) n total i = padded f n total _ i
-        in_call_change f (accepts_none world is_log) n total i = padded f n total _ i
+        in_call_change f (accepts_none world kind) n total i = padded f n total _ i
         in_call_change f (starts_session world number start) n total i =
             padded f n total _ (record { so_far = i.so_far; given = i.given; clients = i.clients })
         in_call_change f (changes_session world number old new later found same) n total i =
@@ -652,7 +629,9 @@ module _ {T : Type 0} (batch_in : EnvelopeItem → Option (List T)) where
         -- ---- the drop of a client
 
         module _ (flushed_is : (client : ClientHistory C) → history (after_arrival (flush_came All) client).queues
-            ≡ cut ∷ history client.queues) where
+            ≡ cut ∷ history client.queues)
+            (empty_is : (client : ClientHistory C) → HasNothingWaiting client
+            → queued_items (limit_of client) (history client.queues) ≡ []) where
           required : {X Y : Type 0} (refusal : Refusal) (world : World P C) (o : Option X) (go : X → Outcome P C Y)
               (make : Y → Reply P C) (out : Out (Reply P C)) (Q : Type 0)
               → map_answer make (require_some refusal world o go).answer ≡ Ok out
@@ -671,7 +650,7 @@ module _ {T : Type 0} (batch_in : EnvelopeItem → Option (List T)) where
           sent_of (Ok out) = out.sent
           sent_of (Err refusal) = []
 
-          held_key : (key : ClientKey) (world : World P C) (o : Option (ClientHistory C)) (x : Client C)
+          held_key : (key : ClientKey) (world : World P C) (o : Option (ClientHistory C)) (x : ClientState C)
               → client_at world key ≡ o → option_map stored_client o ≡ Some x
               → (client : ClientHistory C) × (client_at world key ≡ Some client)
           held_key key world None x e f = absurd cc
@@ -731,10 +710,11 @@ module _ {T : Type 0} (batch_in : EnvelopeItem → Option (List T)) where
 
           sent_by_call : (call : Call P C) (out : Out (Reply P C)) (world next : World P C) (total : ℕ → List (List T))
               → StepsTo gives meanings world call (Ok out) next → IsNumbered world → Holds total world → (n : ℕ)
-              (client : ClientHistory C) → value_at world.clients n ≡ Some client → client.occupied ≡ true
-              → IsSentBy history (total n ++ batches_by batch_in (handed_in call) n out.sent) client
+              (closed : Bool) → IsClosedBy n closed next
+              → (client : ClientHistory C) → value_at world.clients n ≡ Some client → client.occupied ≡ true
+              → IsSentBy history closed (total n ++ batches_by batch_in (handed_in call) n out.sent) client
               (value_at next.clients n)
-          sent_by_call call out world next total may numbered h n client found occupied =
+          sent_by_call call out world next total may numbered h n closed shut client found occupied =
               by_held (value_at next.clients n) refl
             where
               trail : Trail meanings (handed_in call) world (effects meanings call out.reply) out.sent next
@@ -758,11 +738,18 @@ module _ {T : Type 0} (batch_in : EnvelopeItem → Option (List T)) where
                       dropped_is_sent total n key out world client own found occupied h answered
                   by_call call own answered = absurd own
 
+              -- of a closed client nothing waits
+              waits : (b : Bool) (c : ClientHistory C) → c.closed ≡ b → (c.closed ≡ true → HasNothingWaiting c)
+                  → what_waits history b c ≡ queued_items (limit_of c) (history c.queues)
+              waits true c is none = sym (empty_is c (none is))
+              waits false c is none = refl
+
               by_held : (o : Option (ClientHistory C)) → value_at next.clients n ≡ o
-                  → IsSentBy history (total n ++ batches_by batch_in (handed_in call) n out.sent) client o
+                  → IsSentBy history closed (total n ++ batches_by batch_in (handed_in call) n out.sent) client o
               by_held (Some c) at =
-                  let same = (after_.so_far c at).0 in (
-                    ap (λ some. items_of some ++ queued_items (limit_of c) (history c.queues)) same
+                  let same = (after_.so_far c at).0 in
+                  let is = shut.so_far c at in (
+                    (λ i. items_of (same i) ++ waits closed c is.0 is.1 i)
                         ∙ batches_joined (limit_of c) (history c.queues),
                     subst (AllByRecursion (IsBatch (limit_of c))) (sym same)
                         (batches_sized (limit_of c) (history c.queues)),
@@ -780,26 +767,28 @@ module _ {T : Type 0} (batch_in : EnvelopeItem → Option (List T)) where
                       absurd (none (held_changes n meanings trail.changes numbered e (ap is_some found)))
 
           sends_run : (calls : List (Call P C)) (answers : List (Result (Out (Reply P C)) Refusal))
-              (world last : World P C) (run : Run gives meanings world calls answers last) (n : ℕ)
-              (total : ℕ → List (List T)) → IsNumbered world → Holds total world
-              → SendsAtEachCall batch_in history gives meanings n (total n) world calls answers last run
-          sends_run [] answers world last run n total m h = tt
-          sends_run (call ∷ calls) [] world last run n total m h = tt
-          sends_run (call ∷ calls) (Err refusal ∷ answers) world last run n total m h =
-              sends_run calls answers run.0 last run.2 n total (subst IsNumbered (sym run.1.1) m)
-              (subst (Holds total) (sym run.1.1) h)
-          sends_run (call ∷ calls) (Ok out ∷ answers) world last run n total m h = (
-            λ client found occupied. sent_by_call call out world run.0 total run.1 m h n client found occupied,
-            sends_run calls answers run.0 last run.2 n
-                (λ k. total k ++ batches_by batch_in (handed_in call) k out.sent)
-                (numbered_changes meanings (trail_of gives meanings call out world run.0 run.1).changes m)
-                (holds_next call out world run.0 total run.1 h),
-          )
+              (world last : World P C) (run : Run gives meanings world calls answers last) (n : ℕ) (closed : Bool)
+              (total : ℕ → List (List T)) → IsNumbered world → Holds total world → IsClosedBy n closed world
+              → SendsAtEachCall batch_in history gives meanings n closed (total n) world calls answers last run
+          sends_run [] answers world last run n closed total m h k = tt
+          sends_run (call ∷ calls) [] world last run n closed total m h k = tt
+          sends_run (call ∷ calls) (Err refusal ∷ answers) world last run n closed total m h k =
+              sends_run calls answers run.0 last run.2 n closed total (subst IsNumbered (sym run.1.1) m)
+              (subst (Holds total) (sym run.1.1) h) (subst (IsClosedBy n closed) (sym run.1.1) k)
+          sends_run (call ∷ calls) (Ok out ∷ answers) world last run n closed total m h k =
+              let shut = closed_next gives meanings call out world run.0 run.1 m n closed k in (
+                λ client found occupied. sent_by_call call out world run.0 total run.1 m h n (closed || closes n call) shut
+                    client found occupied,
+                sends_run calls answers run.0 last run.2 n (closed || closes n call)
+                    (λ k. total k ++ batches_by batch_in (handed_in call) k out.sent)
+                    (numbered_changes meanings (trail_of gives meanings call out world run.0 run.1).changes m)
+                    (holds_next call out world run.0 total run.1 h) shut,
+              )
 
           pub sends_at_each_call : (tag start : ℕ) (calls : List (Call P C))
               (answers : List (Result (Out (Reply P C)) Refusal)) (last : World P C)
               (run : Run gives meanings (starting_world tag start) calls answers last) (n : ℕ)
-              → SendsAtEachCall batch_in history gives meanings n [] (starting_world tag start) calls answers last run
+              → SendsAtEachCall batch_in history gives meanings n false [] (starting_world tag start) calls answers last run
           sends_at_each_call tag start calls answers last run n =
-              sends_run calls answers (starting_world tag start) last run n (λ k. []) (none_numbered tag start)
-              (holds_first tag start)
+              sends_run calls answers (starting_world tag start) last run n false (λ k. []) (none_numbered tag start)
+              (holds_first tag start) (none_closed tag start n)

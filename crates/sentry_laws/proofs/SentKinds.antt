@@ -171,11 +171,11 @@ module _ {P C : Type 0} (gives : P → Partial) (meanings : C → Meanings) wher
       (run : Run gives meanings (starting_world tag start) calls answers last)
       → SendsLogsAtEachCall gives meanings (starting_world tag start) calls answers last run
   sends_logs_at_each_call = sends_at_each_call log_batch log_is (λ report. refl) (λ queues. queues.logs) (λ now. refl)
-      logs_on gives meanings (λ client. refl)
+      logs_on gives meanings (λ client. refl) (λ client none. none.0)
 
   pub sends_metrics_at_each_call : (tag start : ℕ) (calls : List (Call P C))
       (answers : List (Result (Out (Reply P C)) Refusal)) (last : World P C)
       (run : Run gives meanings (starting_world tag start) calls answers last)
       → SendsMetricsAtEachCall gives meanings (starting_world tag start) calls answers last run
   sends_metrics_at_each_call = sends_at_each_call metric_batch metric_is (λ report. refl) (λ queues. queues.metrics)
-      (λ now. refl) metrics_on gives meanings (λ client. refl)
+      (λ now. refl) metrics_on gives meanings (λ client. refl) (λ client none. none.1)

@@ -19,19 +19,18 @@ use Rattle.sentry_scope.specs.declared.scope.stack.Stack.{Stack}
 use Rattle.sentry_scope.specs.declared.scope.stack.StackLayer.{StackLayer}
 use Rattle.sentry_scope.specs.Stacks.{pop, stack_of, stack_of_any}
 use Rattle.sentry_sessions.specs.Sessions.{SessionEntry}
-use Rattle.sentry_hub_table.specs.declared.hub.Hub.{Hub}
+use Rattle.sentry_hub_table.specs.declared.hub.HubState.{HubState}
 use Rattle.sentry_state.specs.declared.state.Out.{Out}
 use Rattle.sentry_state.specs.Worlds.{World, SessionHistory, starting_world}
 use Rattle.sentry_state.specs.Outcomes.{hub_at, session_at}
 use Rattle.sentry_state.specs.Changes.{with_client_history}
-use Rattle.sentry_sending.specs.Sending.{after_sending, send, send_nothing, reply_sending}
+use Rattle.sentry_sending.specs.Sending.{after_sending, send, send_nothing, reply_sending, end_session}
 use Rattle.sentry_calls.specs.declared.call.Call.{Call}
 use Rattle.sentry_calls.specs.declared.call.Call.TheVariants as group
 use Rattle.sentry_calls.specs.declared.call.hubs.HubCall.TheVariants.{EndSessionWithStatus}
 use Rattle.sentry_calls.specs.declared.call.Reply.{Reply}
 use Rattle.sentry_calls.specs.declared.call.Reply.TheVariants as reply
 use Rattle.sentry_calls.specs.Sessions as session_calls
-use Rattle.sentry_sending.specs.SessionEnds.{end_session}
 use Rattle.sentry_calls.specs.Runs.{StepsTo, Run}
 use Rattle.sentry_calls.specs.Steps.{step, hub_step}
 use Rattle.sentry_calls.specs.Replies.{map_answer}
@@ -109,7 +108,7 @@ module _ {P C : Type 0} where
   pub record Counts (world : World P C) : Type 0 where
     pub sessions : IsIncreasing 0 world.sessions
     pub hubs : AreBelow 0 world.next.hub world.hubs
-    pub given : (n : ℕ) (hub : Hub P) → value_at world.hubs n ≡ Some hub
+    pub given : (n : ℕ) (hub : HubState P) → value_at world.hubs n ≡ Some hub
         → AreGiven world.tag world.next.session hub.stack
 
   counts_sending : (label : Label) (sent : List (ClientKey × Envelope)) (world : World P C) → Counts world
@@ -117,18 +116,18 @@ module _ {P C : Type 0} where
   counts_sending label [] world c = c
   counts_sending label (first ∷ rest) world c = record { sessions = c.sessions; hubs = c.hubs; given = c.given }
 
-  counts_replaced : (world : World P C) (number : ℕ) (old new : Hub P) → value_at world.hubs number ≡ Some old
+  counts_replaced : (world : World P C) (number : ℕ) (old new : HubState P) → value_at world.hubs number ≡ Some old
       → AreGiven world.tag world.next.session new.stack → Counts world
       → Counts (record world { hubs = replace_at world.hubs number new })
   counts_replaced world number old new found g c = record {
     sessions = c.sessions;
     hubs = below_replaced 0 world.next.hub number new world.hubs c.hubs;
-    given = λ k hub at. all_by (λ (x : Hub P). AreGiven world.tag world.next.session x.stack) (k == number) new hub
+    given = λ k hub at. all_by (λ (x : HubState P). AreGiven world.tag world.next.session x.stack) (k == number) new hub
         (value_at world.hubs k) g (λ z zat. c.given k z zat) (sym (found_replaced world.hubs number k new old found)
         ∙ at);
   }
 
-  counts_made : (world : World P C) (new : Hub P) → AreGiven world.tag world.next.session new.stack → Counts world
+  counts_made : (world : World P C) (new : HubState P) → AreGiven world.tag world.next.session new.stack → Counts world
       → Counts (record world {
         next = record world.next { hub = world.next.hub + 1 };
         hubs =
@@ -137,7 +136,7 @@ module _ {P C : Type 0} where
   counts_made world new g c = record {
     sessions = c.sessions;
     hubs = below_put world.next.hub new world.hubs c.hubs;
-    given = λ k hub at. all_by (λ (x : Hub P). AreGiven world.tag world.next.session x.stack) (k == world.next.hub)
+    given = λ k hub at. all_by (λ (x : HubState P). AreGiven world.tag world.next.session x.stack) (k == world.next.hub)
         new hub (value_at world.hubs k) g (λ z zat. c.given k z zat) (sym (found_put world.hubs world.next.hub k new)
         ∙ at);
   }
@@ -213,7 +212,7 @@ module _ (number low : ℕ) (Holds : Option SessionHistory → Type 0)
       counts = record {
         sessions = w.counts.sessions;
         hubs = below_without 0 world.next.hub n world.hubs w.counts.hubs;
-        given = λ k hub at. all_without (λ (x : Hub P). AreGiven world.tag world.next.session x.stack) (k == n) hub
+        given = λ k hub at. all_without (λ (x : HubState P). AreGiven world.tag world.next.session x.stack) (k == n) hub
             (value_at world.hubs k) (λ z zat. w.counts.given k z zat)
             (sym (found_without 0 world.next.hub world.hubs n k w.counts.hubs) ∙ at);
       };
@@ -250,7 +249,7 @@ module _ (number low : ℕ) (Holds : Option SessionHistory → Type 0)
           given = w.given;
           holds = w.holds;
         })
-    watched_change (accepts world key client arrival is_log is_off found open_ came) w =
+    watched_change (accepts world key client arrival kind is_off found open_ came) w =
         watched_sending client.label (send key client (envelopes_on_arrival arrival client)
         (with_client_history world key (after_arrival arrival client))).sent
         (with_client_history world key (after_arrival arrival client))
@@ -288,7 +287,7 @@ module _ (number low : ℕ) (Holds : Option SessionHistory → Type 0)
           holds = w.holds;
         }
     watched_change (starts_none world number id) w = w
-    watched_change (accepts_none world is_log) w = w
+    watched_change (accepts_none world kind) w = w
     watched_change (starts_session world number start) w = record {
       counts = record {
         sessions = increasing_put 0 world.next.session (record { start = start; history = [] }) world.sessions
@@ -400,7 +399,7 @@ pub equal_tags : (a b : ℕ) → a ≡ b → (a == b) ≡ true
 equal_tags a b e = grind (arith, nat_tests)
 
 module _ {P C : Type 0} (gives : P → Partial) (meanings : C → Meanings) where
-  pub end_is : (key : HubKey) (status : SessionStatus) (now : ℕ) (world : World P C) (hub : Hub P) (session : SessionKey)
+  pub end_is : (key : HubKey) (status : SessionStatus) (now : ℕ) (world : World P C) (hub : HubState P) (session : SessionKey)
       → hub_at world key ≡ Some hub → hub.stack.top.session ≡ Some session
       → session_calls.end_session_with_status key status now world ≡ reply_sending tt
       (end_session session (Some status) now world)

@@ -22,7 +22,7 @@ use Rattle.sentry_calls.specs.declared.call.Reply.TheVariants as reply
 use Rattle.sentry_calls.specs.Runs.{Run}
 use Rattle.sentry_laws.specs.OwnCalls as shown
 use Rattle.sentry_laws.specs.OwnCalls.{IsIsolated, KeepsOptions}
-use Rattle.sentry_laws.proofs.Effects.{Effect, LayerChange, scope_edited, breadcrumbs_came, client_bound, layer_pushed, layer_popped, session_named, client_added, client_cloned, hub_made, hub_made_from, hub_changed, hub_released, losses_absorbed, report_taken, session_begun, client_dropped, item_came, onto, on_client, on_hub, effects, client_effects, hub_effects, all_effects, options_after, layers_after, change_layers}
+use Rattle.sentry_laws.proofs.Effects.{Effect, LayerChange, scope_edited, breadcrumbs_came, client_bound, layer_pushed, layer_popped, session_named, client_added, client_cloned, hub_made, hub_made_from, hub_changed, hub_released, losses_absorbed, report_taken, session_begun, client_dropped, came_to_queues, onto, on_client, on_hub, effects, client_effects, hub_effects, all_effects, options_after, layers_after, change_layers}
 use Rattle.sentry_laws.proofs.Isolation.{isolated_by_effects, options_by_effects}
 
 module _ {P C : Type 0} where
@@ -44,7 +44,7 @@ module _ {P C : Type 0} where
   shown_before (report_taken label report) rest = rest
   shown_before (session_begun number id) rest = rest
   shown_before (client_dropped number) rest = rest
-  shown_before (item_came is_log) rest = rest
+  shown_before (came_to_queues kind) rest = rest
 
   abbrev shown_effects : List (Effect P C) → List (shown.Effect P C)
   shown_effects [] = []
@@ -77,7 +77,7 @@ module _ {P C : Type 0} where
   same_options (report_taken label report ∷ rest) key = same_options rest key
   same_options (session_begun number id ∷ rest) key = same_options rest key
   same_options (client_dropped number ∷ rest) key = same_options rest key
-  same_options (item_came is_log ∷ rest) key = same_options rest key
+  same_options (came_to_queues kind ∷ rest) key = same_options rest key
 
   -- ---- effects one after another
 
@@ -98,7 +98,7 @@ module _ {P C : Type 0} where
   before_onto (report_taken label report) rest earlier = refl
   before_onto (session_begun number id) rest earlier = refl
   before_onto (client_dropped number) rest earlier = refl
-  before_onto (item_came is_log) rest earlier = refl
+  before_onto (came_to_queues kind) rest earlier = refl
 
   onto_shown : (some earlier : List (Effect P C))
       → shown_effects (onto some earlier) ≡ shown.onto (shown_effects some) (shown_effects earlier)
@@ -123,7 +123,7 @@ module _ {P C : Type 0} where
   plain_before (report_taken label report) rest earlier p e = (p, e)
   plain_before (session_begun number id) rest earlier p e = (p, e)
   plain_before (client_dropped number) rest earlier p e = (p, e)
-  plain_before (item_came is_log) rest earlier p e = (p, e)
+  plain_before (came_to_queues kind) rest earlier p e = (p, e)
 
   onto_plain : (some earlier : List (Effect P C)) → IsPlain some → IsPlain earlier → IsPlain (onto some earlier)
   onto_plain [] earlier p e = e
@@ -185,7 +185,7 @@ module _ {P C : Type 0} (meanings : C → Meanings) where
   same_layers (report_taken label report ∷ rest) p number = same_layers rest p number
   same_layers (session_begun id begun ∷ rest) p number = same_layers rest p number
   same_layers (client_dropped dropped ∷ rest) p number = same_layers rest p number
-  same_layers (item_came is_log ∷ rest) p number = same_layers rest p number
+  same_layers (came_to_queues kind ∷ rest) p number = same_layers rest p number
 
   -- ---- calls
 

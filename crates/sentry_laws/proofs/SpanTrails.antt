@@ -1,5 +1,5 @@
 -- The calls on transactions and spans, as changes.
-use Rattle.std.proofs.Common.{◌≡◌, refl, ◌∙◌, subst, ℕ, List, [], ◌∷◌, ◌++◌, Bool, true, false, inr}
+use Rattle.std.proofs.Common.{◌≡◌, refl, ap, ◌∙◌, sym, subst, ℕ, List, [], ◌∷◌, ◌++◌, Bool, true, false, inr}
 use Rattle.std.proofs.lemmas.List.{append-nil}
 use Rattle.std.specs.Prelude.{Option, Some, None, not, is_some}
 use Rattle.std.specs.List.{list_any}
@@ -23,7 +23,7 @@ use Rattle.sentry_base.specs.declared.protocol.span.Span.{Span}
 use Rattle.sentry_client_reports.specs.LossBooks.{LossEntry, engine_losses, report_point, report_items, report_of, pending_losses}
 use Rattle.sentry_options.specs.Meanings.{Meanings}
 use Rattle.sentry_sending.specs.Sending.{envelopes_from, after_sending}
-use Rattle.sentry_span_table.specs.SpanLists.{TransactionHistory, stored_transaction, fate_of, with_span_finished}
+use Rattle.sentry_span_table.specs.SpanLists.{TransactionHistory, kept_spans, spans_left, stored_transaction, fate_of, with_span_finished}
 use Rattle.sentry_span_table.specs.SpanTables.{has_span_of, place_in}
 use Rattle.sentry_span_table.specs.declared.table.records.SpanFate.{SpanFate}
 use Rattle.sentry_span_table.specs.declared.table.records.SpanFate.TheVariants.{Kept, Lost, Gone}
@@ -31,18 +31,19 @@ use Rattle.sentry_span_table.specs.declared.table.records.SpanRecord.{SpanRecord
 use Rattle.sentry_span_table.specs.declared.table.records.TracingState.{TracingState}
 use Rattle.sentry_span_table.specs.declared.table.records.TracingState.TheVariants.{Enabled, Disabled}
 use Rattle.sentry_span_table.specs.declared.table.records.TransactionRecord.{TransactionRecord}
+use Rattle.sentry_span_table.specs.declared.table.records.Unfinished.{Unfinished}
 use Rattle.sentry_calls.specs.SpanCalls.{span_step}
 use Rattle.sentry_calls.specs.declared.call.spans.records.SpanCall.{SpanCall}
 use Rattle.sentry_calls.specs.declared.call.spans.records.SpanCall.TheVariants as on_span
 use Rattle.sentry_calls.specs.declared.call.spans.records.SpanReply.TheVariants as reply
-use Rattle.sentry_span_edits.specs.Discards.{discard, is_active_on}
+use Rattle.sentry_spans.specs.Discards.{discard, is_active_on}
 use Rattle.sentry_span_edits.specs.Edits.{edit_context, edit_span, edit_span_record, edit_transaction}
 use Rattle.sentry_span_edits.specs.Reads.{read, get_status, read_data, is_sampled, get_span_id, get_trace_context, iter_headers}
 use Rattle.sentry_span_edits.specs.Setters.{change, with_edited, with_found_edited}
 use Rattle.sentry_span_edits.specs.declared.edit.SpanEdit.{SpanEdit}
 use Rattle.sentry_span_edits.specs.declared.edit.SpanEdit.TheVariants as edit_by
 use Rattle.sentry_spans.specs.Spans.{started_transaction, start_transaction_with_timestamp, start_child_with_details, continue_from_span, child_of, finish_span, finish_transaction, is_transaction_number_left, is_span_number_left, by_tracing, with_client_loss, with_loss_of, with_fate, with_span_in}
-use Rattle.sentry_state.specs.declared.state.Client.{Client}
+use Rattle.sentry_state.specs.declared.state.ClientState.{ClientState}
 use Rattle.sentry_state.specs.Books.{with_entry}
 use Rattle.sentry_state.specs.Outcomes.{Outcome, client_at, hub_at, stored_client_at, stored_transaction_at, span_at, transaction_at}
 use Rattle.sentry_state.specs.SpanChanges.{finished_transaction, finished_span, next_span_key, next_transaction_key, with_transaction_finished, with_found_finished, with_span, with_transaction}
@@ -50,7 +51,7 @@ use Rattle.sentry_state.specs.Worlds.{World, ClientHistory, stored_client, span_
 use Rattle.sentry_trace.specs.declared.performance.context.TransactionContext.{TransactionContext}
 use Rattle.sentry_calls.specs.Hubs.{with_renames}
 use Rattle.sentry_laws.proofs.Effects.{Effect}
-use Rattle.sentry_laws.proofs.Changes.{Changes, nothing, one, both, is_batch_or_report, AreOfHeld, mails, loses, starts_transaction, starts_span, changes_spans, changes_transaction, changes_span, keeps_span, drops_transaction, drops_span}
+use Rattle.sentry_laws.proofs.Changes.{Changes, nothing, one, both, is_batch_or_report, AreOfHeld, AreOfTransactions, mails, loses, starts_transaction, starts_span, changes_spans, changes_transaction, changes_span, keeps_span, drops_transaction, drops_span}
 use Rattle.sentry_laws.proofs.Tables.{own_replaced}
 use Rattle.sentry_laws.proofs.Trails.{found_under, Told, told_trail, told_nothing, told_some, told_let, told_let_client, told_require, told_if, told_mapped}
 
@@ -84,7 +85,7 @@ from_stored : (o : Option TransactionHistory) (held : TransactionRecord) → opt
 from_stored None held e = absurd cc
 from_stored (Some state) held e = (state, refl)
 
-started_new : {C : Type 0} (meanings : C → Meanings) (name : Option ClientKey) (client : Option (Client C))
+started_new : {C : Type 0} (meanings : C → Meanings) (name : Option ClientKey) (client : Option (ClientState C))
     (context : TransactionContext) (start : ℕ) (fresh : Fresh)
     → (started_transaction meanings name client context start fresh).finished ≡ []
 started_new meanings (Some key) (Some client) context start fresh = refl
@@ -173,7 +174,8 @@ module _ {P C : Type 0} (meanings : C → Meanings) where
   -- an envelope of a client leaves its slot, if that is occupied
   mails_from : (b : Bool) (world middle : World P C) (key : ClientKey) (client : ClientHistory C) (envelope : Envelope)
       → middle.books ≡ world.books → client_at middle key ≡ Some client
-      → client.occupied ≡ b → list_any is_batch_or_report envelope.items ≡ false → AreOfHeld middle envelope.items
+      → client.occupied ≡ b → list_any is_batch_or_report envelope.items ≡ false
+      → AreOfHeld middle envelope.items × AreOfTransactions middle envelope.header envelope.items
       → Changes meanings None middle [] (envelopes_from b key (report_in world.books client.label) (envelope ∷ []))
       (after_sending client.label (envelopes_from b key (report_in world.books client.label) (envelope ∷ [])) middle)
   mails_from true world middle key client envelope same found occupied plain told_ =
@@ -181,6 +183,35 @@ module _ {P C : Type 0} (meanings : C → Meanings) where
       (envelope ∷ [])) (with_entry middle client.label report_point)) same
       (one (mails middle key client envelope found occupied (inr (refl, plain)) (λ none. told_)))
   mails_from false world middle key client envelope same found occupied plain told_ = nothing middle
+
+  -- the spans of a transaction that was unfinished, and its trace id, where it finished
+  finished_found : (key : TransactionKey) (held : TransactionRecord) (unfinished : Unfinished) (world : World P C)
+      → stored_transaction_at world key ≡ Some held → held.unfinished ≡ Some unfinished
+      → (number : ℕ) × (state : TransactionHistory)
+      × (value_at (with_transaction_finished key world).transactions number ≡ Some state)
+      × (Some held.context.trace_id ≡ Some state.context.trace_id)
+      × (held.spans ≡ kept_spans state.tracing state.max_spans state.finished)
+  finished_found key held unfinished world found is = by_state (transaction_at world key) refl found
+    where
+      by_state : (o : Option TransactionHistory) → transaction_at world key ≡ o → option_map stored_transaction o
+          ≡ Some held
+          → (number : ℕ) × (state : TransactionHistory)
+          × (value_at (with_transaction_finished key world).transactions number ≡ Some state)
+          × (Some held.context.trace_id ≡ Some state.context.trace_id)
+          × (held.spans ≡ kept_spans state.tracing state.max_spans state.finished)
+      by_state None at e = absurd cc
+      by_state (Some state) at e =
+          let same : stored_transaction state ≡ held = cc in
+          let here = found_under world.tag world.transactions key.tag key.number state at in
+          let kept = kept_spans state.tracing state.max_spans state.finished in (
+            key.number,
+            finished_transaction state,
+            ap (λ o. value_at (with_found_finished key.number o world).transactions key.number) at
+                ∙ own_replaced world.transactions key.number (finished_transaction state) state here,
+            ap (λ (h : TransactionRecord). Some h.context.trace_id) (sym same),
+            ap (λ (h : TransactionRecord). h.spans) (sym same)
+                ∙ ap (λ u. spans_left u kept) (ap (λ (h : TransactionRecord). h.unfinished) same ∙ is),
+          )
 
   -- ---- calls
 
@@ -261,7 +292,8 @@ module _ {P C : Type 0} (meanings : C → Meanings) where
       told_trail meanings None tt (both (closes key world)
       (mails_from client.occupied world (with_transaction_finished key world) unfinished.client client _
       (closed_books key.number (transaction_at world key) world)
-      (closed_client key.number (transaction_at world key) world unfinished.client ∙ client_found) refl refl (tt, tt)))
+      (closed_client key.number (transaction_at world key) world unfinished.client ∙ client_found) refl refl
+      ((tt, tt), (finished_found key held unfinished world found is, tt))))
       refl refl)))))
 
   told_discard : (name : TransactionOrSpanKey) (world : World P C) → Silent world (discard name world)

@@ -20,16 +20,13 @@ use Rattle.sentry_sending.specs.Sending.{for_client, envelopes_from}
 use Rattle.sentry_telemetry.specs.Flushes.{batch_envelopes, session_envelopes, is_flushed, flushed_logs, flushed_metrics}
 use Rattle.sentry_telemetry.specs.declared.flushes.TheConstants.{SESSION_INTERVAL}
 use Rattle.sentry_state.specs.Worlds.{ClientHistory}
+use Rattle.sentry_laws.specs.Statuses.{Among}
 use Rattle.sentry_laws.specs.Updates.{update_in, updates_among, updates_in, all_queued}
 use Rattle.sentry_laws.proofs.Changes.{Arrival, log_came, metric_came, session_ended, flush_came, envelopes_on_arrival}
 
 -- ---- membership
 
 module _ {X : Type 0} where
-  abbrev pub Among : X → List X → Type 0
-  Among x [] = ⊥
-  Among x (y ∷ ys) = (x ≡ y) ⊎ Among x ys
-
   pub among_append : (x : X) (xs ys : List X) → Among x (xs ++ ys) → Among x xs ⊎ Among x ys
   among_append x [] ys h = inr h
   among_append x (first ∷ xs) ys (inl e) = inl (inl e)

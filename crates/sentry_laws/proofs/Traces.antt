@@ -48,7 +48,7 @@ use Rattle.sentry_laws.proofs.Trails.{found_under}
 -- ---- lists of spans
 
 -- all these spans have the trace id
-abbrev AreIn : TraceId → List Span → Type 0
+abbrev pub AreIn : TraceId → List Span → Type 0
 AreIn trace_id spans = AllByRecursion (λ (span : Span). span.trace_id ≡ trace_id) spans
 
 in_taken : (trace_id : TraceId) (n : ℕ) (spans : List Span) → AreIn trace_id spans → AreIn trace_id (take n spans)
@@ -56,7 +56,7 @@ in_taken trace_id zero spans h = tt
 in_taken trace_id (suc n) [] h = tt
 in_taken trace_id (suc n) (first ∷ rest) h = (h.0, in_taken trace_id n rest h.1)
 
-in_kept : (trace_id : TraceId) (tracing : TracingState) (n : ℕ) (spans : List Span) → AreIn trace_id spans
+pub in_kept : (trace_id : TraceId) (tracing : TracingState) (n : ℕ) (spans : List Span) → AreIn trace_id spans
     → AreIn trace_id (kept_spans tracing n spans)
 in_kept trace_id (Enabled sampled rate) n spans h = in_taken trace_id n spans h
 in_kept trace_id (Disabled decision) n spans h = tt
@@ -111,15 +111,15 @@ in_finished trace_id span state h k = by_open (is_some state.unfinished)
 
 module _ {P C : Type 0} where
   -- the transaction of the span is held, and has its trace id
-  abbrev Belongs : World P C → SpanRecord → Type 0
+  abbrev pub Belongs : World P C → SpanRecord → Type 0
   Belongs world held = (state : TransactionHistory) × (transaction_at world held.transaction ≡ Some state)
       × (held.span.trace_id ≡ state.context.trace_id)
 
-  record IsTraced (world : World P C) : Type 0 where
-    numbers : IsNumbered world
-    kept : (n : ℕ) (state : TransactionHistory) → value_at world.transactions n ≡ Some state
+  pub record IsTraced (world : World P C) : Type 0 where
+    pub numbers : IsNumbered world
+    pub kept : (n : ℕ) (state : TransactionHistory) → value_at world.transactions n ≡ Some state
         → AreIn state.context.trace_id state.finished
-    held : (n : ℕ) (held : SpanRecord) → value_at world.spans n ≡ Some held → Belongs world held
+    pub held : (n : ℕ) (held : SpanRecord) → value_at world.spans n ≡ Some held → Belongs world held
 
   traced_sending : (label : Label) (sent : List (ClientKey × Envelope)) (world : World P C)
       → IsNumbered (after_sending label sent world) → IsTraced world → IsTraced (after_sending label sent world)
@@ -355,7 +355,7 @@ module _ {P C : Type 0} (meanings : C → Meanings) where
         held =
             t.held;
       })
-  traced_by (accepts world key client arrival is_log is_off found open_ came) n t =
+  traced_by (accepts world key client arrival kind is_off found open_ came) n t =
       traced_sending client.label (send key client (envelopes_on_arrival arrival client)
       (with_client_history world key (after_arrival arrival client))).sent
       (with_client_history world key (after_arrival arrival client)) n
@@ -371,7 +371,7 @@ module _ {P C : Type 0} (meanings : C → Meanings) where
   traced_by (takes_report world label has) n t = record { numbers = n; kept = t.kept; held = t.held }
   traced_by (absorbs world label losses has) n t = record { numbers = n; kept = t.kept; held = t.held }
   traced_by (starts_none world number id) n t = record { numbers = n; kept = t.kept; held = t.held }
-  traced_by (accepts_none world is_log) n t = record { numbers = n; kept = t.kept; held = t.held }
+  traced_by (accepts_none world kind) n t = record { numbers = n; kept = t.kept; held = t.held }
   traced_by (starts_session world number start) n t = record { numbers = n; kept = t.kept; held = t.held }
   traced_by (changes_session world number old new later found same) n t =
       record { numbers = n; kept = t.kept; held = t.held }
@@ -381,18 +381,21 @@ module _ {P C : Type 0} (meanings : C → Meanings) where
       span_traced world parent place held found of_ traced n t
   traced_by (changes_spans world transactions spans change) n t = traced_spans world transactions spans change n t
 
-  traced_change : {given : Option Envelope} {old new : World P C} {some : List (Effect P C)} {sent : List
+  pub traced_change : {given : Option Envelope} {old new : World P C} {some : List (Effect P C)} {sent : List
       (ClientKey × Envelope)} → Change meanings given old some sent new → IsTraced old → IsTraced new
   traced_change c t = traced_by c (numbered_change meanings c t.numbers) t
 
 module _ {P C : Type 0} (gives : P → Partial) (meanings : C → Meanings) where
+  pub none_traced : (tag start : ℕ) → IsTraced (starting_world {P = P} {C = C} tag start)
+  none_traced tag start =
+      record { numbers = none_numbered tag start; kept = λ n state at. absurd cc; held = λ n held at. absurd cc }
+
   traced_run : (tag start : ℕ) (calls : List (Call P C)) (answers : List (Result (Out (Reply P C)) Refusal))
       (last : World P C)
       → Run gives meanings (starting_world tag start) calls answers last → IsTraced last
   traced_run tag start calls answers last run =
       kept_by_run gives meanings IsTraced (λ given old new some sent c. traced_change meanings c) calls answers
-      (starting_world tag start) last run
-      (record { numbers = none_numbered tag start; kept = λ n state at. absurd cc; held = λ n held at. absurd cc })
+      (starting_world tag start) last run (none_traced tag start)
 
   pub kept_in_trace : (tag start : ℕ) (calls : List (Call P C)) (answers : List (Result (Out (Reply P C)) Refusal))
       (last : World P C)

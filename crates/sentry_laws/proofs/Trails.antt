@@ -9,7 +9,7 @@ use Rattle.sentry_base.specs.declared.protocol.envelope.Envelope.{Envelope}
 use Rattle.sentry_base.specs.declared.protocol.keys.ClientKey.{ClientKey}
 use Rattle.sentry_base.specs.declared.protocol.refusal.Refusal.{Refusal}
 use Rattle.sentry_options.specs.Meanings.{Meanings}
-use Rattle.sentry_state.specs.declared.state.Client.{Client}
+use Rattle.sentry_state.specs.declared.state.ClientState.{ClientState}
 use Rattle.sentry_state.specs.declared.state.Out.{Out}
 use Rattle.sentry_state.specs.Worlds.{World, ClientHistory, stored_client}
 use Rattle.sentry_state.specs.Outcomes.{Outcome, require_some, let_some, require, reply_with, value_under}
@@ -111,7 +111,7 @@ module _ {P C : Type 0} (meanings : C → Meanings) (given : Option Envelope) wh
     told_some refusal (Some x) h = h x refl
 
     -- a client as the engine keeps it
-    pub told_client : (refusal : Refusal) (o : Option (ClientHistory C)) (go : Client C → Outcome P C T)
+    pub told_client : (refusal : Refusal) (o : Option (ClientHistory C)) (go : ClientState C → Outcome P C T)
         → ((client : ClientHistory C) → o ≡ Some client → Told world own (go (stored_client client)))
         → Told world own (require_some refusal world (option_map stored_client o) go)
     told_client refusal None go h = record { tells = refl }
@@ -123,7 +123,7 @@ module _ {P C : Type 0} (meanings : C → Meanings) (given : Option Envelope) wh
     told_let None k h = k refl
     told_let (Some x) k h = h x refl
 
-    pub told_let_client : (o : Option (ClientHistory C)) (otherwise : Outcome P C T) (go : Client C → Outcome P C T)
+    pub told_let_client : (o : Option (ClientHistory C)) (otherwise : Outcome P C T) (go : ClientState C → Outcome P C T)
         → (o ≡ None → Told world own otherwise)
         → ((client : ClientHistory C) → o ≡ Some client → Told world own (go (stored_client client)))
         → Told world own (let_some (option_map stored_client o) otherwise go)

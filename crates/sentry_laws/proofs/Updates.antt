@@ -1,5 +1,5 @@
 -- Of the updates of one session, none that follows one with another status than `Ok` has another status.
-use Rattle.std.proofs.Common.{◌≡◌, ◌≢◌, refl, ap, ◌∙◌, sym, subst, ℕ, zero, suc, ◌+◌, List, [], ◌∷◌, ◌++◌, Bool, true, false, append_assoc, arith, drop, length, ◌⊎◌, inl, inr}
+use Rattle.std.proofs.Common.{◌≡◌, ◌≢◌, ◌≤◌, refl, ap, ◌∙◌, sym, subst, ℕ, zero, suc, ◌+◌, List, [], ◌∷◌, ◌++◌, Bool, true, false, append_assoc, arith, drop, length, ◌⊎◌, inl, inr}
 use Rattle.std.proofs.lemmas.List.{append-nil}
 use Rattle.std.proofs.lemmas.Bool.Decides.{nat_tests}
 use Rattle.std.specs.Prelude.{Option, Some, None, Result, Ok, Err, if◌then◌else◌, ◌==◌, ◌||◌, unwrap_or}
@@ -34,22 +34,23 @@ use Rattle.sentry_sending.specs.Sending.{after_sending, envelopes_from, send}
 use Rattle.sentry_calls.specs.declared.call.Call.{Call}
 use Rattle.sentry_calls.specs.declared.call.Call.TheVariants as group
 use Rattle.sentry_calls.specs.declared.call.clients.ClientCall.{ClientCall}
-use Rattle.sentry_calls.specs.declared.call.clients.ClientCall.TheVariants.{AddClient, Absorb, CloneClient, DropClient, TakeReport, ClientCaptureLog, ClientCaptureMetric}
+use Rattle.sentry_calls.specs.declared.call.clients.ClientCall.TheVariants.{AddClient, Absorb, Close, CloneClient, DropClient, TakeReport, ClientCaptureLog, ClientCaptureMetric}
 use Rattle.sentry_calls.specs.declared.call.hubs.HubCall.{HubCall}
 use Rattle.sentry_calls.specs.declared.call.hubs.HubCall.TheVariants.{NewHub, NewHubFromTop, ReleaseHub, Configure, AddBreadcrumbs, PushScope, PopScope, BindClient, StartSession, CaptureLog, CaptureMetric}
 use Rattle.sentry_calls.specs.declared.call.Reply.{Reply}
 use Rattle.sentry_calls.specs.declared.call.Reply.TheVariants as reply
 use Rattle.sentry_calls.specs.Runs.{StepsTo, Run}
 use Rattle.sentry_laws.specs.SentItems.{handed_in}
+use Rattle.sentry_laws.specs.Statuses.{Among, status_of, GoesOn}
 use Rattle.sentry_laws.specs.Updates.{updates_in, updates_sent, updates_among, all_queued, queued_at, queued_below, updates_told, StaysEnded, started_id, IsNotStarted, IsStartedOnce, StatusStays}
-use Rattle.sentry_laws.proofs.Effects.{Effect, scope_edited, breadcrumbs_came, client_bound, layer_pushed, layer_popped, session_named, hub_changed, hub_made, hub_made_from, hub_released, losses_absorbed, report_taken, session_begun, client_dropped, item_came, client_added, client_cloned, effects, client_effects, hub_effects}
-use Rattle.sentry_laws.proofs.Changes.{Change, Changes, nothing, one, both, IsOfHeld, AreOfHeld, IsArrival, IsItem, status_of, Arrival, log_came, metric_came, session_ended, flush_came, after_arrival, envelopes_on_arrival, makes_hub, makes_hub_from, changes_hub, leaves_hub, notes_event_id, releases_hub, adds_client, clones_client, drops_client, arrives, accepts, accepts_none, mails, loses, takes_report, absorbs, starts_none, starts_session, changes_session, ends_session, starts_transaction, starts_span, changes_spans}
+use Rattle.sentry_laws.proofs.Effects.{Came, Effect, scope_edited, breadcrumbs_came, client_bound, layer_pushed, layer_popped, session_named, hub_changed, hub_made, hub_made_from, hub_released, losses_absorbed, report_taken, session_begun, client_dropped, came_to_queues, client_added, client_cloned, effects, client_effects, hub_effects}
+use Rattle.sentry_laws.proofs.Changes.{Change, Changes, nothing, one, both, IsOfHeld, AreOfHeld, IsArrival, kind_of, Arrival, log_came, metric_came, session_ended, flush_came, after_arrival, envelopes_on_arrival, makes_hub, makes_hub_from, changes_hub, leaves_hub, notes_event_id, releases_hub, adds_client, clones_client, drops_client, arrives, accepts, accepts_none, mails, loses, takes_report, absorbs, starts_none, starts_session, changes_session, ends_session, starts_transaction, starts_span, changes_spans}
 use Rattle.sentry_laws.proofs.Found.{same_number, found_put, found_replaced, found_without}
 use Rattle.sentry_laws.proofs.Keeping.{trail_of}
 use Rattle.sentry_laws.proofs.Tests.{any_first, any_second}
 use Rattle.sentry_laws.proofs.Numbered.{IsNumbered, numbered_changes, none_numbered}
 use Rattle.sentry_laws.proofs.Trails.{found_under, own_effects}
-use Rattle.sentry_laws.proofs.ToldUpdates.{Among, among_append, among_dropped, among_reported, from_slot, ComesBy, sent_on_arrival}
+use Rattle.sentry_laws.proofs.ToldUpdates.{among_append, among_dropped, among_reported, from_slot, ComesBy, sent_on_arrival}
 
 -- ---- updates and sessions of one id
 
@@ -105,13 +106,35 @@ grown_status : (start : SessionStart) (history later : List SessionEntry)
 unfolding session_of
 grown_status start history later n = ended_status_stays_is start history later n
 
-module _ (id : List ℕ) {P C : Type 0} where
+module _ {P C : Type 0} where
   -- the update waits, or waited, in the queue of a client
-  abbrev IsQueued : World P C → SessionUpdate → Type 0
+  abbrev pub IsQueued : World P C → SessionUpdate → Type 0
   IsQueued world u =
       (number : ℕ) × (client : ClientHistory C) × (value_at world.clients number ≡ Some client)
       × Among u (all_queued client.queues.sessions)
 
+  -- a session with this id may have started
+  abbrev pub HasBegun : List (Effect P C) → List ℕ → Type 0
+  HasBegun [] id = ⊥
+  HasBegun (session_begun number other ∷ rest) id = (other ≡ id) ⊎ HasBegun rest id
+  HasBegun (_ ∷ rest) id = HasBegun rest id
+
+-- a session that is held was held before, and went on, or it has a new number, and has begun
+pub data IsFrom {P C : Type 0} (old : World P C) (some : List (Effect P C)) (number : ℕ) (session : SessionHistory)
+    : Type 0 where
+  went_on : (before : SessionHistory) → value_at old.sessions number ≡ Some before → GoesOn before session
+      → IsFrom old some number session
+  is_new : old.next.session ≤ number → HasBegun some session.start.session_id → IsFrom old some number session
+
+module _ {P C : Type 0} where
+  -- what a change does to sessions, and what updates it tells
+  pub record Step (old new : World P C) (some : List (Effect P C)) (sent : List SessionUpdate) : Type 0 where
+    pub later : old.next.session ≤ new.next.session
+    pub from : (n : ℕ) (s : SessionHistory) → value_at new.sessions n ≡ Some s → IsFrom old some n s
+    pub queued : (u : SessionUpdate) → IsQueued new u → IsQueued old u ⊎ (IsOfHeld old u × Ended u)
+    pub told : (u : SessionUpdate) → Among u sent → IsQueued old u ⊎ IsOfHeld old u
+
+module _ (id : List ℕ) {P C : Type 0} where
   -- it was handed out, or is in a queue
   abbrev WasTold : List SessionUpdate → World P C → SessionUpdate → Type 0
   WasTold told world u = Among u told ⊎ IsQueued world u
@@ -277,32 +300,44 @@ module _ {C : Type 0} where
       unflushed false history h = h
 
 -- a log or a metric is no update
-item_came_not : {A : Type 0} (arrival : Arrival) (is_log : Bool) (u : SessionUpdate) → IsItem is_log arrival
+came_not : {A : Type 0} (arrival : Arrival) (kind : Came) (u : SessionUpdate) → kind_of arrival ≡ Some kind
     → ComesBy u arrival → A
-item_came_not (log_came log) is_log u item comes = absurd comes
-item_came_not (metric_came metric) is_log u item comes = absurd comes
-item_came_not (flush_came flush) is_log u item comes = absurd comes
-item_came_not (session_ended update) true u item comes = absurd item
-item_came_not (session_ended update) false u item comes = absurd item
+came_not (log_came log) kind u item comes = absurd comes
+came_not (metric_came metric) kind u item comes = absurd comes
+came_not (flush_came flush) kind u item comes = absurd comes
+came_not (session_ended update) kind u item comes = absurd cc
 
 -- ---- one change
 
-module _ (id : List ℕ) {P C : Type 0} where
+pub same_from : {P C : Type 0} (old : World P C) (some : List (Effect P C)) (n : ℕ) (s : SessionHistory)
+    → value_at old.sessions n ≡ Some s → IsFrom old some n s
+same_from old some n s found = went_on s found (refl, λ ended. refl)
+
+pub no_earlier : (n : ℕ) → n ≤ n
+no_earlier n = omega arith
+
+pub none_told : {A : Type 0} (f : Option Envelope) (u : SessionUpdate) → Among u (updates_sent f []) → A
+none_told (Some given) u among = absurd among
+none_told None u among = absurd among
+
+module _ {P C : Type 0} where
   -- a step by which neither sessions nor queues change
-  silent : (old new : World P C) (sent : List SessionUpdate) → new.sessions ≡ old.sessions
-      → ((u : SessionUpdate) → IsQueued id new u → IsQueued id old u)
-      → ((u : SessionUpdate) → Among u sent → u.session_id ≡ id → IsQueued id old u ⊎ IsOfHeld old u)
-      → Tells id old new sent
-  silent old new sent sessions queues told = record {
-    kept = λ n s found same. (s, ap (λ t. value_at t n) (sym sessions) ∙ found, same, λ ended. refl);
-    queued = λ u queued is. inl (queues u queued);
+  silent : (old new : World P C) (some : List (Effect P C)) (sent : List SessionUpdate)
+      → new.sessions ≡ old.sessions → new.next.session ≡ old.next.session
+      → ((u : SessionUpdate) → IsQueued new u → IsQueued old u)
+      → ((u : SessionUpdate) → Among u sent → IsQueued old u ⊎ IsOfHeld old u) → Step old new some sent
+  silent old new some sent sessions next queues told = record {
+    later = omega (arith, next);
+    from = λ n s found. same_from old some n s (ap (λ t. value_at t n) (sym sessions) ∙ found);
+    queued = λ u queued. inl (queues u queued);
     told = told;
   }
 
-  quiet : (old new : World P C) (f : Option Envelope) → new.sessions ≡ old.sessions
-      → ((u : SessionUpdate) → IsQueued id new u → IsQueued id old u) → Tells id old new (updates_sent f [])
-  quiet old new (Some given) sessions queues = silent old new [] sessions queues (λ u among. absurd among)
-  quiet old new None sessions queues = silent old new [] sessions queues (λ u among. absurd among)
+  quiet : (old new : World P C) (some : List (Effect P C)) (f : Option Envelope) → new.sessions ≡ old.sessions
+      → new.next.session ≡ old.next.session → ((u : SessionUpdate) → IsQueued new u → IsQueued old u)
+      → Step old new some (updates_sent f [])
+  quiet old new some f sessions next queues = silent old new some (updates_sent f []) sessions next queues
+      (λ u among. none_told f u among)
 
   came_held : (world : World P C) (arrival : Arrival) (u : SessionUpdate) → IsArrival world arrival
       → ComesBy u arrival → IsOfHeld world u × (u.status ≢ session_status.Ok)
@@ -319,7 +354,7 @@ module _ (id : List ℕ) {P C : Type 0} where
     here = found_under world.tag world.clients key.tag key.number client found
 
     by_arrival : (u : SessionUpdate) → Among u (all_queued client.queues.sessions) ⊎ ComesBy u arrival
-        → IsQueued id world u ⊎ (IsOfHeld world u × (u.status ≢ session_status.Ok))
+        → IsQueued world u ⊎ (IsOfHeld world u × (u.status ≢ session_status.Ok))
     by_arrival u (inl queued) = inl (key.number, client, here, queued)
     by_arrival u (inr comes) = inr (came u comes)
 
@@ -327,36 +362,39 @@ module _ (id : List ℕ) {P C : Type 0} where
     queued_now : (u : SessionUpdate) (n : ℕ) (c : ClientHistory C) (b : Bool) → (n == key.number) ≡ b
         → (if b then Some (after_arrival arrival client) else value_at world.clients n) ≡ Some c
         → Among u (all_queued c.queues.sessions)
-        → IsQueued id world u ⊎ (IsOfHeld world u × (u.status ≢ session_status.Ok))
+        → IsQueued world u ⊎ (IsOfHeld world u × (u.status ≢ session_status.Ok))
     queued_now u n c true e at among =
         let is : after_arrival arrival client ≡ c = cc in
         by_arrival u (queued_after arrival client u
         (subst (λ (x : ClientHistory C). Among u (all_queued x.queues.sessions)) (sym is) among))
     queued_now u n c false e at among = inl (n, c, at, among)
 
-    arrival_tells : (f : Option Envelope) → f ≡ None → (report : Option ClientReport)
-        → Tells id world (with_client_history world key (after_arrival arrival client))
+    arrival_tells : (some : List (Effect P C)) (f : Option Envelope) → f ≡ None → (report : Option ClientReport)
+        → Step world (with_client_history world key (after_arrival arrival client)) some
         (updates_sent f (envelopes_from client.occupied key report (envelopes_on_arrival arrival client)))
-    arrival_tells (Some given) is_off report = absurd cc
-    arrival_tells None is_off report = record {
-      kept = λ n s at same. (s, at, same, λ ended. refl);
-      queued = λ u queued is.
+    arrival_tells some (Some given) is_off report = absurd cc
+    arrival_tells some None is_off report = record {
+      later = no_earlier world.next.session;
+      from = λ n s at. same_from world some n s at;
+      queued = λ u queued.
           queued_now u queued.0 queued.1 (queued.0 == key.number) refl
           (sym (found_replaced world.clients key.number queued.0 (after_arrival arrival client) client here)
           ∙ queued.2) queued.3;
-      told = λ u among is. by_place u (by_arrival u (sent_on_arrival arrival client u
+      told = λ u among. by_place u (by_arrival u (sent_on_arrival arrival client u
           (from_slot client.occupied key report (envelopes_on_arrival arrival client) u among)));
     }
       where
-        by_place : (u : SessionUpdate) → IsQueued id world u ⊎ (IsOfHeld world u × (u.status ≢ session_status.Ok))
-            → IsQueued id world u ⊎ IsOfHeld world u
+        by_place : (u : SessionUpdate) → IsQueued world u ⊎ (IsOfHeld world u × (u.status ≢ session_status.Ok))
+            → IsQueued world u ⊎ IsOfHeld world u
         by_place u (inl queued) = inl queued
         by_place u (inr now) = inr now.0
 
   sending_tells : (old world : World P C) (label : Label) (envelopes : List (ClientKey × Envelope))
-      (sent : List SessionUpdate) → Tells id old world sent → Tells id old (after_sending label envelopes world) sent
-  sending_tells old world label [] sent t = t
-  sending_tells old world label (first ∷ rest) sent t = record { kept = t.kept; queued = t.queued; told = t.told }
+      (some : List (Effect P C)) (sent : List SessionUpdate) → Step old world some sent
+      → Step old (after_sending label envelopes world) some sent
+  sending_tells old world label [] some sent t = t
+  sending_tells old world label (first ∷ rest) some sent t =
+      record { later = t.later; from = t.from; queued = t.queued; told = t.told }
 
   -- an update among the items of an envelope that leaves
   item_held : (world : World P C) (items : List EnvelopeItem) (u : SessionUpdate) → AreOfHeld world items
@@ -366,134 +404,155 @@ module _ (id : List ℕ) {P C : Type 0} where
   item_held world (item.SessionUpdate update ∷ rest) u h (inr among) = item_held world rest u h.1 among
   item_held world (_ ∷ rest) u h among = item_held world rest u h.1 among
 
-  mailed : (world new : World P C) (f : Option Envelope) (key : ClientKey) (report : Option ClientReport)
-      (envelope : Envelope) → new.sessions ≡ world.sessions → new.clients ≡ world.clients
+  mailed : (world new : World P C) (some : List (Effect P C)) (f : Option Envelope) (key : ClientKey)
+      (report : Option ClientReport) (envelope : Envelope) → new.sessions ≡ world.sessions
+      → new.next.session ≡ world.next.session → new.clients ≡ world.clients
       → (f ≡ None → AreOfHeld world envelope.items)
-      → Tells id world new (updates_sent f ((key, with_report report envelope) ∷ []))
-  mailed world new (Some given) key report envelope sessions clients held =
-      silent world new [] sessions
+      → Step world new some (updates_sent f ((key, with_report report envelope) ∷ []))
+  mailed world new some (Some given) key report envelope sessions next clients held =
+      silent world new some [] sessions next
       (λ u queued. (queued.0, queued.1, ap (λ t. value_at t queued.0) (sym clients) ∙ queued.2, queued.3))
       (λ u among. absurd among)
-  mailed world new None key report envelope sessions clients held =
-      silent world new (updates_in ((key, with_report report envelope) ∷ [])) sessions
+  mailed world new some None key report envelope sessions next clients held =
+      silent world new some (updates_in ((key, with_report report envelope) ∷ [])) sessions next
       (λ u queued. (queued.0, queued.1, ap (λ t. value_at t queued.0) (sym clients) ∙ queued.2, queued.3))
-      (λ u among is. inr (item_held world envelope.items u (held refl)
+      (λ u among. inr (item_held world envelope.items u (held refl)
       (subst (Among u) (append-nil (updates_among (with_report report envelope).items)
       ∙ among_reported report envelope) among)))
 
   -- a session that changes
   changed_tells : (world : World P C) (number : ℕ) (old new : SessionHistory) (later : List SessionEntry)
-      (f : Option Envelope) → value_at world.sessions number ≡ Some old
+      (some : List (Effect P C)) (f : Option Envelope) → value_at world.sessions number ≡ Some old
       → new ≡ record old { history = later ++ old.history }
-      → Tells id world (record world { sessions = replace_at world.sessions number new }) (updates_sent f [])
-  changed_tells world number old new later f found is = with_sent f
+      → Step world (record world { sessions = replace_at world.sessions number new }) some (updates_sent f [])
+  changed_tells world number old new later some f found is = record {
+    later = no_earlier world.next.session;
+    from = λ n s at. by_number n s (n == number) refl (sym (found_replaced world.sessions number n new old found) ∙ at);
+    queued = λ u queued. inl queued;
+    told = λ u among. none_told f u among;
+  }
     where
       by_number : (n : ℕ) (s : SessionHistory) (b : Bool) → (n == number) ≡ b
-          → (if b then Some new else value_at world.sessions n) ≡ Some s → s.start.session_id ≡ id
-          → (before : SessionHistory) × (value_at world.sessions n ≡ Some before) × (before.start.session_id ≡ id)
-          × (status_of before ≢ session_status.Ok → status_of s ≡ status_of before)
-      by_number n s true e at same =
+          → (if b then Some new else value_at world.sessions n) ≡ Some s → IsFrom world some n s
+      by_number n s true e at =
           let new_is : new ≡ s = cc in
-          let grown : s ≡ record old { history = later ++ old.history } = sym new_is ∙ is in (
-            old,
-            ap (value_at world.sessions) (same_number n number e) ∙ found,
-            sym (ap (λ (x : SessionHistory). x.start.session_id) grown) ∙ same,
+          let grown : s ≡ record old { history = later ++ old.history } = sym new_is ∙ is in
+          went_on old (ap (value_at world.sessions) (same_number n number e) ∙ found) (
+            ap (λ (x : SessionHistory). x.start) grown,
             λ ended. ap status_of grown ∙ grown_status old.start old.history later ended,
           )
-      by_number n s false e at same = (s, at, same, λ ended. refl)
-
-      kept_ : (n : ℕ) (s : SessionHistory) → value_at (replace_at world.sessions number new) n ≡ Some s
-          → s.start.session_id ≡ id
-          → (before : SessionHistory) × (value_at world.sessions n ≡ Some before) × (before.start.session_id ≡ id)
-          × (status_of before ≢ session_status.Ok → status_of s ≡ status_of before)
-      kept_ n s at same =
-          by_number n s (n == number) refl (sym (found_replaced world.sessions number n new old found) ∙ at) same
-
-      with_sent : (f : Option Envelope)
-          → Tells id world (record world { sessions = replace_at world.sessions number new }) (updates_sent f [])
-      with_sent (Some given) = record {
-        kept = kept_;
-        queued = λ u queued same. inl queued;
-        told = λ u among. absurd among;
-      }
-      with_sent None = record {
-        kept = kept_;
-        queued = λ u queued same. inl queued;
-        told = λ u among. absurd among;
-      }
+      by_number n s false e at = same_from world some n s at
 
   -- a session that goes
-  gone_tells : (world : World P C) (number : ℕ) (f : Option Envelope) → IsNumbered world
-      → Tells id world (record world { sessions = without world.sessions number }) (updates_sent f [])
-  gone_tells world number f numbered = with_sent f
+  gone_tells : (world : World P C) (number : ℕ) (some : List (Effect P C)) (f : Option Envelope) → IsNumbered world
+      → Step world (record world { sessions = without world.sessions number }) some (updates_sent f [])
+  gone_tells world number some f numbered = record {
+    later = no_earlier world.next.session;
+    from = λ n s at. by_number n s (n == number)
+        (sym (found_without 0 world.next.session world.sessions number n numbered.sessions) ∙ at);
+    queued = λ u queued. inl queued;
+    told = λ u among. none_told f u among;
+  }
     where
       by_number : (n : ℕ) (s : SessionHistory) (b : Bool) → (if b then None else value_at world.sessions n) ≡ Some s
-          → s.start.session_id ≡ id
-          → (before : SessionHistory) × (value_at world.sessions n ≡ Some before) × (before.start.session_id ≡ id)
-          × (status_of before ≢ session_status.Ok → status_of s ≡ status_of before)
-      by_number n s true at same = absurd cc
-      by_number n s false at same = (s, at, same, λ ended. refl)
+          → IsFrom world some n s
+      by_number n s true at = absurd cc
+      by_number n s false at = same_from world some n s at
 
-      kept_ : (n : ℕ) (s : SessionHistory) → value_at (without world.sessions number) n ≡ Some s
-          → s.start.session_id ≡ id
-          → (before : SessionHistory) × (value_at world.sessions n ≡ Some before) × (before.start.session_id ≡ id)
-          × (status_of before ≢ session_status.Ok → status_of s ≡ status_of before)
-      kept_ n s at same =
-          by_number n s (n == number)
-          (sym (found_without 0 world.next.session world.sessions number n numbered.sessions) ∙ at) same
-
-      with_sent : (f : Option Envelope)
-          → Tells id world (record world { sessions = without world.sessions number }) (updates_sent f [])
-      with_sent (Some given) = record {
-        kept = kept_;
-        queued = λ u queued same. inl queued;
-        told = λ u among. absurd among;
-      }
-      with_sent None = record {
-        kept = kept_;
-        queued = λ u queued same. inl queued;
-        told = λ u among. absurd among;
-      }
-
-  -- a session of another id that starts
-  started_tells : (world : World P C) (start : SessionStart) (counted : World P C) (f : Option Envelope)
+  -- a session that starts
+  started_tells : (world : World P C) (number : ℕ) (start : SessionStart) (counted : World P C) (f : Option Envelope)
       → counted.sessions ≡ put world.sessions world.next.session (record { start = start; history = [] })
-      → counted.clients ≡ world.clients → start.session_id ≢ id → Tells id world counted (updates_sent f [])
-  started_tells world start counted f sessions clients other = with_sent f
+      → counted.next.session ≡ world.next.session + 1 → counted.clients ≡ world.clients
+      → Step world counted (session_begun number start.session_id ∷ []) (updates_sent f [])
+  started_tells world number start counted f sessions next clients = record {
+    later = omega (arith, next);
+    from = λ n s at. by_number n s (n == world.next.session) refl
+        (sym (found_put world.sessions world.next.session n (record { start = start; history = [] }))
+        ∙ (sym (ap (λ t. value_at t n) sessions) ∙ at));
+    queued = λ u queued.
+        inl (queued.0, queued.1, sym (ap (λ t. value_at t queued.0) clients) ∙ queued.2, queued.3);
+    told = λ u among. none_told f u among;
+  }
     where
-      by_number : (n : ℕ) (s : SessionHistory) (b : Bool)
+      by_number : (n : ℕ) (s : SessionHistory) (b : Bool) → (n == world.next.session) ≡ b
           → (if b then Some (record { start = start; history = [] }) else value_at world.sessions n) ≡ Some s
-          → s.start.session_id ≡ id
-          → (before : SessionHistory) × (value_at world.sessions n ≡ Some before) × (before.start.session_id ≡ id)
-          × (status_of before ≢ session_status.Ok → status_of s ≡ status_of before)
-      by_number n s true at same =
+          → IsFrom world (session_begun number start.session_id ∷ []) n s
+      by_number n s true e at =
           let is : record { start = start; history = [] } ≡ s = cc in
-          absurd (other (ap (λ (x : SessionHistory). x.start.session_id) is ∙ same))
-      by_number n s false at same = (s, at, same, λ ended. refl)
+          let own = same_number n world.next.session e in
+          is_new (omega (arith, own)) (inl (ap (λ (x : SessionHistory). x.start.session_id) is))
+      by_number n s false e at = same_from world (session_begun number start.session_id ∷ []) n s at
 
-      kept_ : (n : ℕ) (s : SessionHistory) → value_at counted.sessions n ≡ Some s → s.start.session_id ≡ id
-          → (before : SessionHistory) × (value_at world.sessions n ≡ Some before) × (before.start.session_id ≡ id)
-          × (status_of before ≢ session_status.Ok → status_of s ≡ status_of before)
-      kept_ n s at same =
-          by_number n s (n == world.next.session)
-          (sym (found_put world.sessions world.next.session n (record { start = start; history = [] }))
-          ∙ (sym (ap (λ t. value_at t n) sessions) ∙ at)) same
+  -- a client with new queues
+  added_queues : (world : World P C) (next : ℕ) (client : ClientHistory C) → all_queued client.queues.sessions ≡ []
+      → (u : SessionUpdate) (n : ℕ) (c : ClientHistory C) → value_at (put world.clients next client) n ≡ Some c
+      → Among u (all_queued c.queues.sessions) → IsQueued world u
+  added_queues world next client none u n c at among =
+      by_number (n == next) (sym (found_put world.clients next n client) ∙ at)
+    where
+      by_number : (b : Bool) → (if b then Some client else value_at world.clients n) ≡ Some c → IsQueued world u
+      by_number true at =
+          let is : client ≡ c = cc in
+          absurd (subst (Among u) none
+          (subst (λ (c : ClientHistory C). Among u (all_queued c.queues.sessions)) (sym is) among))
+      by_number false at = (n, c, at, among)
 
-      queues : (u : SessionUpdate) → IsQueued id counted u → IsQueued id world u
-      queues u queued = (queued.0, queued.1, sym (ap (λ t. value_at t queued.0) clients) ∙ queued.2, queued.3)
+  dropped_queues : (world : World P C) (number : ℕ) → IsNumbered world → (u : SessionUpdate) (n : ℕ)
+      (c : ClientHistory C) → value_at (without world.clients number) n ≡ Some c → Among u (all_queued c.queues.sessions)
+      → IsQueued world u
+  dropped_queues world number numbered u n c at among =
+      by_number (n == number) (sym (found_without 0 world.next.client world.clients number n numbered.clients) ∙ at)
+    where
+      by_number : (b : Bool) → (if b then None else value_at world.clients n) ≡ Some c → IsQueued world u
+      by_number true at = absurd cc
+      by_number false at = (n, c, at, among)
 
-      with_sent : (f : Option Envelope) → Tells id world counted (updates_sent f [])
-      with_sent (Some given) = record {
-        kept = kept_;
-        queued = λ u queued same. inl (queues u queued);
-        told = λ u among. absurd among;
-      }
-      with_sent None = record {
-        kept = kept_;
-        queued = λ u queued same. inl (queues u queued);
-        told = λ u among. absurd among;
-      }
+module _ {P C : Type 0} (meanings : C → Meanings) where
+  pub step_of : (f : Option Envelope) {old new : World P C} {some : List (Effect P C)} {sent : List
+      (ClientKey × Envelope)} → Change meanings f old some sent new
+      → IsNumbered old → Step old new some (updates_sent f sent)
+  step_of f (makes_hub world client scope held active) n = quiet world _ _ f refl refl (λ u q. q)
+  step_of f (makes_hub_from world maker hub found) n = quiet world _ _ f refl refl (λ u q. q)
+  step_of f (changes_hub world number old new change found fits allowed) n = quiet world _ _ f refl refl (λ u q. q)
+  step_of f (leaves_hub world number hub change found fits) n = quiet world _ _ f refl refl (λ u q. q)
+  step_of f (notes_event_id world number old new found same) n = quiet world _ _ f refl refl (λ u q. q)
+  step_of f (releases_hub world number hub found alone) n = quiet world _ _ f refl refl (λ u q. q)
+  step_of f (adds_client world client now queues open_ of_engine) n =
+      quiet world _ _ f refl refl (λ u q. added_queues world world.next.client client
+      (ap (λ (q : QueueHistories). all_queued q.sessions) queues) u q.0 q.1 q.2 q.3)
+  step_of f (clones_client world original client now found) n =
+      quiet world _ _ f refl refl (λ u q. added_queues world world.next.client (clone_from now client) refl
+      u q.0 q.1 q.2 q.3)
+  step_of f (drops_client world key client label found same unnamed) n =
+      quiet world _ _ f refl refl (λ u q. dropped_queues world key.number n u q.0 q.1 q.2 q.3)
+  step_of f (arrives world key client arrival is_off found open_ came) n =
+      sending_tells world (with_client_history world key (after_arrival arrival client)) client.label
+      (send key client (envelopes_on_arrival arrival client)
+      (with_client_history world key (after_arrival arrival client))).sent _ _
+      (arrival_tells world key client arrival found (λ u. came_held world arrival u came) _ f is_off
+      (pending_report world client.label))
+  step_of f (accepts world key client arrival kind is_off found open_ came) n =
+      sending_tells world (with_client_history world key (after_arrival arrival client)) client.label
+      (send key client (envelopes_on_arrival arrival client)
+      (with_client_history world key (after_arrival arrival client))).sent _ _
+      (arrival_tells world key client arrival found (λ u. came_not arrival kind u came) _ f is_off
+      (pending_report world client.label))
+  step_of f (mails world key client envelope found occupied plain told_) n =
+      mailed world _ _ f key (pending_report world client.label) envelope refl refl refl (λ e. (told_ e).0)
+  step_of f (loses world key client losses found) n = quiet world _ _ f refl refl (λ u q. q)
+  step_of f (takes_report world label has) n = quiet world _ _ f refl refl (λ u q. q)
+  step_of f (absorbs world label losses has) n = quiet world _ _ f refl refl (λ u q. q)
+  step_of f (starts_none world number other) n = quiet world world _ f refl refl (λ u q. q)
+  step_of f (accepts_none world kind) n = quiet world world _ f refl refl (λ u q. q)
+  step_of f (starts_session world number start) n = started_tells world number start _ f refl refl refl
+  step_of f (changes_session world number old new later found same) n =
+      changed_tells world number old new later _ f found same
+  step_of f (ends_session world number) n = gone_tells world number _ f n
+  step_of f (starts_transaction world state new_) n = quiet world _ _ f refl refl (λ u q. q)
+  step_of f (starts_span world parent place held found of_ traced) n = quiet world _ _ f refl refl (λ u q. q)
+  step_of f (changes_spans world transactions spans change) n = quiet world _ _ f refl refl (λ u q. q)
 
+module _ (id : List ℕ) {P C : Type 0} where
   -- the first session of this id
   started_agrees : (world : World P C) (start : SessionStart) (counted : World P C) (told : List SessionUpdate)
       → counted.sessions ≡ put world.sessions world.next.session (record { start = start; history = [] })
@@ -524,80 +583,33 @@ module _ (id : List ℕ) {P C : Type 0} where
           (sym (found_put world.sessions world.next.session n (record { start = start; history = [] }))
           ∙ (sym (ap (λ t. value_at t n) sessions) ∙ at)) same
 
-  -- a client with new queues
-  added_queues : (world : World P C) (next : ℕ) (client : ClientHistory C) → all_queued client.queues.sessions ≡ []
-      → (u : SessionUpdate) (n : ℕ) (c : ClientHistory C) → value_at (put world.clients next client) n ≡ Some c
-      → Among u (all_queued c.queues.sessions) → IsQueued id world u
-  added_queues world next client none u n c at among =
-      by_number (n == next) (sym (found_put world.clients next n client) ∙ at)
-    where
-      by_number : (b : Bool) → (if b then Some client else value_at world.clients n) ≡ Some c → IsQueued id world u
-      by_number true at =
-          let is : client ≡ c = cc in
-          absurd (subst (Among u) none
-          (subst (λ (c : ClientHistory C). Among u (all_queued c.queues.sessions)) (sym is) among))
-      by_number false at = (n, c, at, among)
-
-  dropped_queues : (world : World P C) (number : ℕ) → IsNumbered world → (u : SessionUpdate) (n : ℕ)
-      (c : ClientHistory C) → value_at (without world.clients number) n ≡ Some c → Among u (all_queued c.queues.sessions)
-      → IsQueued id world u
-  dropped_queues world number numbered u n c at among =
-      by_number (n == number) (sym (found_without 0 world.next.client world.clients number n numbered.clients) ∙ at)
-    where
-      by_number : (b : Bool) → (if b then None else value_at world.clients n) ≡ Some c → IsQueued id world u
-      by_number true at = absurd cc
-      by_number false at = (n, c, at, among)
-
   -- no session of this id starts
   abbrev NoStart : List (Effect P C) → Type 0
   NoStart [] = Unit {0}
   NoStart (session_begun number other ∷ rest) = (other ≢ id) × NoStart rest
   NoStart (_ ∷ rest) = NoStart rest
 
-module _ (id : List ℕ) {P C : Type 0} (meanings : C → Meanings) where
-  step_change : (f : Option Envelope) {old new : World P C} {some : List (Effect P C)} {sent : List
-      (ClientKey × Envelope)} → Change meanings f old some sent new
-      → IsNumbered old → NoStart id some → Tells id old new (updates_sent f sent)
-  step_change f (makes_hub world client scope held active) n h = quiet id world _ f refl (λ u q. q)
-  step_change f (makes_hub_from world maker hub found) n h = quiet id world _ f refl (λ u q. q)
-  step_change f (changes_hub world number old new change found fits allowed) n h = quiet id world _ f refl (λ u q. q)
-  step_change f (leaves_hub world number hub change found fits) n h = quiet id world _ f refl (λ u q. q)
-  step_change f (notes_event_id world number old new found same) n h = quiet id world _ f refl (λ u q. q)
-  step_change f (releases_hub world number hub found alone) n h = quiet id world _ f refl (λ u q. q)
-  step_change f (adds_client world client now queues open_ of_engine) n h =
-      quiet id world _ f refl (λ u q. added_queues id world world.next.client client
-      (ap (λ (q : QueueHistories). all_queued q.sessions) queues) u q.0 q.1 q.2 q.3)
-  step_change f (clones_client world original client now found) n h =
-      quiet id world _ f refl (λ u q. added_queues id world world.next.client (clone_from now client) refl
-      u q.0 q.1 q.2 q.3)
-  step_change f (drops_client world key client label found same unnamed) n h =
-      quiet id world _ f refl (λ u q. dropped_queues id world key.number n u q.0 q.1 q.2 q.3)
-  step_change f (arrives world key client arrival is_off found open_ came) n h =
-      sending_tells id world (with_client_history world key (after_arrival arrival client)) client.label
-      (send key client (envelopes_on_arrival arrival client)
-      (with_client_history world key (after_arrival arrival client))).sent _
-      (arrival_tells id world key client arrival found (λ u. came_held id world arrival u came) f is_off
-      (pending_report world client.label))
-  step_change f (accepts world key client arrival is_log is_off found open_ came) n h =
-      sending_tells id world (with_client_history world key (after_arrival arrival client)) client.label
-      (send key client (envelopes_on_arrival arrival client)
-      (with_client_history world key (after_arrival arrival client))).sent _
-      (arrival_tells id world key client arrival found (λ u. item_came_not arrival is_log u came) f is_off
-      (pending_report world client.label))
-  step_change f (mails world key client envelope found occupied plain told_) n h =
-      mailed id world _ f key (pending_report world client.label) envelope refl refl told_
-  step_change f (loses world key client losses found) n h = quiet id world _ f refl (λ u q. q)
-  step_change f (takes_report world label has) n h = quiet id world _ f refl (λ u q. q)
-  step_change f (absorbs world label losses has) n h = quiet id world _ f refl (λ u q. q)
-  step_change f (starts_none world number other) n h = quiet id world world f refl (λ u q. q)
-  step_change f (accepts_none world is_log) n h = quiet id world world f refl (λ u q. q)
-  step_change f (starts_session world number start) n h = started_tells id world start _ f refl refl h.0
-  step_change f (changes_session world number old new later found same) n h =
-      changed_tells id world number old new later f found same
-  step_change f (ends_session world number) n h = gone_tells id world number f n
-  step_change f (starts_transaction world state new_) n h = quiet id world _ f refl (λ u q. q)
-  step_change f (starts_span world parent place held found of_ traced) n h = quiet id world _ f refl (λ u q. q)
-  step_change f (changes_spans world transactions spans change) n h = quiet id world _ f refl (λ u q. q)
+  not_begun : (some : List (Effect P C)) (other : List ℕ) → NoStart some → HasBegun some other → other ≢ id
+  not_begun [] other none begun = absurd begun
+  not_begun (session_begun number first ∷ rest) other none (inl e) = λ same. none.0 (e ∙ same)
+  not_begun (session_begun number first ∷ rest) other none (inr begun) = not_begun rest other none.1 begun
+  not_begun (_ ∷ rest) other none begun = not_begun rest other none begun
+
+  -- what a step tells of this id, where no session of it starts
+  tells_of : {old new : World P C} {some : List (Effect P C)} {sent : List SessionUpdate} → Step old new some sent
+      → NoStart some → Tells id old new sent
+  tells_of {old} {new} {some} step none = record {
+    kept = λ n s found same. by_origin s same (step.from n s found);
+    queued = λ u queued same. step.queued u queued;
+    told = λ u among same. step.told u among;
+  }
+    where
+      by_origin : {n : ℕ} (s : SessionHistory) → s.start.session_id ≡ id → IsFrom old some n s
+          → (before : SessionHistory) × (value_at old.sessions n ≡ Some before) × (before.start.session_id ≡ id)
+          × (status_of before ≢ session_status.Ok → status_of s ≡ status_of before)
+      by_origin s same (went_on before at goes) =
+          (before, at, sym (ap (λ (x : SessionStart). x.session_id) goes.0) ∙ same, goes.1)
+      by_origin s same (is_new low begun) = absurd (not_begun some s.start.session_id none begun same)
 
 -- ---- changes one after another
 
@@ -607,7 +619,7 @@ updates-joined (x ∷ xs) ys =
     ap (λ l. updates_among x.1.items ++ l) (updates-joined xs ys)
     ∙ sym (append_assoc (updates_among x.1.items) (updates_in xs) (updates_in ys))
 
-sent-joined : (f : Option Envelope) (xs ys : List (ClientKey × Envelope))
+pub sent-joined : (f : Option Envelope) (xs ys : List (ClientKey × Envelope))
     → updates_sent f (xs ++ ys) ≡ updates_sent f xs ++ updates_sent f ys
 sent-joined (Some given) xs ys = refl
 sent-joined None xs ys = updates-joined xs ys
@@ -670,7 +682,7 @@ module _ (id : List ℕ) {P C : Type 0} (meanings : C → Meanings) where
         → (told : List SessionUpdate) → Holds told old → Holds (told ++ updates_sent f sent) new
     kept_changes f (nothing world) n h told a = subst (λ l. Holds l world) (sym (none_sent f told)) a
     kept_changes f (one {old = old} {new = new} {sent = sent} c) n h told a =
-        step told old new (updates_sent f sent) (step_change id meanings f c n h) a
+        step told old new (updates_sent f sent) (tells_of id (step_of meanings f c n) h) a
     kept_changes f (both {new = new} {first = first} {second = second} {sent = sent} {more = more} t u) n h told a =
         subst (λ l. Holds l new)
         (append_assoc told (updates_sent f sent) (updates_sent f more)
@@ -696,7 +708,7 @@ module _ (id : List ℕ) {P C : Type 0} (meanings : C → Meanings) where
       → (told : List SessionUpdate) → IsUnknown id told old → Agrees id (told ++ updates_sent f sent) new
   start_change f (starts_none world number other) n told a =
       subst (λ l. Agrees id l world) (sym (none_sent f told)) (agrees_unknown id told world a)
-  start_change f (accepts_none world is_log) n told a =
+  start_change f (accepts_none world kind) n told a =
       subst (λ l. Agrees id l world) (sym (none_sent f told)) (agrees_unknown id told world a)
   start_change f (starts_session world number start) n told a =
       let counted : World P C =
@@ -750,7 +762,7 @@ module _ (id : List ℕ) {P C : Type 0} where
   own_starts (losses_absorbed label losses ∷ rest) h = own_starts rest h
   own_starts (report_taken label report ∷ rest) h = own_starts rest h
   own_starts (client_dropped number ∷ rest) h = own_starts rest h
-  own_starts (item_came is_log ∷ rest) h = own_starts rest h
+  own_starts (came_to_queues kind ∷ rest) h = own_starts rest h
 
   own_begins : (some : List (Effect P C)) → list_any (begins id) (own_effects some) ≡ list_any (begins id) some
   own_begins [] = refl
@@ -769,7 +781,7 @@ module _ (id : List ℕ) {P C : Type 0} where
   own_begins (losses_absorbed label losses ∷ rest) = own_begins rest
   own_begins (report_taken label report ∷ rest) = own_begins rest
   own_begins (client_dropped number ∷ rest) = own_begins rest
-  own_begins (item_came is_log ∷ rest) = own_begins rest
+  own_begins (came_to_queues kind ∷ rest) = own_begins rest
 
   own_once : (some : List (Effect P C)) → Once id (own_effects some) → Once id some
   own_once [] h = tt
@@ -788,7 +800,7 @@ module _ (id : List ℕ) {P C : Type 0} where
   own_once (losses_absorbed label losses ∷ rest) h = (λ e. absurd cc, own_once rest h.1)
   own_once (report_taken label report ∷ rest) h = (λ e. absurd cc, own_once rest h.1)
   own_once (client_dropped number ∷ rest) h = (λ e. absurd cc, own_once rest h.1)
-  own_once (item_came is_log ∷ rest) h = (λ e. absurd cc, own_once rest h.1)
+  own_once (came_to_queues kind ∷ rest) h = (λ e. absurd cc, own_once rest h.1)
 
 module _ (id : List ℕ) {P C : Type 0} (meanings : C → Meanings) where
   client_starts : (call : ClientCall P C) (made : Reply P C) → NoStart id (client_effects meanings call made)
@@ -826,6 +838,7 @@ module _ (id : List ℕ) {P C : Type 0} (meanings : C → Meanings) where
   client_once (DropClient client) made = (λ e. refl, tt)
   client_once (ClientCaptureLog client log scope) made = (λ e. refl, tt)
   client_once (ClientCaptureMetric client draft scope now) made = (λ e. refl, tt)
+  client_once (Close client) made = (λ e. refl, tt)
   client_once call made = tt
 
   hub_once : (call : HubCall P) (made : Reply P C) → Once id (hub_effects meanings call made)
@@ -851,28 +864,29 @@ module _ (id : List ℕ) {P C : Type 0} (meanings : C → Meanings) where
 
 -- ---- what was queued in a call
 
-module _ (id : List ℕ) {P C : Type 0} where
-  queued_in : (world : World P C) (number : ℕ) (u : SessionUpdate) → Among u (queued_at world number)
-      → IsQueued id world u
+module _ {P C : Type 0} where
+  pub queued_in : (world : World P C) (number : ℕ) (u : SessionUpdate) → Among u (queued_at world number)
+      → IsQueued world u
   queued_in world number u h = by_client (value_at world.clients number) refl h
     where
       by_client : (o : Option (ClientHistory C)) → value_at world.clients number ≡ o
           → Among u (unwrap_or (option_map (λ (client : ClientHistory C). all_queued client.queues.sessions) o) [])
-          → IsQueued id world u
+          → IsQueued world u
       by_client None at h = absurd h
       by_client (Some client) at h = (number, client, at, h)
 
+module _ (id : List ℕ) {P C : Type 0} where
   below_queued : (before_ world : World P C) (number : ℕ) (u : SessionUpdate)
-      → Among u (queued_below before_ world number) → IsQueued id world u
+      → Among u (queued_below before_ world number) → IsQueued world u
   below_queued before_ world zero u h = absurd h
   below_queued before_ world (suc number) u h =
       by_place (below_queued before_ world number u)
       (among_append u (queued_below before_ world number)
       (drop (length (queued_at before_ number)) (queued_at world number)) h)
     where
-      by_place : (Among u (queued_below before_ world number) → IsQueued id world u)
+      by_place : (Among u (queued_below before_ world number) → IsQueued world u)
           → Among u (queued_below before_ world number)
-          ⊎ Among u (drop (length (queued_at before_ number)) (queued_at world number)) → IsQueued id world u
+          ⊎ Among u (drop (length (queued_at before_ number)) (queued_at world number)) → IsQueued world u
       by_place go (inl h) = go h
       by_place go (inr h) =
           queued_in world number u
@@ -1024,8 +1038,8 @@ module _ {P C : Type 0} (gives : P → Partial) (meanings : C → Meanings) wher
   pub statuses_stay : StatusStays gives meanings
   statuses_stay tag start calls answers last run id once =
       unknown_run gives meanings id calls answers (starting_world tag start) last run [] (none_numbered tag start) once
-      (record { unheld = λ n s at. absurd cc; untold = λ u was. none_told u was })
+      (record { unheld = λ n s at. absurd cc; untold = λ u was. nothing_told u was })
     where
-      none_told : (u : SessionUpdate) → WasTold id [] (starting_world {P = P} {C = C} tag start) u → u.session_id ≢ id
-      none_told u (inl among) = absurd among
-      none_told u (inr queued) = let at = queued.2 in absurd cc
+      nothing_told : (u : SessionUpdate) → WasTold id [] (starting_world {P = P} {C = C} tag start) u → u.session_id ≢ id
+      nothing_told u (inl among) = absurd among
+      nothing_told u (inr queued) = let at = queued.2 in absurd cc

@@ -1,9 +1,11 @@
 pub mod PartsOfRuns
 pub mod OwnCalls
+pub mod Closed
 pub mod SentItems
 pub mod PushPop
 pub mod Sessions
 pub mod Updates
+pub mod Statuses
 pub mod Accepted
 pub mod Wrong
 pub mod Losses

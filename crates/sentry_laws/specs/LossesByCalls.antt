@@ -14,7 +14,7 @@ use Rattle.sentry_options.specs.Meanings.{Meanings}
 use Rattle.sentry_scope.specs.declared.scope.Scope.{Scope}
 use Rattle.sentry_client_reports.specs.LossBooks.{LossEntry, engine_losses, drained_losses, report_point, pending_losses}
 use Rattle.sentry_pipeline.specs.Pipeline.{prepare_event, loss_reason}
-use Rattle.sentry_hub_table.specs.declared.hub.Hub.{Hub}
+use Rattle.sentry_hub_table.specs.declared.hub.HubState.{HubState}
 use Rattle.sentry_span_table.specs.SpanLists.{fate_of}
 use Rattle.sentry_span_table.specs.declared.table.records.SpanFate.{SpanFate}
 use Rattle.sentry_span_table.specs.declared.table.records.SpanFate.TheVariants.{Lost}
@@ -64,7 +64,7 @@ module _ {C : Type 0} where
 
 module _ {P C : Type 0} where
   -- the same of the client of a hub's top layer
-  abbrev pub lost_on : Label → World P C → Option (Hub P) → (Scope P → ClientHistory C → Option LossEntry)
+  abbrev pub lost_on : Label → World P C → Option (HubState P) → (Scope P → ClientHistory C → Option LossEntry)
       → List LossEntry
   lost_on label world None lost = []
   lost_on label world (Some hub) lost =

@@ -16,7 +16,7 @@ use Rattle.sentry_scope.specs.Stacks.{one_layer, push, pop, top_alone, is_client
 use Rattle.sentry_options.specs.Options.{set_up}
 use Rattle.sentry_state.specs.Worlds.{World, ClientHistory}
 use Rattle.sentry_state.specs.Outcomes.{client_at}
-use Rattle.sentry_hub_table.specs.declared.hub.Hub.{Hub}
+use Rattle.sentry_hub_table.specs.declared.hub.HubState.{HubState}
 use Rattle.sentry_state.specs.declared.state.Out.{Out}
 use Rattle.sentry_calls.specs.declared.call.Call.{Call}
 use Rattle.sentry_calls.specs.declared.call.Call.TheVariants as group
@@ -161,7 +161,7 @@ module _ {P : Type 0} where
 abbrev pub IsIsolated : {P C : Type 0} → (C → Meanings) → List (Call P C) → List (Result (Out (Reply P C)) Refusal)
     → World P C → Type 0
 IsIsolated {P} {C} meanings calls answers last =
-    (number : ℕ) → option_map (λ (hub : Hub P). without_sessions hub.stack) (value_at last.hubs number)
+    (number : ℕ) → option_map (λ (hub : HubState P). without_sessions hub.stack) (value_at last.hubs number)
     ≡ layers_after meanings (all_effects meanings calls answers []) number
 
 -- each client that is held has the options with which it was added

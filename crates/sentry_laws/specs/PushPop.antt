@@ -7,7 +7,7 @@ use Rattle.sentry_base.specs.declared.protocol.keys.HubKey.{HubKey}
 use Rattle.sentry_base.specs.declared.protocol.refusal.Refusal.{Refusal}
 use Rattle.sentry_options.specs.Meanings.{Meanings}
 use Rattle.sentry_scope.specs.declared.scope.stack.Stack.{Stack}
-use Rattle.sentry_hub_table.specs.declared.hub.Hub.{Hub}
+use Rattle.sentry_hub_table.specs.declared.hub.HubState.{HubState}
 use Rattle.sentry_state.specs.declared.state.Out.{Out}
 use Rattle.sentry_state.specs.Worlds.{World, starting_world}
 use Rattle.sentry_calls.specs.declared.call.Call.{Call}
@@ -26,7 +26,7 @@ module _ {P C : Type 0} where
 
   -- the layers of a hub
   abbrev pub stack_at : World P C → ℕ → Option (Stack P)
-  stack_at world number = option_map (λ (hub : Hub P). hub.stack) (value_at world.hubs number)
+  stack_at world number = option_map (λ (hub : HubState P). hub.stack) (value_at world.hubs number)
 
 module _ {P C : Type 0} (gives : P → Partial) (meanings : C → Meanings) where
   -- the first accepted call that pops this layer, if there is one, leaves the hub these layers

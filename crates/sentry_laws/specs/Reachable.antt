@@ -5,7 +5,7 @@ use Rattle.sentry_plain.specs.Tables.{value_at}
 use Rattle.sentry_base.specs.declared.protocol.keys.Label.{Label}
 use Rattle.sentry_base.specs.declared.protocol.keys.SessionKey.{SessionKey}
 use Rattle.sentry_hub_table.specs.Hubs.{is_session_named}
-use Rattle.sentry_hub_table.specs.declared.hub.Hub.{Hub}
+use Rattle.sentry_hub_table.specs.declared.hub.HubState.{HubState}
 use Rattle.sentry_scope.specs.declared.scope.stack.StackLayer.{StackLayer}
 use Rattle.sentry_span_table.specs.SpanTables.{is_held}
 use Rattle.sentry_state.specs.Books.{has_book, has_client_of}
@@ -33,7 +33,7 @@ module _ {P C : Type 0} where
   -- each layer of each hub is so
   abbrev pub EachLayer : (StackLayer P → Type 0) → World P C → Type 0
   EachLayer IsSo world =
-      (number : ℕ) (hub : Hub P) → value_at world.hubs number ≡ Some hub
+      (number : ℕ) (hub : HubState P) → value_at world.hubs number ≡ Some hub
       → AllByRecursion IsSo (hub.stack.top ∷ hub.stack.below)
 
   -- a client that a layer names is held

@@ -1,5 +1,5 @@
 -- The logs and metrics that a client accepted, and the batches of them that were handed out.
-use Rattle.std.specs.Prelude.{◌≡◌, ℕ, true, Option, Some, None, List, [], ◌∷◌, ◌++◌, ◌==◌, Result, Ok, Err, if◌then◌else◌}
+use Rattle.std.specs.Prelude.{◌≡◌, ℕ, Bool, true, false, Option, Some, None, List, [], ◌∷◌, ◌++◌, ◌==◌, ◌||◌, Result, Ok, Err, if◌then◌else◌}
 use Rattle.std.specs.List.{AllByRecursion}
 use Rattle.std.specs.Option.{option_to_list}
 use Rattle.sentry_plain.specs.Tables.{value_at}
@@ -20,6 +20,7 @@ use Rattle.sentry_calls.specs.declared.call.Call.{Call}
 use Rattle.sentry_calls.specs.declared.call.Call.TheVariants.{Client}
 use Rattle.sentry_calls.specs.declared.call.clients.ClientCall.TheVariants.{SendEnvelope}
 use Rattle.sentry_calls.specs.declared.call.Reply.{Reply}
+use Rattle.sentry_laws.specs.Closed.{closes}
 
 -- the caller's own envelope, if the call hands one in
 abbrev pub handed_in : {P C : Type 0} → Call P C → Option Envelope
@@ -80,33 +81,37 @@ module _ {T : Type 0} where
       (items_of sent ++ waiting ≡ accepted) × AllByRecursion (IsBatch limit) sent
 
 module _ {T : Type 0} (history : QueueHistories → List (BatchEntry T)) where
-  -- a client sent these batches by the end of a call, of all that it accepted: before the call, where it is no longer
-  -- held, and then nothing waits
-  abbrev pub IsSentBy : {C : Type 0} → List (List T) → ClientHistory C → Option (ClientHistory C) → Type 0
-  IsSentBy sent client None =
+  -- what waits of a client, which is closed or not: nothing if it is
+  abbrev pub what_waits : {C : Type 0} → Bool → ClientHistory C → List T
+  what_waits closed client =
+      if closed then [] else queued_items client.options.plain.max_batch_items (history client.queues)
+
+  -- a client, closed by then or not, sent these batches by the end of a call, of all that it accepted: before the call,
+  -- where it is no longer held, and then nothing waits
+  abbrev pub IsSentBy : {C : Type 0} → Bool → List (List T) → ClientHistory C → Option (ClientHistory C) → Type 0
+  IsSentBy closed sent client None =
       AreSent sent client.options.plain.max_batch_items [] (accepted_items (history client.queues))
-  IsSentBy sent client (Some after) =
-      AreSent sent after.options.plain.max_batch_items
-      (queued_items after.options.plain.max_batch_items (history after.queues)) (accepted_items (history after.queues))
+  IsSentBy closed sent client (Some after) =
+      AreSent sent after.options.plain.max_batch_items (what_waits closed after) (accepted_items (history after.queues))
 
 module _ {T : Type 0} (batch_in : EnvelopeItem → Option (List T)) (history : QueueHistories → List (BatchEntry T))
   where
     module _ {P C : Type 0} (gives : P → Partial) (meanings : C → Meanings) where
-      -- of the client with this number, which sent these batches before: it is so at the end of each call before which its
-      -- slot is occupied, also of the call that empties the slot
-      abbrev pub SendsAtEachCall : ℕ → List (List T) → (world : World P C) (calls : List (Call P C))
+      -- of the client with this number, which earlier calls closed or not, and which sent these batches before: it is so at
+      -- the end of each call before which its slot is occupied, also of the call that empties the slot
+      abbrev pub SendsAtEachCall : ℕ → Bool → List (List T) → (world : World P C) (calls : List (Call P C))
           (answers : List (Result (Out (Reply P C)) Refusal)) (last : World P C)
           → Run gives meanings world calls answers last → Type 0
-      SendsAtEachCall number sent world (call ∷ calls) (Ok out ∷ answers) last run =
+      SendsAtEachCall number closed sent world (call ∷ calls) (Ok out ∷ answers) last run =
           ((client : ClientHistory C) → value_at world.clients number ≡ Some client → client.occupied ≡ true
-          → IsSentBy history (sent ++ batches_by batch_in (handed_in call) number out.sent) client
-          (value_at run.0.clients number))
-          × SendsAtEachCall number (sent ++ batches_by batch_in (handed_in call) number out.sent) run.0 calls answers last
-          run.2
-      SendsAtEachCall number sent world (call ∷ calls) (Err refusal ∷ answers) last run =
-          SendsAtEachCall number sent run.0 calls answers last run.2
-      SendsAtEachCall number sent world [] answers last run = Unit {0}
-      SendsAtEachCall number sent world (call ∷ calls) [] last run = Unit {0}
+          → IsSentBy history (closed || closes number call) (sent ++ batches_by batch_in (handed_in call) number out.sent)
+          client (value_at run.0.clients number))
+          × SendsAtEachCall number (closed || closes number call)
+          (sent ++ batches_by batch_in (handed_in call) number out.sent) run.0 calls answers last run.2
+      SendsAtEachCall number closed sent world (call ∷ calls) (Err refusal ∷ answers) last run =
+          SendsAtEachCall number closed sent run.0 calls answers last run.2
+      SendsAtEachCall number closed sent world [] answers last run = Unit {0}
+      SendsAtEachCall number closed sent world (call ∷ calls) [] last run = Unit {0}
 
 module _ {P C : Type 0} (gives : P → Partial) (meanings : C → Meanings) where
   abbrev pub SendsLogsAtEachCall : (world : World P C) (calls : List (Call P C))
@@ -114,14 +119,14 @@ module _ {P C : Type 0} (gives : P → Partial) (meanings : C → Meanings) wher
       → Run gives meanings world calls answers last → Type 0
   SendsLogsAtEachCall world calls answers last run =
       (number : ℕ)
-      → SendsAtEachCall log_batch (λ queues. queues.logs) gives meanings number [] world calls answers last run
+      → SendsAtEachCall log_batch (λ queues. queues.logs) gives meanings number false [] world calls answers last run
 
   abbrev pub SendsMetricsAtEachCall : (world : World P C) (calls : List (Call P C))
       (answers : List (Result (Out (Reply P C)) Refusal)) (last : World P C)
       → Run gives meanings world calls answers last → Type 0
   SendsMetricsAtEachCall world calls answers last run =
       (number : ℕ)
-      → SendsAtEachCall metric_batch (λ queues. queues.metrics) gives meanings number [] world calls answers last run
+      → SendsAtEachCall metric_batch (λ queues. queues.metrics) gives meanings number false [] world calls answers last run
 
 module _ {P C : Type 0} where
   abbrev pub SendsAcceptedLogs : List (Call P C) → List (Result (Out (Reply P C)) Refusal) → World P C → Type 0

@@ -19,12 +19,15 @@ ghost use Rattle.sentry_laws.specs.PartsOfRuns.{RunsSplit};
 ghost use Rattle.sentry_laws.specs.PushPop.{PopUndoesPush};
 ghost use Rattle.sentry_laws.specs.Wrong.{DerivedHubLeavesMaker, SilentFlushIsRefused};
 ghost use Rattle.sentry_laws.specs.Wrong.{LaterCrashIsRefused, OutlivingSessionIsRefused};
+ghost use Rattle.sentry_laws.specs.Wrong.{KeptLogIsRefused, OverwrittenStatusIsRefused, ForeignSpanIsRefused};
 ghost use Rattle.sentry_laws.specs.Sessions.{EndsOnce};
-ghost use Rattle.sentry_laws.specs.Traces.{KeptSpansAreInTrace, HeldSpansAreInTrace};
+ghost use Rattle.sentry_laws.specs.Traces.{KeptSpansAreInTrace, HeldSpansAreInTrace, SentSpansAreInTrace};
 ghost use Rattle.sentry_laws.specs.SentItems.{SendsAcceptedLogs, SendsAcceptedMetrics};
 ghost use Rattle.sentry_laws.specs.SentItems.{SendsLogsAtEachCall, SendsMetricsAtEachCall};
+ghost use Rattle.sentry_laws.specs.Closed.{ClosedByCalls};
 ghost use Rattle.sentry_laws.specs.Accepted.{AcceptsLogsByCalls, AcceptsMetricsByCalls};
 ghost use Rattle.sentry_laws.specs.Updates.{StatusStays};
+ghost use Rattle.sentry_laws.specs.Statuses.{SessionsKeepStatus};
 
 /// After any run, each hub has the layers that its own accepted calls give it, and each client that is held has the
 /// options with which it was added.
@@ -40,7 +43,8 @@ pub fn hubs_are_isolated<P, C>()
 /// After any run, each client whose slot is occupied sent the logs that it accepted, in order and in batches of one up
 /// to its `max_batch_items`, but for those in its queue. So it is after each call before which the slot was occupied,
 /// also where the call closes or drops the client, and then nothing waits. A client accepts a log exactly where a call
-/// captures one for it that passes its callback, while it isn't closed. The same holds of metrics.
+/// captures one for it that passes its callback, while it isn't closed. The same holds of metrics. A client is closed
+/// exactly if an accepted `close` of it came before; from then on nothing of it waits, whether or not it has a transport.
 pub fn accepted_items_are_sent<P, C>()
     ensures logs { (gives : P → Partial) (meanings : C → Meanings) (tag start : ℕ) (calls : List (Call P C))
         (answers : List (Result (Out (Reply P C)) Refusal)) (last : World P C)
@@ -64,6 +68,9 @@ pub fn accepted_items_are_sent<P, C>()
         (answers : List (Result (Out (Reply P C)) Refusal)) (last : World P C)
         (run : Run gives meanings (starting_world tag start) calls answers last)
         → AcceptsMetricsByCalls gives meanings (starting_world tag start) calls answers last run }
+    ensures closed { (gives : P → Partial) (meanings : C → Meanings) (tag start : ℕ) (calls : List (Call P C))
+        (answers : List (Result (Out (Reply P C)) Refusal)) (last : World P C)
+        → Run gives meanings (starting_world tag start) calls answers last → ClosedByCalls calls answers last }
 {}
 
 /// After a push, whatever comes then, and the pop of the new layer a hub has the layers that it had before.
@@ -71,20 +78,31 @@ pub fn pop_undoes_push<P, C>()
     ensures { (gives : P → Partial) (meanings : C → Meanings) → PopUndoesPush gives meanings }
 {}
 
-/// Of the updates of one session that a run hands out or queues, none that follows one with another status than `Ok` has
-/// another status. Once the session of a layer was ended, whether or not the layer named one, each further end on that
+/// A session that stays held keeps a status that isn't `Ok`. Each update that a call hands out or queues came to a queue
+/// before, or has the id of a session that was held before the call, and its status unless that was `Ok`, or it has the
+/// id of a session that the call starts. So it is whatever ids the caller passes. Of the updates with one id that a run
+/// hands out or queues, none that follows one with another status than `Ok` has another status, if at most one session
+/// starts with it. Once the session of a layer was ended, whether or not the layer named one, each further end on that
 /// layer sends nothing and changes nothing, until a session starts on it.
 pub fn ended_sessions_stay_ended<P, C>()
     ensures status { (gives : P → Partial) (meanings : C → Meanings) → StatusStays gives meanings }
+    ensures kept { (gives : P → Partial) (meanings : C → Meanings) (tag start : ℕ) (calls : List (Call P C))
+        (answers : List (Result (Out (Reply P C)) Refusal)) (last : World P C)
+        (run : Run gives meanings (starting_world tag start) calls answers last)
+        → SessionsKeepStatus gives meanings (starting_world tag start) calls answers last run }
     ensures once { (gives : P → Partial) (meanings : C → Meanings) → EndsOnce gives meanings }
 {}
 
-/// What the laws refuse: a hub that writes into the hub that it was made from, a flush that hands out nothing, a session
-/// that crashes after it exited, and a session that is still held where no hub is left.
+/// What the laws refuse: a hub that writes into the hub that it was made from, a flush that hands out nothing, a close
+/// that leaves a log waiting, a session that crashes after it exited, one whose status is overwritten, a span in another
+/// trace than its envelope's, and a session that is still held where no hub is left.
 pub fn wrong_runs_are_refused<P, C>()
     ensures isolation { (meanings : C → Meanings) → DerivedHubLeavesMaker P C meanings }
     ensures logs { SilentFlushIsRefused P C }
+    ensures closed { KeptLogIsRefused P C }
     ensures status { LaterCrashIsRefused }
+    ensures kept { OverwrittenStatusIsRefused P C }
+    ensures traces { ForeignSpanIsRefused }
     ensures sessions { OutlivingSessionIsRefused P C }
 {}
 
@@ -127,7 +145,8 @@ pub fn worlds_are_consistent<P, C>()
 {}
 
 /// After any run, each span that a transaction keeps has its trace id; and each span that is held belongs to a
-/// transaction that is held, and has its trace id.
+/// transaction that is held, and has its trace id. Each span of a transaction that was sent is in the trace that the
+/// header of its envelope names.
 pub fn spans_are_in_trace<P, C>()
     ensures kept { (gives : P → Partial) (meanings : C → Meanings) (tag start : ℕ) (calls : List (Call P C))
         (answers : List (Result (Out (Reply P C)) Refusal)) (last : World P C)
@@ -135,6 +154,9 @@ pub fn spans_are_in_trace<P, C>()
     ensures held { (gives : P → Partial) (meanings : C → Meanings) (tag start : ℕ) (calls : List (Call P C))
         (answers : List (Result (Out (Reply P C)) Refusal)) (last : World P C)
         → Run gives meanings (starting_world tag start) calls answers last → HeldSpansAreInTrace last }
+    ensures sent { (gives : P → Partial) (meanings : C → Meanings) (tag start : ℕ) (calls : List (Call P C))
+        (answers : List (Result (Out (Reply P C)) Refusal)) (last : World P C)
+        → Run gives meanings (starting_world tag start) calls answers last → SentSpansAreInTrace calls answers }
 {}
 
 /// After any run, for each label that a client has and each index of losses: what the reports of the label told, since

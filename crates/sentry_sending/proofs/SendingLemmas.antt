@@ -11,8 +11,7 @@ use Rattle.sentry_sessions.specs.SessionQueues.{enqueued, envelopes_on}
 use Rattle.sentry_sessions.specs.declared.session.record.Session.{Session}
 use Rattle.sentry_sessions.specs.Sessions.{closed, session_of, pending_update}
 use Rattle.sentry_state.specs.Outcomes.{client_at, named_session, session_at}
-use Rattle.sentry_sending.specs.Sending.{Sending, send, send_nothing, send_some}
-use Rattle.sentry_sending.specs.SessionEnds.{queue_update, end_session, end_unnamed_session, is_session_named}
+use Rattle.sentry_sending.specs.Sending.{Sending, send, send_nothing, send_some, queue_update, end_session, end_unnamed_session, is_session_named}
 use Rattle.sentry_state.specs.Changes.{with_client_history, with_client_entry}
 use Rattle.sentry_state.specs.Worlds.{World, ClientHistory, SessionHistory, stored_session}
 

@@ -1,3 +1,1 @@
 pub mod Sending
-pub mod SessionEnds
-pub mod Sessions

@@ -1,5 +1,6 @@
--- How envelopes leave a client: from an occupied slot alone, and with the pending report of its label.
-use Rattle.std.specs.Prelude.{◌≡◌, Bool, Option, Some, None, List, [], ◌∷◌, if◌then◌else◌}
+-- How envelopes leave a client: from an occupied slot alone, and with the pending report of its label; and how a session
+-- starts and ends.
+use Rattle.std.specs.Prelude.{◌≡◌, Bool, Option, Some, None, List, [], ◌∷◌, if◌then◌else◌, ℕ}
 use Rattle.sentry_base.specs.declared.protocol.client_report.ClientReport.{ClientReport}
 use Rattle.sentry_base.specs.declared.protocol.envelope.Envelope.{Envelope}
 use Rattle.sentry_base.specs.declared.protocol.keys.ClientKey.{ClientKey}
@@ -7,9 +8,20 @@ use Rattle.sentry_base.specs.declared.protocol.keys.Label.{Label}
 use Rattle.sentry_client_reports.specs.LossBooks.{report_point}
 use Rattle.sentry_state.specs.Books.{pending_report, with_entry}
 use Rattle.sentry_base.specs.Envelopes.{with_report}
-use Rattle.sentry_state.specs.Outcomes.{Outcome, reply_with}
+use Rattle.sentry_state.specs.Outcomes.{Outcome, reply_with, client_at, session_at}
 use Rattle.sentry_state.specs.declared.state.State.{State}
 use Rattle.sentry_state.specs.Worlds.{World, ClientHistory, Stands}
+use Rattle.sentry_plain.specs.Tables.{replace_at, without}
+use Rattle.sentry_base.specs.declared.protocol.keys.SessionKey.{SessionKey}
+use Rattle.sentry_base.specs.declared.protocol.session.SessionStatus.{SessionStatus}
+use Rattle.sentry_base.specs.declared.protocol.session.SessionUpdate.{SessionUpdate}
+pub use Rattle.sentry_hub_table.specs.Hubs.{is_session_named}
+use Rattle.sentry_sessions.specs.SessionQueues.{enqueued, envelopes_on}
+use Rattle.sentry_sessions.specs.Sessions.{closed, session_of, pending_update}
+use Rattle.sentry_hub_table.specs.declared.hub.HubState.{HubState}
+use Rattle.sentry_state.specs.Changes.{with_client_history, with_client_entry, with_new_session, with_next_session_named}
+use Rattle.sentry_hub_table.specs.Hubs.{with_session}
+use Rattle.sentry_sessions.specs.declared.session.record.SessionStart.{SessionStart}
 
 -- what is handed out, and the world after it
 pub record Sending (P C : Type 0) : Type 0 where
@@ -58,3 +70,47 @@ module _ {P C : Type 0} where
 
   abbrev pub reply_sending : {T : Type 0} → T → Sending P C → Outcome P C T
   reply_sending reply sending = reply_with reply sending.sent sending.after
+
+-- ---- when a session ends, and what becomes of it
+
+module _ {P C : Type 0} where
+  -- the last update of a session is queued at a client, which may send all that waits; a closed client drops it
+  unfoldable pub queue_update : ClientKey → SessionUpdate → World P C → Sending P C
+  queue_update key update world =
+      send_some world (client_at world key) (λ client.
+      if client.closed then send_nothing world else
+      send key client (envelopes_on client.options.plain.session_mode update client.queues.sessions)
+      (with_client_history world key (with_client_entry (enqueued update) client)))
+
+  -- the session is closed, what is to be told of it is queued at the client of its start, and it is no longer held
+  unfoldable pub end_session : SessionKey → Option SessionStatus → ℕ → World P C → Sending P C
+  end_session key status now world =
+      send_some world (session_at world key) (λ session.
+      let ended = session_of session.start (closed status now ∷ session.history) in
+      let queued = send_some world (pending_update ended) (λ update. queue_update session.start.client update world) in
+      record {
+        sent = queued.sent;
+        after = record queued.after { sessions = without queued.after.sessions key.number };
+      })
+
+  -- a session that a layer named ends where no layer of any hub names it any more
+  unfoldable pub end_unnamed_session : Option SessionKey → ℕ → World P C → Sending P C
+  end_unnamed_session name now world =
+      send_some world name (λ key.
+      if is_session_named key world.hubs then send_nothing world else end_session key None now world)
+
+  -- the top layer of a hub gives up the session that it names, which ends where no other layer names it
+  abbrev pub release_session : ℕ → HubState P → ℕ → World P C → Sending P C
+  release_session number hub now world =
+      end_unnamed_session hub.stack.top.session now
+      (record world { hubs = replace_at world.hubs number (with_session hub None) })
+
+-- ---- how a session starts in place of another
+
+module _ {P C : Type 0} where
+  -- a session starts under the next number; the top layer of a hub gives up the session that it named, and names this
+  -- one
+  abbrev pub replace_session : ℕ → HubState P → ℕ → SessionStart → World P C → Sending P C
+  replace_session number hub now start world =
+      let released = release_session number hub now (with_new_session start world) in
+      record { sent = released.sent; after = with_next_session_named number hub released.after }

@@ -11,10 +11,10 @@ ghost use Rattle.sentry_sending.specs.Sending.{for_client, envelopes_from, after
 use sentry_base::protocol::{
     ClientKey, ClientReport, Envelope, EnvelopeHeaders, EnvelopeItem, Label,
 };
-use sentry_options::clientoptions::Callbacks;
+use sentry_options::Callbacks;
 use sentry_plain::Items;
-use sentry_sessions::session::TakenSessions;
-use sentry_state::state::{Sent, State};
+use sentry_sessions::TakenSessions;
+use sentry_state::{Sent, State};
 use std::alloc::{AllocError, Global};
 
 // Gives the envelopes the client that is to send them, and the first of them the report.

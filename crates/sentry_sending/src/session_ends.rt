@@ -1,21 +1,20 @@
 //! When a session ends, and what becomes of it.
 ghost use Rattle.std.specs.Prelude.{◌≡◌, IfOk, OnOk, OnErr, Some, None, true, is_some};
 ghost use Rattle.sentry_plain.specs.Tables.{value_at, replace_at};
-ghost use Rattle.sentry_hub_table.specs.declared.hub.Hub.{Hub};
+ghost use Rattle.sentry_hub_table.specs.declared.hub.HubState.{HubState};
 ghost use Rattle.sentry_hub_table.specs.Hubs.{with_session};
 ghost use Rattle.sentry_state.specs.Worlds.{World, Stands};
-ghost use Rattle.sentry_sending.specs.Sending.{Sends};
-ghost use Rattle.sentry_sending.specs.SessionEnds.{queue_update, end_session, end_unnamed_session, release_session};
+ghost use Rattle.sentry_sending.specs.Sending.{Sends, queue_update, end_session, end_unnamed_session, release_session};
 
 use crate::sending::{mark_sent, send_taken};
 use sentry_base::protocol::{ClientKey, SessionKey, SessionStatus, SessionUpdate};
-use sentry_options::clientoptions::Callbacks;
+use sentry_options::Callbacks;
 use sentry_plain::Items;
-use sentry_state::state::{Sent, State};
+use sentry_state::{Sent, State};
 use std::alloc::AllocError;
 
 // Queues the last update of a session at a client. If out of memory, nothing has changed.
-#[tactic(auto, unfolding(crate::specs::SessionEnds::queue_update))]
+#[tactic(auto, unfolding(crate::specs::Sending::queue_update))]
 fn queue_update<P: Drop, C: Callbacks>(
     state: &mut State<P, C>,
     key: ClientKey,
@@ -48,7 +47,7 @@ fn queue_update<P: Drop, C: Callbacks>(
 }
 
 /// Closes a session and forgets it. If out of memory, nothing has changed.
-#[tactic(auto, unfolding(crate::specs::SessionEnds::end_session))]
+#[tactic(auto, unfolding(crate::specs::Sending::end_session))]
 pub fn end_session<P: Drop, C: Callbacks>(
     state: &mut State<P, C>,
     key: SessionKey,
@@ -74,7 +73,7 @@ pub fn end_session<P: Drop, C: Callbacks>(
 }
 
 // Ends the session that a layer named, where no layer names it any more. If out of memory, nothing has changed.
-#[tactic(auto, unfolding(crate::specs::SessionEnds::end_unnamed_session))]
+#[tactic(auto, unfolding(crate::specs::Sending::end_unnamed_session))]
 fn end_unnamed_session<P: Drop, C: Callbacks>(
     state: &mut State<P, C>,
     name: Option<SessionKey>,
@@ -103,11 +102,11 @@ pub fn release_session<P: Drop, C: Callbacks>(
     now: u64,
 ) -> Result<Sent, AllocError>
     requires { is_some (value_at state.old.hubs number) ≡ true }
-    ensures in_world { IfOk result (λ sent. (world : World P C) (hub : Hub P) → Stands state.old world →
+    ensures in_world { IfOk result (λ sent. (world : World P C) (hub : HubState P) → Stands state.old world →
         value_at state.old.hubs number ≡ Some hub →
         (sent ≡ (release_session number hub now world).sent)
         × Stands state.new (release_session number hub now world).after) }
-    ensures hubs { OnOk result ((hub : Hub P) → value_at state.old.hubs number ≡ Some hub →
+    ensures hubs { OnOk result ((hub : HubState P) → value_at state.old.hubs number ≡ Some hub →
         state.new.hubs ≡ replace_at state.old.hubs number (with_session hub None)) }
     ensures held { OnOk result (is_some (value_at state.new.hubs number) ≡ true) }
     ensures next { OnOk result (state.new.next ≡ state.old.next) }

@@ -3,16 +3,16 @@ ghost use Rattle.std.specs.Prelude.{◌≡◌, ◌<◌, ◌-◌, ◌^◌, IfOk, 
 ghost use Rattle.sentry_plain.specs.Tables.{value_at};
 ghost use Rattle.sentry_sessions.specs.Sessions.{session_of};
 ghost use Rattle.sentry_sessions.specs.declared.session.record.SessionStart.{SessionStart};
-ghost use Rattle.sentry_hub_table.specs.declared.hub.Hub.{Hub};
+ghost use Rattle.sentry_hub_table.specs.declared.hub.HubState.{HubState};
 ghost use Rattle.sentry_state.specs.Worlds.{World, Stands};
-ghost use Rattle.sentry_sending.specs.Sessions.{replace_session};
+ghost use Rattle.sentry_sending.specs.Sending.{replace_session};
 
 use crate::session_ends::release_session;
 use sentry_base::protocol::SessionKey;
-use sentry_options::clientoptions::Callbacks;
+use sentry_options::Callbacks;
 use sentry_plain::Items;
-use sentry_sessions::session::Session;
-use sentry_state::state::{Sent, State};
+use sentry_sessions::Session;
+use sentry_state::{Sent, State};
 use std::alloc::AllocError;
 
 // Gives up the count of a name, if there is one, where no layer has it any more.
@@ -35,7 +35,7 @@ pub fn replace_session<P: Drop, C: Callbacks>(
 ) -> Result<Sent, AllocError>
     requires left { state.old.next.session < 2 ^ 64 - 1 }
     requires held { is_some (value_at state.old.hubs hub) ≡ true }
-    ensures in_world { IfOk result (λ sent. (world : World P C) (held : Hub P) (start : SessionStart) →
+    ensures in_world { IfOk result (λ sent. (world : World P C) (held : HubState P) (start : SessionStart) →
         Stands state.old world → value_at state.old.hubs hub ≡ Some held → session ≡ session_of start [] →
         (sent ≡ (replace_session hub held now start world).sent)
         × Stands state.new (replace_session hub held now start world).after) }

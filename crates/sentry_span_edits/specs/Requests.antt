@@ -6,7 +6,7 @@ use Rattle.sentry_plain.specs.Texts.{Bytes, put, merge}
 use Rattle.sentry_plain.specs.ValueView.{members_from}
 use Rattle.sentry_plain.specs.Values.{Data, map_of, text}
 use Rattle.sentry_base.specs.declared.protocol.request.Request.{Request}
-use Rattle.sentry_span_edits.specs.Json.{plain_of}
+use Rattle.sentry_texts.specs.Json.{plain_of}
 
 -- a body is a value where it is JSON of whole numbers of 64 bits, and else a text
 abbrev pub body_data : Bytes → Data

@@ -14,9 +14,9 @@ ghost use Rattle.sentry_state.specs.Worlds.{World, Stands};
 use crate::edit::SpanEdit;
 use crate::requests::with_request;
 use sentry_base::protocol::{Span, SpanKey, TraceContext, Transaction, TransactionKey};
-use sentry_options::clientoptions::Callbacks;
-use sentry_span_table::table::{SpanTable, TransactionRecord, Unfinished};
-use sentry_state::state::State;
+use sentry_options::Callbacks;
+use sentry_span_table::{SpanTable, TransactionRecord, Unfinished};
+use sentry_state::State;
 use std::alloc::{AllocError, Global};
 
 // Edits what a transaction will send. If out of memory, nothing has changed.

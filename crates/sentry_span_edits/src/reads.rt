@@ -8,10 +8,10 @@ ghost use Rattle.sentry_state.specs.Outcomes.{Does, DoesWithoutMemory};
 use sentry_base::protocol::{
     Refusal, SpanId, SpanKey, SpanStatus, TraceContext, TransactionOrSpanKey,
 };
-use sentry_options::clientoptions::Callbacks;
+use sentry_options::Callbacks;
 use sentry_plain::ValueMap;
-use sentry_span_table::table::{SpanPlace, TransactionRecord};
-use sentry_state::state::{Out, State};
+use sentry_span_table::{SpanPlace, TransactionRecord};
+use sentry_state::{Out, State};
 use sentry_trace::headers::{TraceHeadersIter, TracePropagationContext};
 use std::alloc::{AllocError, Global};
 

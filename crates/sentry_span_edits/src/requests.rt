@@ -6,9 +6,9 @@ ghost use Rattle.sentry_plain.specs.ValueView.{data_of, members_from};
 ghost use Rattle.sentry_plain.specs.Values.{map_of};
 ghost use Rattle.sentry_span_edits.specs.Requests.{body_data, texts_data, put_body, put_text, put_texts, with_request};
 
-use crate::json::read_json;
 use sentry_base::protocol::Request;
 use sentry_plain::{Text, TextMap, Value, ValueMap};
+use sentry_texts::json::read_json;
 use std::alloc::{AllocError, Global};
 
 /// The value of a body that is JSON of whole numbers of 64 bits; any other body is a text.

@@ -12,9 +12,9 @@ use crate::edits::{edit_held_span, edit_transaction};
 use sentry_base::protocol::{
     Refusal, Request, SpanKey, SpanStatus, TransactionKey, TransactionOrSpanKey,
 };
-use sentry_options::clientoptions::Callbacks;
+use sentry_options::Callbacks;
 use sentry_plain::{Text, Value};
-use sentry_state::state::{Out, State};
+use sentry_state::{Out, State};
 
 // Edits a transaction.
 #[tactic(auto, unfolding(crate::specs::Setters::change))]

@@ -13,7 +13,7 @@ use Rattle.sentry_base.specs.declared.protocol.keys.TransactionOrSpanKey.TheVari
 use Rattle.sentry_base.specs.declared.protocol.refusal.Refusal.{Refusal}
 use Rattle.sentry_base.specs.declared.protocol.refusal.Refusal.TheVariants.{OutOfMemory, Stale, OutOfOrder, StillNamed, ScopesOpen, InvalidDsn, InvalidRate, ForeignLosses, Full}
 use Rattle.sentry_hub_table.specs.Hubs.{is_span_named, is_transaction_named}
-use Rattle.sentry_span_edits.specs.Discards.{discard}
+use Rattle.sentry_spans.specs.Discards.{discard}
 use Rattle.sentry_span_table.specs.SpanLists.{TransactionHistory, fate_of, stored_transaction, with_span_finished}
 use Rattle.sentry_span_table.specs.SpanTables.{has_span_of, transaction_in}
 use Rattle.sentry_span_table.specs.declared.table.records.SpanFate.{SpanFate}

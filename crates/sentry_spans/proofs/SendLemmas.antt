@@ -9,7 +9,7 @@ use Rattle.sentry_base.specs.declared.protocol.keys.HubKey.{HubKey}
 use Rattle.sentry_base.specs.declared.protocol.keys.TransactionKey.{TransactionKey}
 use Rattle.sentry_base.specs.declared.protocol.span.Span.{Span}
 use Rattle.sentry_base.specs.declared.protocol.transaction.Transaction.{Transaction}
-use Rattle.sentry_hub_table.specs.declared.hub.Hub.{Hub}
+use Rattle.sentry_hub_table.specs.declared.hub.HubState.{HubState}
 use Rattle.sentry_options.specs.declared.clientoptions.ClientOptions.{ClientOptions}
 use Rattle.sentry_sending.specs.Sending.{after_sending, for_client}
 use Rattle.sentry_span_table.specs.declared.table.records.TracingState.TheVariants.{Enabled}
@@ -19,7 +19,7 @@ use Rattle.sentry_spans.specs.Prepared.{prepared_envelope}
 use Rattle.sentry_spans.specs.declared.prepared.Prepared.{Prepared}
 use Rattle.sentry_spans.specs.Spans.{finish_transaction, sent_transaction, transaction_envelope}
 use Rattle.sentry_state.specs.Books.{pending_report}
-use Rattle.sentry_state.specs.declared.state.Client.{Client}
+use Rattle.sentry_state.specs.declared.state.ClientState.{ClientState}
 use Rattle.sentry_state.specs.declared.state.State.{State}
 use Rattle.sentry_base.specs.declared.protocol.refusal.Refusal.TheVariants.{OutOfMemory}
 use Rattle.sentry_state.specs.Outcomes.{IsAnswer, memory, Outcome, hub_at, stored_client_at, stored_transaction_at, reply_with}
@@ -41,14 +41,14 @@ prepared_is mine options is prepared context rate sent same trace spans =
 
 module _ {P C : Type 0} where
   -- the envelope of a transaction that finishes
-  abbrev pub finished_envelope : TransactionRecord → Hub P → Unfinished → ℕ → ℕ → Client C → Envelope
+  abbrev pub finished_envelope : TransactionRecord → HubState P → Unfinished → ℕ → ℕ → ClientState C → Envelope
   finished_envelope held hub unfinished rate moment client =
       transaction_envelope client.options held.context rate
       (sent_transaction client hub.stack.top.scope held.context held.spans moment unfinished.transaction)
 
   -- a transaction that was sampled, and whose client has an occupied slot
   pub finish_is : (key : TransactionKey) (hub_key : HubKey) (moment : ℕ) (world : World P C) (held : TransactionRecord)
-      (hub : Hub P) (unfinished : Unfinished) (rate : ℕ) (client : Client C)
+      (hub : HubState P) (unfinished : Unfinished) (rate : ℕ) (client : ClientState C)
       → stored_transaction_at world key ≡ Some held → hub_at world hub_key ≡ Some hub
       → held.unfinished ≡ Some unfinished → held.tracing ≡ Enabled true rate
       → stored_client_at world unfinished.client ≡ Some client → client.occupied ≡ true

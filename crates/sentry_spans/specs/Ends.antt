@@ -7,7 +7,7 @@ use Rattle.sentry_base.specs.declared.protocol.keys.SpanKey.{SpanKey}
 use Rattle.sentry_base.specs.declared.protocol.keys.TransactionKey.{TransactionKey}
 use Rattle.sentry_base.specs.declared.protocol.keys.TransactionOrSpanKey.TheVariants as key_of
 use Rattle.sentry_base.specs.declared.protocol.refusal.Refusal.{Refusal}
-use Rattle.sentry_span_edits.specs.Discards.{discard}
+use Rattle.sentry_spans.specs.Discards.{discard}
 use Rattle.sentry_spans.specs.Spans.{finish_span, finish_transaction}
 use Rattle.sentry_state.specs.declared.state.Out.{Out}
 use Rattle.sentry_state.specs.Outcomes.{Outcome, refuse, reply_with}

@@ -1,4 +1,5 @@
 pub mod Sampling
 pub mod Spans
 pub mod Prepared
+pub mod Discards
 pub mod Ends

@@ -44,7 +44,7 @@ use Rattle.sentry_state.specs.Books.{pending_report, with_entry}
 use Rattle.sentry_state.specs.Outcomes.{Outcome, hub_at, stored_client_at, let_some, reply_with, require, require_some, stored_transaction_at, span_at, transaction_at}
 use Rattle.sentry_state.specs.SpanChanges.{finished_span, next_span_key, next_transaction_key, with_transaction_finished, with_new_span, with_new_transaction, with_span, with_transaction}
 use Rattle.sentry_state.specs.Worlds.{World, span_table}
-use Rattle.sentry_state.specs.declared.state.Client.{Client}
+use Rattle.sentry_state.specs.declared.state.ClientState.{ClientState}
 use Rattle.sentry_trace.specs.Contexts.{new_context}
 use Rattle.sentry_trace.specs.declared.performance.context.TransactionContext.{TransactionContext}
 
@@ -93,7 +93,7 @@ client_transaction meanings key options context start fresh =
     options.plain.max_spans accepted fresh.uuid start
 
 -- a transaction under a client that was found, or without one
-abbrev pub started_transaction : {C : Type 0} → (C → Meanings) → Option ClientKey → Option (Client C)
+abbrev pub started_transaction : {C : Type 0} → (C → Meanings) → Option ClientKey → Option (ClientState C)
     → TransactionContext → ℕ → Fresh → TransactionHistory
 started_transaction meanings (Some key) (Some client) context start fresh =
     client_transaction meanings key client.options context start fresh
@@ -134,7 +134,7 @@ transaction_loss transaction = engine_losses (transaction_losses reason.SampleRa
 
 -- the transaction as it is sent: its end, its place in the trace, and the spans that it kept; what the scope sets; and
 -- what the client says of itself
-abbrev pub sent_transaction : {P C : Type 0} → Client C → Scope P → TraceContext → List Span → ℕ → Transaction
+abbrev pub sent_transaction : {P C : Type 0} → ClientState C → Scope P → TraceContext → List Span → ℕ → Transaction
     → Transaction
 sent_transaction client scope context spans moment transaction =
     record (fill_transaction scope (record transaction {
@@ -171,7 +171,7 @@ by_tracing (Enabled true rate) untraced unsampled sampled = sampled rate
 
 module _ {P C : Type 0} where
   -- the world in which a client that was found lost something
-  abbrev pub with_loss_of : Option (Client C) → LossEntry → World P C → World P C
+  abbrev pub with_loss_of : Option (ClientState C) → LossEntry → World P C → World P C
   with_loss_of None entry world = world
   with_loss_of (Some client) entry world = with_entry world client.label entry
 
@@ -192,7 +192,7 @@ module _ {P C : Type 0} where
       with_fate (fate_of state) (with_transaction key.number (with_span_finished span state) world)
 
   -- an envelope of a client is sent with a report, if its slot is occupied
-  abbrev pub send_envelope : ClientKey → Client C → Option ClientReport → Envelope → World P C
+  abbrev pub send_envelope : ClientKey → ClientState C → Option ClientReport → Envelope → World P C
       → Outcome P C (Unit {0})
   send_envelope key client report envelope world =
       let sent = envelopes_from client.occupied key report (envelope ∷ []) in

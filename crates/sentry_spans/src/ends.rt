@@ -3,7 +3,7 @@ ghost use Rattle.std.specs.Prelude.{◌≡◌, Some, None, true, false, is_some}
 ghost use Rattle.std.specs.Bool.{OnTrue};
 ghost use Rattle.sentry_base.specs.declared.protocol.keys.TransactionOrSpanKey.TheVariants as key_of;
 ghost use Rattle.sentry_hub_table.specs.Hubs.{is_span_named};
-ghost use Rattle.sentry_span_edits.specs.Discards.{discard};
+ghost use Rattle.sentry_spans.specs.Discards.{discard};
 ghost use Rattle.sentry_span_table.specs.SpanLists.{TransactionHistory, fate_of};
 ghost use Rattle.sentry_span_table.specs.SpanTables.{transaction_in};
 ghost use Rattle.sentry_span_table.specs.declared.table.records.SpanFate.TheVariants.{Kept};
@@ -12,12 +12,12 @@ ghost use Rattle.sentry_spans.specs.Ends as call;
 ghost use Rattle.sentry_state.specs.Outcomes.{Does, transaction_at};
 ghost use Rattle.sentry_state.specs.Worlds.{World, Stands};
 
+use crate::discards::discard;
 use crate::finishes::{finish_span, finish_transaction};
 use sentry_base::protocol::{HubKey, Refusal, SpanKey, TransactionKey, TransactionOrSpanKey};
-use sentry_options::clientoptions::Callbacks;
-use sentry_span_edits::discards::discard;
-use sentry_span_table::table::{SpanFate, SpanRecord};
-use sentry_state::state::{Out, State};
+use sentry_options::Callbacks;
+use sentry_span_table::{SpanFate, SpanRecord};
+use sentry_state::{Out, State};
 
 // Forgets what has finished, or answers why it stays.
 fn discard_finished<P: Drop, C: Callbacks>(

@@ -26,12 +26,12 @@ use sentry_base::protocol::{
     EnvelopeItem, HubKey, Losses, Reason, Refusal, SampleRate, Span, SpanKey, TraceContext,
     Transaction, TransactionKey, Uuid,
 };
-use sentry_options::clientoptions::{Callbacks, ClientOptions};
+use sentry_options::{Callbacks, ClientOptions};
 use sentry_plain::{Boxed, Items, Text};
-use sentry_scope::scope::Scope;
+use sentry_scope::Scope;
 use sentry_sending::sending::mark_sent;
-use sentry_span_table::table::{SpanFate, TracingState, TransactionRecord};
-use sentry_state::state::{Client, Out, Sent, State};
+use sentry_span_table::{SpanFate, TracingState, TransactionRecord};
+use sentry_state::{ClientState, Out, Sent, State};
 use std::alloc::{AllocError, Global};
 
 // Records what a client lost, if it is held.
@@ -182,7 +182,10 @@ fn end_transaction(
 }
 
 // Says of a transaction what its client says of itself.
-fn describe_client<C>(client: &Client<C>, transaction: &mut Transaction) -> Result<(), AllocError>
+fn describe_client<C>(
+    client: &ClientState<C>,
+    transaction: &mut Transaction,
+) -> Result<(), AllocError>
     ensures { OnOk result (transaction.new ≡ record transaction.old {
       release = client.now.options.plain.release;
       environment = client.now.options.plain.environment;
@@ -201,7 +204,7 @@ fn describe_client<C>(client: &Client<C>, transaction: &mut Transaction) -> Resu
 // A transaction as it is sent, once it has its spans.
 fn sent_transaction<P: Drop, C>(
     alloc: Global,
-    client: &Client<C>,
+    client: &ClientState<C>,
     scope: &Scope<P>,
     held: &TransactionRecord,
     moment: u64,
@@ -257,7 +260,7 @@ fn public_key_of<C: Callbacks>(
 // sent.
 fn prepare<P: Drop, C: Callbacks>(
     state: &State<P, C>,
-    client: &Client<C>,
+    client: &ClientState<C>,
     scope: &Scope<P>,
     held: &TransactionRecord,
     transaction: &Transaction,

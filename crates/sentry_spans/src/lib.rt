@@ -1,6 +1,7 @@
-//! How transactions and spans start, finish and end, as functions over a state, and which traces are sampled.
+//! How transactions and spans start, finish, end and are discarded, as functions over a state, and which traces are sampled.
 #![tactic(auto)]
 
+pub mod discards;
 pub mod ends;
 pub mod finishes;
 mod prepared;

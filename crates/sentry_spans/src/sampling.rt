@@ -3,10 +3,8 @@ ghost use Rattle.std.specs.Prelude.{◌≡◌, ◌≤◌, IfOk, min};
 ghost use Rattle.sentry_spans.specs.Sampling.{continues, own_organization, continues_incoming, accepted_context, rate_after, traces_rate, tracing_at, tracing_of};
 
 use sentry_base::protocol::{Draw, OrganizationId, SampleRate, TraceId};
-use sentry_options::clientoptions::{
-    Callbacks, ClientOptions, PlainOptions, TracesSamplingStrategy,
-};
-use sentry_span_table::table::TracingState;
+use sentry_options::{Callbacks, ClientOptions, PlainOptions, TracesSamplingStrategy};
+use sentry_span_table::TracingState;
 use sentry_trace::performance::{IncomingTrace, TransactionContext};
 use std::alloc::AllocError;
 

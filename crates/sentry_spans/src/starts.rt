@@ -15,12 +15,10 @@ use sentry_base::protocol::{
     ClientKey, Fresh, HubKey, Refusal, Span, SpanId, SpanKey, TraceContext, Transaction,
     TransactionKey, TransactionOrSpanKey,
 };
-use sentry_options::clientoptions::{Callbacks, ClientOptions};
+use sentry_options::{Callbacks, ClientOptions};
 use sentry_plain::{Boxed, Items, Text, ValueMap};
-use sentry_span_table::table::{
-    SpanPlace, SpanRecord, TracingState, TransactionRecord, Unfinished,
-};
-use sentry_state::state::{Out, State};
+use sentry_span_table::{SpanPlace, SpanRecord, TracingState, TransactionRecord, Unfinished};
+use sentry_state::{Out, State};
 use sentry_trace::performance::TransactionContext;
 use std::alloc::{AllocError, Global};
 

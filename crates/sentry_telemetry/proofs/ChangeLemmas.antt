@@ -10,7 +10,7 @@ use Rattle.sentry_state.specs.Outcomes.{client_at, stored_client_at}
 use Rattle.sentry_sending.specs.Sending.{Sending, for_client, send, send_nothing, send_some, envelopes_from, after_sending}
 use Rattle.sentry_state.specs.Changes.{with_client_history}
 use Rattle.sentry_state.specs.Worlds.{World, ClientHistory, Stands, stored_client}
-use Rattle.sentry_state.specs.declared.state.Client.{Client}
+use Rattle.sentry_state.specs.declared.state.ClientState.{ClientState}
 use Rattle.sentry_state.specs.declared.state.State.{State}
 use Rattle.sentry_state.proofs.Keeping.{client_state}
 
@@ -29,7 +29,7 @@ module _ {P C : Type 0} (key : ClientKey) (envelopes : ClientHistory C → List 
       ∙ ap (λ b. cond b (send_nothing world) (send key client (envelopes client) (with_client_history world key (after client)))) going_on
 
   -- what was sent and left for the client that the engine found is what the definition says
-  pub client_changed : (old new : State P C) (world : World P C) → Stands old world → (kept : Client C)
+  pub client_changed : (old new : State P C) (world : World P C) → Stands old world → (kept : ClientState C)
       → Some kept ≡ stored_client_at world key → kept.closed ≡ false → (sent : List (ClientKey × Envelope))
       → ((client : ClientHistory C) → value_at old.clients key.number ≡ Some (stored_client client) → kept ≡ stored_client client
       → (sent ≡ envelopes_from kept.occupied key (pending_report world kept.label) (envelopes client))
@@ -40,7 +40,7 @@ module _ {P C : Type 0} (key : ClientKey) (envelopes : ClientHistory C → List 
       let client : ClientHistory C = found.0 in
       let is : kept ≡ stored_client client = found.3 in
       let both = made client found.1 is in
-      let still : client.closed ≡ false = ap (λ (c : Client C). c.closed) (sym is) ∙ going_on in
+      let still : client.closed ≡ false = ap (λ (c : ClientState C). c.closed) (sym is) ∙ going_on in
       let expected : send key client (envelopes client) (with_client_history world key (after client)) ≡ change_client world =
       sym (change_client_is world client found.2 still) in
       let leaves : sent ≡ envelopes_from client.occupied key (pending_report world client.label) (envelopes client) =
@@ -53,7 +53,7 @@ module _ {P C : Type 0} (key : ClientKey) (envelopes : ClientHistory C → List 
       )
 
   -- the same where nothing was sent
-  pub client_changed_unsent : (old new : State P C) (world : World P C) → Stands old world → (kept : Client C)
+  pub client_changed_unsent : (old new : State P C) (world : World P C) → Stands old world → (kept : ClientState C)
       → Some kept ≡ stored_client_at world key → kept.closed ≡ false → (sent : List (ClientKey × Envelope)) → sent ≡ []
       → ((client : ClientHistory C) → value_at old.clients key.number ≡ Some (stored_client client) → kept ≡ stored_client client
       → ([] ≡ envelopes_from kept.occupied key (pending_report world kept.label) (envelopes client))

@@ -8,10 +8,9 @@ use Rattle.sentry_base.specs.declared.protocol.keys.ClientKey.{ClientKey}
 use Rattle.sentry_base.specs.declared.protocol.log.Log.{Log}
 use Rattle.sentry_base.specs.declared.protocol.metric.Metric.{Metric}
 use Rattle.sentry_options.specs.declared.clientoptions.plain.PlainOptions.{PlainOptions}
-use Rattle.sentry_batches.specs.Batches.{tick_history, batch_on_tick}
+use Rattle.sentry_batches.specs.Batches.{tick_history, batch_on_tick, is_due, after_tick}
 use Rattle.sentry_batches.specs.declared.batcher.TheConstants.{BATCH_INTERVAL}
 use Rattle.sentry_sessions.specs.SessionQueues.{QueueEntry, Waiting, flushed, queue_of, envelopes_of, envelope_of}
-use Rattle.sentry_batches.specs.Ticks.{is_due, after_tick}
 use Rattle.sentry_telemetry.specs.declared.flushes.Flush.{Flush}
 use Rattle.sentry_telemetry.specs.declared.flushes.Flush.TheVariants.{All, Due, Closing}
 use Rattle.sentry_telemetry.specs.declared.flushes.TheConstants.{SESSION_INTERVAL}

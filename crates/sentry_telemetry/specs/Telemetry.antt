@@ -8,7 +8,7 @@ use Rattle.sentry_span_table.specs.declared.table.records.SpanTable.{SpanTable}
 use Rattle.sentry_scope.specs.declared.scope.Scope.{Scope}
 use Rattle.sentry_options.specs.Meanings.{Meanings}
 use Rattle.sentry_base.specs.declared.protocol.keys.Label.{Label}
-use Rattle.sentry_state.specs.declared.state.Client.{Client}
+use Rattle.sentry_state.specs.declared.state.ClientState.{ClientState}
 use Rattle.sentry_state.specs.Books.{with_entry}
 use Rattle.sentry_base.specs.Losses.{loss_of}
 use Rattle.sentry_base.specs.Metrics.{metric_of}
@@ -20,7 +20,7 @@ use Rattle.sentry_base.specs.declared.protocol.metric.Metric.{Metric}
 use Rattle.sentry_base.specs.declared.protocol.metric.MetricDraft.{MetricDraft}
 use Rattle.sentry_batches.specs.Batches.{accept, batch_on}
 use Rattle.sentry_client_reports.specs.LossBooks.{LossEntry, engine_losses}
-use Rattle.sentry_pipeline.specs.Telemetry.{prepare_log, prepare_metric}
+use Rattle.sentry_pipeline.specs.Pipeline.{prepare_log, prepare_metric}
 use Rattle.sentry_telemetry.specs.Flushes.{batch_envelopes}
 use Rattle.sentry_state.specs.Changes.{with_client_history, with_log_entry, with_metric_entry}
 
@@ -30,12 +30,12 @@ item_loss category = engine_losses (loss_of category reason.BeforeSend 1)
 
 module _ {P C : Type 0} where
   -- the log as a client would send it, or `None` if its callback drops it
-  unfoldable pub client_log : (C → Meanings) → SpanTable → Client C → Scope P → Log → Option Log
+  unfoldable pub client_log : (C → Meanings) → SpanTable → ClientState C → Scope P → Log → Option Log
   client_log meanings spans client scope log =
       prepare_log meanings spans client.options client.log_attributes scope log
 
   -- the metric of a draft at this moment as a client would send it, or `None` if its callback drops it
-  unfoldable pub client_metric : (C → Meanings) → SpanTable → Client C → Scope P → ℕ → MetricDraft → Option Metric
+  unfoldable pub client_metric : (C → Meanings) → SpanTable → ClientState C → Scope P → ℕ → MetricDraft → Option Metric
   client_metric meanings spans client scope now draft =
       prepare_metric meanings spans client.options client.metric_attributes scope (metric_of scope.trace_id now draft)
 

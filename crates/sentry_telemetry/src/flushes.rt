@@ -13,10 +13,10 @@ ghost use Rattle.sentry_sending.specs.Sending.{Sends};
 use crate::prepared_envelopes::prepare_envelopes;
 use sentry_base::protocol::{ClientKey, Envelope, Log, Metric};
 use sentry_batches::tick::LastTick;
-use sentry_options::clientoptions::Callbacks;
+use sentry_options::Callbacks;
 use sentry_plain::Items;
 use sentry_sending::sending::mark_sent;
-use sentry_state::state::{Client, Queues, Sent, State};
+use sentry_state::{ClientState, Queues, Sent, State};
 use std::alloc::{AllocError, Global};
 
 /// After how many nanoseconds a tick flushes the ended sessions of a client.
@@ -143,7 +143,7 @@ fn flush_queues_of(queues: &mut Queues, flush: Flush) -> Batches
 }
 
 // The same of a client. The last flush closes it, and empties its slot.
-fn flush_client<C>(client: &mut Client<C>, flush: Flush) -> Batches
+fn flush_client<C>(client: &mut ClientState<C>, flush: Flush) -> Batches
     ensures client { (state : ClientHistory C) → client.old ≡ stored_client state →
         client.new ≡ stored_client (after_flush flush state) }
     ensures logs { (state : ClientHistory C) → client.old ≡ stored_client state →

@@ -14,10 +14,10 @@ use crate::flushes::Batches;
 use sentry_base::protocol::{
     ClientKey, ClientReport, Envelope, EnvelopeHeaders, EnvelopeItem, Label, Log, Metric,
 };
-use sentry_options::clientoptions::Callbacks;
+use sentry_options::Callbacks;
 use sentry_plain::Items;
 use sentry_sending::sending::envelopes_from;
-use sentry_state::state::{Sent, State};
+use sentry_state::{Sent, State};
 use std::alloc::{AllocError, Global};
 
 // Envelopes of a client, with room for one of logs and for one of metrics, which takes no more memory.

@@ -9,19 +9,19 @@ ghost use Rattle.sentry_telemetry.specs.Telemetry.{accept_log, accept_metric, ke
 use crate::flushes::Batches;
 use crate::prepared_envelopes::prepare_envelopes;
 use sentry_base::protocol::{Category, ClientKey, Label, Log, Losses, Metric, MetricDraft, Reason};
-use sentry_options::clientoptions::Callbacks;
+use sentry_options::Callbacks;
 use sentry_pipeline::pipeline::{prepare_log, prepare_metric};
 use sentry_plain::Items;
-use sentry_scope::scope::Scope;
+use sentry_scope::Scope;
 use sentry_sending::sending::mark_sent;
-use sentry_span_table::table::SpanTable;
-use sentry_state::state::{Client, Sent, State};
+use sentry_span_table::SpanTable;
+use sentry_state::{ClientState, Sent, State};
 use std::alloc::AllocError;
 
 /// The log as a client would send it, or `None` if its callback drops it.
 #[tactic(auto, unfolding(crate::specs::Telemetry::client_log))]
 pub fn client_log<P: Drop, C: Callbacks>(
-    client: &Client<C>,
+    client: &ClientState<C>,
     spans: &SpanTable,
     scope: &Scope<P>,
     log: Log,
@@ -36,7 +36,7 @@ pub fn client_log<P: Drop, C: Callbacks>(
 /// The metric of a draft at a moment as a client would send it, or `None` if its callback drops it.
 #[tactic(auto, unfolding(crate::specs::Telemetry::client_metric))]
 pub fn client_metric<P: Drop, C: Callbacks>(
-    client: &Client<C>,
+    client: &ClientState<C>,
     spans: &SpanTable,
     scope: &Scope<P>,
     now: u64,

@@ -13,20 +13,20 @@ pub use records::{SpanCall, SpanReply};
 use sentry_base::protocol::{
     Fresh, HubKey, Refusal, Request, TransactionKey, TransactionOrSpanKey,
 };
-use sentry_options::clientoptions::Callbacks;
+use sentry_options::Callbacks;
 use sentry_plain::Boxed;
-use sentry_span_edits::discards::discard;
 use sentry_span_edits::edit::SpanEdit;
 use sentry_span_edits::reads::{
     data, get_span_id, get_status, get_trace_context, is_sampled, iter_headers,
 };
 use sentry_span_edits::setters::change;
+use sentry_spans::discards::discard;
 use sentry_spans::finishes::{finish_span, finish_transaction};
 use sentry_spans::starts::{
     continue_from_span, start_child, start_child_with_details, start_transaction,
     start_transaction_with_timestamp,
 };
-use sentry_state::state::{Out, State};
+use sentry_state::{Out, State};
 use sentry_trace::performance::TransactionContext;
 
 // The answer with its reply put into the one type of replies.

@@ -8,9 +8,9 @@ ghost use Rattle.sentry_state.specs.Outcomes.{Does};
 use crate::engine::{Engine, Out};
 use sentry_base::callbacks::EventCallback;
 use sentry_base::protocol::{ClientKey, Event, Fresh, HubKey, Label, Refusal, Uuid};
-use sentry_options::clientoptions::{Callbacks, ClientOptions};
+use sentry_options::{Callbacks, ClientOptions};
 use sentry_plain::Boxed;
-use sentry_scope::scope::Scope;
+use sentry_scope::Scope;
 
 // The scope in a box, if there is one.
 fn lent_scope<P>(scope: &Option<Boxed<Scope<P>>>) -> Option<&Scope<P>>

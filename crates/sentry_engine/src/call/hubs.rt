@@ -5,7 +5,7 @@ ghost use Rattle.sentry_state.specs.Outcomes.{DoesWith};
 use crate::call::{Answer, HubCall, replies};
 use crate::engine::Engine;
 use sentry_base::callbacks::EventCallback;
-use sentry_options::clientoptions::Callbacks;
+use sentry_options::Callbacks;
 use sentry_plain::Few;
 
 impl<P: EventCallback + Drop, C: Callbacks> Engine<P, C> {

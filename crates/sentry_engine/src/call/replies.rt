@@ -6,9 +6,9 @@ ghost use Rattle.sentry_calls.specs.Replies.{map_answer};
 use crate::engine::{Out, ScopeGuard};
 use sentry_base::protocol::{ClientKey, ClientReport, Event, HubKey, Refusal, Uuid};
 use sentry_calls::call::{Answer, Reply, SpanReply};
-use sentry_options::clientoptions::ClientOptions;
+use sentry_options::ClientOptions;
 use sentry_plain::{Boxed, Shared};
-use sentry_scope::scope::Scope;
+use sentry_scope::Scope;
 use sentry_texts::dsn::Dsn;
 
 /// Nothing but that the call is done.

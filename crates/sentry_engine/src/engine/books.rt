@@ -6,8 +6,8 @@ ghost use Rattle.sentry_calls.specs.Losses as call;
 
 use crate::engine::{Engine, Out};
 use sentry_base::protocol::{ClientReport, Label, Losses, Refusal};
-use sentry_client_reports::client_reports::Drained;
-use sentry_options::clientoptions::Callbacks;
+use sentry_client_reports::Drained;
+use sentry_options::Callbacks;
 
 impl<P: Drop, C: Callbacks> Engine<P, C> {
     /// Returns a report of the losses that are pending under a label, which then count as reported, or `None` if there

@@ -14,10 +14,10 @@ use sentry_base::protocol::{
 use sentry_events::captures::{
     capture, captured_envelopes, captured_id, drop_unsent, note_capture, record_lost_event,
 };
-use sentry_options::clientoptions::{Callbacks, ClientOptions};
+use sentry_options::{Callbacks, ClientOptions};
 use sentry_pipeline::pipeline::prepare_event;
 use sentry_plain::{Boxed, Items, Shared};
-use sentry_scope::scope::Scope;
+use sentry_scope::Scope;
 use sentry_state::state::clients::{clone_of, new_client};
 use sentry_telemetry::flushes::{Flush, flush_queues};
 use sentry_texts::dsn::Dsn;

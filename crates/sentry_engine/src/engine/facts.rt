@@ -8,7 +8,7 @@ ghost use Rattle.sentry_state.specs.Worlds.{World, Stands};
 
 use crate::engine::Engine;
 use sentry_base::protocol::{ClientKey, Label};
-use sentry_options::clientoptions::Callbacks;
+use sentry_options::Callbacks;
 
 /// How many clients, hubs, layers of all hubs, transactions, spans, and sessions that go on an engine holds.
 #[derive(Clone, Copy, Debug, PartialEq, Eq)]

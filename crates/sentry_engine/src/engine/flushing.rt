@@ -4,7 +4,7 @@ ghost use Rattle.sentry_calls.specs.Clients as call;
 
 use crate::engine::{Engine, Out};
 use sentry_base::protocol::{ClientKey, Refusal};
-use sentry_options::clientoptions::Callbacks;
+use sentry_options::Callbacks;
 use sentry_telemetry::flushes::{Flush, flush_queues};
 
 impl<P: Drop, C: Callbacks> Engine<P, C> {

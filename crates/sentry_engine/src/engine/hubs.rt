@@ -16,9 +16,9 @@ use sentry_base::protocol::{
     Breadcrumb, ClientKey, ErrorLink, Event, Fresh, HubKey, Level, Refusal, Uuid,
 };
 use sentry_events::captures::capture_on_hub;
-use sentry_options::clientoptions::Callbacks;
+use sentry_options::Callbacks;
 use sentry_plain::{Boxed, Few, Text};
-use sentry_scope::scope::{EditedScope, Scope, ScopeEdit, Stack, all_name_held_spans};
+use sentry_scope::{EditedScope, Scope, ScopeEdit, Stack, all_name_held_spans};
 use sentry_sending::session_ends::release_session;
 use sentry_texts::utils::event_from_error;
 use std::alloc::{AllocError, Global};

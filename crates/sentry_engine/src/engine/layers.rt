@@ -6,8 +6,8 @@ ghost use Rattle.sentry_calls.specs.Layers as call;
 
 use crate::engine::{Engine, Out};
 use sentry_base::protocol::{ClientKey, HubKey, Refusal};
-use sentry_options::clientoptions::Callbacks;
-use sentry_scope::scope::Stack;
+use sentry_options::Callbacks;
+use sentry_scope::Stack;
 use sentry_sending::session_ends::release_session;
 use std::marker::Model;
 

@@ -3,10 +3,10 @@ ghost use Rattle.sentry_calls.specs.Hubs.{with_renames};
 ghost use Rattle.sentry_state.specs.Worlds.{World, Stands};
 
 use sentry_base::protocol::TransactionKey;
-use sentry_options::clientoptions::Callbacks;
+use sentry_options::Callbacks;
 use sentry_plain::{Items, Text};
-use sentry_scope::scope::rename_transactions;
-use sentry_state::state::State;
+use sentry_scope::rename_transactions;
+use sentry_state::State;
 
 // Gives transactions other names, in turn, each while it is unfinished. It takes no memory.
 pub(super) fn rename_all<P: Drop, C: Callbacks>(

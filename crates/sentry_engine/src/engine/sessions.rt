@@ -5,10 +5,10 @@ ghost use Rattle.sentry_calls.specs.Sessions as call;
 
 use crate::engine::{Engine, Out};
 use sentry_base::protocol::{Fresh, HubKey, Refusal, SessionStatus};
-use sentry_options::clientoptions::Callbacks;
+use sentry_options::Callbacks;
 use sentry_sending::session_ends::end_session;
 use sentry_sending::sessions::replace_session;
-use sentry_sessions::session::Session;
+use sentry_sessions::Session;
 
 impl<P: Drop, C: Callbacks> Engine<P, C> {
     /// Starts a session on a hub, under the client of its top layer. The layer names it in place of the session that it

@@ -1,7 +1,7 @@
 //! The calls on transactions and spans.
 ghost use Rattle.std.specs.Prelude.{◌≡◌};
 ghost use Rattle.sentry_calls.specs.SpanCalls.{span_step, needs};
-ghost use Rattle.sentry_span_edits.specs.Discards as discards;
+ghost use Rattle.sentry_spans.specs.Discards as discards;
 ghost use Rattle.sentry_span_edits.specs.Reads as reads;
 ghost use Rattle.sentry_span_edits.specs.Setters as setters;
 ghost use Rattle.sentry_spans.specs.Ends as ends;
@@ -15,11 +15,11 @@ use sentry_base::protocol::{
     TransactionOrSpanKey,
 };
 use sentry_calls::call::{SpanCall, SpanReply, apply_span_call};
-use sentry_options::clientoptions::Callbacks;
+use sentry_options::Callbacks;
 use sentry_plain::{Value, ValueMap};
-use sentry_span_edits::{discards, reads, setters};
-use sentry_span_table::table::SpanTable;
-use sentry_spans::{ends, finishes, starts};
+use sentry_span_edits::{reads, setters};
+use sentry_span_table::SpanTable;
+use sentry_spans::{discards, ends, finishes, starts};
 use sentry_trace::headers::TraceHeadersIter;
 use sentry_trace::performance::TransactionContext;
 

@@ -4,8 +4,8 @@ ghost use Rattle.sentry_calls.specs.Telemetry as call;
 
 use crate::engine::{Engine, Out};
 use sentry_base::protocol::{ClientKey, HubKey, Log, MetricDraft, Refusal};
-use sentry_options::clientoptions::Callbacks;
-use sentry_scope::scope::Scope;
+use sentry_options::Callbacks;
+use sentry_scope::Scope;
 use sentry_telemetry::telemetry::{client_log, client_metric, keep_log, keep_metric};
 
 impl<P: Drop, C: Callbacks> Engine<P, C> {

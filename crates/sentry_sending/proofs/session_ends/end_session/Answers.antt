@@ -1,8 +1,7 @@
 use Rattle.std.proofs.Common.{sym, ap, subst, ◌≡◌, ◌∙◌, ◌∷◌, Some}
 use Rattle.sentry_sessions.specs.Sessions.{closed, session_of, pending_update}
 use Rattle.sentry_sessions.specs.declared.session.record.Session.{Session}
-use Rattle.sentry_sending.specs.Sending.{Sending}
-use Rattle.sentry_sending.specs.SessionEnds.{queue_update}
+use Rattle.sentry_sending.specs.Sending.{Sending, queue_update}
 use Rattle.sentry_state.specs.Outcomes.{session_at}
 use Rattle.sentry_state.specs.Worlds.{World, Stands}
 use Rattle.sentry_state.proofs.Keeping.{session_state}

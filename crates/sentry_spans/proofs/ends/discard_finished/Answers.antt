@@ -1,5 +1,5 @@
 use Rattle.std.proofs.Common.{◌∙◌, sym, subst}
-use Rattle.sentry_span_edits.specs.Discards.{discard}
+use Rattle.sentry_spans.specs.Discards.{discard}
 use Rattle.sentry_spans.proofs.EndLemmas.{discard_answer-err, handed_on, stays}
 use Rattle.sentry_spans.proofs.ends.discard_finished.Goals as goal
 use Rattle.sentry_state.specs.declared.state.State.{State}

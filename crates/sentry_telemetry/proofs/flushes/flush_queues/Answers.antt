@@ -3,7 +3,7 @@ use Rattle.sentry_state.specs.Books.{pending_report}
 use Rattle.sentry_telemetry.specs.Flushes.{flush_queues, flushed_envelopes, after_flush, session_envelopes, batch_envelopes, is_flushed}
 use Rattle.sentry_sending.specs.Sending.{for_client}
 use Rattle.sentry_state.specs.Worlds.{ClientHistory}
-use Rattle.sentry_state.specs.declared.state.Client.{Client}
+use Rattle.sentry_state.specs.declared.state.ClientState.{ClientState}
 use Rattle.sentry_telemetry.specs.declared.flushes.TheConstants.{SESSION_INTERVAL}
 use Rattle.sentry_telemetry.proofs.BatchSending.{none_if_empty}
 use Rattle.sentry_telemetry.proofs.ChangeLemmas.{client_changed, client_changed_unsent, sent_if_occupied, unsent_if_empty}
@@ -35,8 +35,8 @@ returns-then-not-has_batch-clause-in_world g c = λ world s.
     (c.in-Some.ensures.in_world world s) c.if-client.false c.new-then-not-has_batch.result c.new-then-not-has_batch.ensures (λ client there is.
     let sessions = sym (none_if_empty c.in_ok-sessions.sessions empty)
     ∙ (c.in_ok-sessions.ensures
-    ∙ ap (λ (kept : Client g.row.C.Denot). session_envelopes (is_flushed c.args.flush SESSION_INTERVAL kept.queues.session_tick.0) kept.queues.sessions) is) in
-    let queues = ap (λ (kept : Client g.row.C.Denot). kept.queues) is in
+    ∙ ap (λ (kept : ClientState g.row.C.Denot). session_envelopes (is_flushed c.args.flush SESSION_INTERVAL kept.queues.session_tick.0) kept.queues.sessions) is) in
+    let queues = ap (λ (kept : ClientState g.row.C.Denot). kept.queues) is in
     let logs = sym (c.has_batch.ensures.logs client.options.plain client.queues c.args.flush queues no_batch) in
     let metrics = sym (c.has_batch.ensures.metrics client.options.plain client.queues c.args.flush queues no_batch) in
     let pending = pending_report world c.in-Some.client.now.label in (
@@ -55,7 +55,7 @@ returns-clause-in_world g c = λ world s.
     (after_flush c.args.flush) c.args.state.now c.mark_sent.new.state world s c.in-Some.client.now
     (c.in-Some.ensures.in_world world s) c.if-client.false c.finish-sent.result (λ client there is.
     let sessions = c.in_ok-sessions.ensures
-    ∙ ap (λ (kept : Client g.row.C.Denot). session_envelopes (is_flushed c.args.flush SESSION_INTERVAL kept.queues.session_tick.0) kept.queues.sessions) is in
+    ∙ ap (λ (kept : ClientState g.row.C.Denot). session_envelopes (is_flushed c.args.flush SESSION_INTERVAL kept.queues.session_tick.0) kept.queues.sessions) is in
     let logs = c.take_flushed-batches.ensures.logs client there in
     let metrics = c.take_flushed-batches.ensures.metrics client there in
     let pending = pending_report world c.in-Some.client.now.label in

@@ -1,14 +1,14 @@
 use Rattle.std.proofs.Common.{◌≡◌, ◌∙◌, ◌++◌, ap, sym, true, false, rules, refl, List}
 use Rattle.std.specs.Prelude.{Option, None, ◌&&◌}
 use Rattle.sentry_base.specs.declared.protocol.log.Log.{Log}
-use Rattle.sentry_batches.specs.Batches.{accept, batch_on, hands_out_next, queued_items}
+use Rattle.sentry_batches.specs.Batches.{accept, batch_on, next_fills_queue, queued_items}
 use Rattle.sentry_state.specs.Books.{pending_report}
 use Rattle.sentry_telemetry.specs.Flushes.{batch_envelopes}
 use Rattle.sentry_sending.specs.Sending.{for_client}
 use Rattle.sentry_telemetry.specs.Telemetry.{accept_log}
 use Rattle.sentry_state.specs.Changes.{with_log_entry}
 use Rattle.sentry_state.specs.Worlds.{ClientHistory}
-use Rattle.sentry_state.specs.declared.state.Client.{Client}
+use Rattle.sentry_state.specs.declared.state.ClientState.{ClientState}
 use Rattle.sentry_telemetry.proofs.BatchSending.{and_true, unsent_item}
 use Rattle.sentry_telemetry.proofs.ChangeLemmas.{client_changed, client_changed_unsent, sent_if_occupied}
 use Rattle.sentry_telemetry.proofs.telemetry.accept_log.Goals as goal
@@ -17,7 +17,7 @@ use Rattle.sentry_telemetry.proofs.telemetry.accept_log.Goals as goal
 pub returns-then-not-sends_next_log-clause-in_world : goal.returns-then-not-sends_next_log-clause-in_world
 unfolding accept_log
 returns-then-not-sends_next_log-clause-in_world g c = λ world s.
-    let stays : (c.in-Some.client.now.occupied && hands_out_next c.in-Some.client.now.queues.logs) ≡ false = search rules in
+    let stays : (c.in-Some.client.now.occupied && next_fills_queue c.in-Some.client.now.queues.logs) ≡ false = search rules in
     client_changed_unsent c.args.key
     (λ (client : ClientHistory g.row.C.Denot). batch_envelopes (batch_on client.options.plain.max_batch_items (accept c.args.log) client.queues.logs) None)
     (with_log_entry (accept c.args.log)) c.args.state.now c.enqueue_log.new.self world s c.in-Some.client.now
@@ -25,7 +25,7 @@ returns-then-not-sends_next_log-clause-in_world g c = λ world s.
       unsent_item c.args.key c.in-Some.client.now.occupied (pending_report world c.in-Some.client.now.label)
           (λ (logs : Option (List Log)). batch_envelopes logs None) refl client.options.plain.max_batch_items
           (queued_items client.options.plain.max_batch_items client.queues.logs) c.args.log
-          (ap (λ (kept : Client g.row.C.Denot). c.in-Some.client.now.occupied && hands_out_next kept.queues.logs) (sym is) ∙ stays),
+          (ap (λ (kept : ClientState g.row.C.Denot). c.in-Some.client.now.occupied && next_fills_queue kept.queues.logs) (sym is) ∙ stays),
       c.in_ok-enqueue_log.ensures.in_world world client s there,
     ))
 
@@ -33,7 +33,7 @@ returns-then-not-sends_next_log-clause-in_world g c = λ world s.
 pub returns-clause-in_world : goal.returns-clause-in_world
 unfolding accept_log
 returns-clause-in_world g c = λ world s.
-    let leaves : (c.in-Some.client.now.occupied && hands_out_next c.in-Some.client.now.queues.logs) ≡ true = search rules in
+    let leaves : (c.in-Some.client.now.occupied && next_fills_queue c.in-Some.client.now.queues.logs) ≡ true = search rules in
     client_changed c.args.key
     (λ (client : ClientHistory g.row.C.Denot). batch_envelopes (batch_on client.options.plain.max_batch_items (accept c.args.log) client.queues.logs) None)
     (with_log_entry (accept c.args.log)) c.args.state.now c.mark_sent.new.state world s c.in-Some.client.now

@@ -5,7 +5,7 @@ use Rattle.sentry_plain.specs.Tables.{value_at}
 use Rattle.sentry_scope.specs.Stacks.{depth}
 use Rattle.sentry_state.specs.Outcomes.{hub_at, with_hub}
 use Rattle.sentry_hub_table.specs.Hubs.{with_stack, with_session}
-use Rattle.sentry_sending.specs.SessionEnds.{release_session}
+use Rattle.sentry_sending.specs.Sending.{release_session}
 use Rattle.sentry_state.specs.Worlds.{World, Stands}
 use Rattle.sentry_state.proofs.Keeping.{popped_same}
 use Rattle.sentry_engine.proofs.CallLemmas.{is_above, pop_scope_is, replied}

@@ -4,9 +4,11 @@ use Rattle.sentry_calls.specs.declared.call.Call.{Call}
 use Rattle.sentry_state.specs.Worlds.{first_world}
 use Rattle.sentry_laws.proofs.Accepted.{accepts_logs, accepts_metrics}
 use Rattle.sentry_laws.proofs.ActiveSpans.{active_spans_held}
+use Rattle.sentry_laws.proofs.Closings.{closed_by_calls}
 use Rattle.sentry_laws.proofs.CallsAddUp.{calls_add_up}
 use Rattle.sentry_laws.proofs.Isolation.{named_clients_held}
 use Rattle.sentry_laws.proofs.LabelBooks.{books_of_clients}
+use Rattle.sentry_laws.proofs.KeptStatuses.{statuses_kept}
 use Rattle.sentry_laws.proofs.LossesByCalls.{records_losses}
 use Rattle.sentry_laws.proofs.NamedSessions.{sessions_named}
 use Rattle.sentry_laws.proofs.Numbers.{numbers_are_free}
@@ -14,6 +16,7 @@ use Rattle.sentry_laws.proofs.PushPop.{all_pushes_undone}
 use Rattle.sentry_laws.proofs.Reports.{reports_add_up}
 use Rattle.sentry_laws.proofs.SentKinds.{sends_logs, sends_metrics, sends_logs_at_each_call, sends_metrics_at_each_call}
 use Rattle.sentry_laws.proofs.SecondEnds.{all_ends_silent}
+use Rattle.sentry_laws.proofs.SentTraces.{sent_in_trace}
 use Rattle.sentry_laws.proofs.Shown.{isolated, keeps_options}
 use Rattle.sentry_laws.proofs.Traces.{kept_in_trace, held_in_trace}
 use Rattle.sentry_laws.proofs.Updates.{statuses_stay}
@@ -62,11 +65,17 @@ returns-clause-metrics g c = λ last run. (
   accepts_metrics g.P.EventCallback.gives g.C.Callbacks.meanings c.args.tag 0 c.args.calls.items c.loop-call.answers.items last run,
 )
 
+pub returns-clause-closed : goal.returns-clause-closed
+returns-clause-closed g c = closed_by_calls g.P.EventCallback.gives g.C.Callbacks.meanings c.args.tag 0 c.args.calls.items c.loop-call.answers.items
+
 pub returns-clause-traces : goal.returns-clause-traces
 returns-clause-traces g c = λ last run. (
   kept_in_trace g.P.EventCallback.gives g.C.Callbacks.meanings c.args.tag 0 c.args.calls.items c.loop-call.answers.items last run,
   held_in_trace g.P.EventCallback.gives g.C.Callbacks.meanings c.args.tag 0 c.args.calls.items c.loop-call.answers.items last run,
 )
+
+pub returns-clause-sent : goal.returns-clause-sent
+returns-clause-sent g c = sent_in_trace g.P.EventCallback.gives g.C.Callbacks.meanings c.args.tag 0 c.args.calls.items c.loop-call.answers.items
 
 pub returns-clause-reports : goal.returns-clause-reports
 returns-clause-reports g c = reports_add_up g.P.EventCallback.gives g.C.Callbacks.meanings c.args.tag 0 c.args.calls.items c.loop-call.answers.items
@@ -91,6 +100,9 @@ returns-clause-layers g c = all_pushes_undone g.P.EventCallback.gives g.C.Callba
 
 pub returns-clause-status : goal.returns-clause-status
 returns-clause-status g c = statuses_stay g.P.EventCallback.gives g.C.Callbacks.meanings c.args.tag 0 c.args.calls.items c.loop-call.answers.items
+
+pub returns-clause-kept : goal.returns-clause-kept
+returns-clause-kept g c = statuses_kept g.P.EventCallback.gives g.C.Callbacks.meanings c.args.tag 0 c.args.calls.items c.loop-call.answers.items
 
 pub returns-clause-once : goal.returns-clause-once
 returns-clause-once g c = all_ends_silent g.P.EventCallback.gives g.C.Callbacks.meanings c.args.tag 0 c.args.calls.items c.loop-call.answers.items

@@ -5,13 +5,13 @@ use Rattle.sentry_base.specs.declared.protocol.keys.TransactionOrSpanKey.{Transa
 use Rattle.sentry_base.specs.declared.protocol.keys.TransactionOrSpanKey.TheVariants.{Transaction, Span}
 use Rattle.sentry_base.specs.declared.protocol.refusal.Refusal.TheVariants.{Stale, StillNamed}
 use Rattle.sentry_hub_table.specs.Hubs.{is_span_named, is_transaction_named}
-use Rattle.sentry_hub_table.specs.declared.hub.Hub.{Hub}
+use Rattle.sentry_hub_table.specs.declared.hub.HubState.{HubState}
 use Rattle.sentry_span_table.specs.SpanTables.{has_span_of}
 use Rattle.sentry_state.specs.Outcomes.{Outcome, stored_transaction_at, reply_with, require, require_some, span_at}
 use Rattle.sentry_state.specs.Worlds.{World, span_table}
 
 -- the scope of a layer of a hub names it
-abbrev pub is_active_on : {P : Type 0} → TransactionOrSpanKey → List (ℕ × Hub P) → Bool
+abbrev pub is_active_on : {P : Type 0} → TransactionOrSpanKey → List (ℕ × HubState P) → Bool
 is_active_on (Transaction key) hubs = is_transaction_named key hubs
 is_active_on (Span key) hubs = is_span_named key hubs
 

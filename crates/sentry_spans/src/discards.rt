@@ -1,11 +1,11 @@
 //! The call by which a transaction or a span is forgotten.
 ghost use Rattle.sentry_base.specs.declared.protocol.keys.TransactionOrSpanKey.TheVariants as key_of;
-ghost use Rattle.sentry_span_edits.specs.Discards as call;
+ghost use Rattle.sentry_spans.specs.Discards as call;
 ghost use Rattle.sentry_state.specs.Outcomes.{DoesWithoutMemory};
 
 use sentry_base::protocol::{Refusal, SpanKey, TransactionKey, TransactionOrSpanKey};
-use sentry_options::clientoptions::Callbacks;
-use sentry_state::state::{Out, State};
+use sentry_options::Callbacks;
+use sentry_state::{Out, State};
 
 // Forgets a transaction.
 #[tactic(auto, unfolding(crate::specs::Discards::discard), using(sentry_state::proofs::SpanKeeping::has_span_in_world))]
