@@ -16,54 +16,55 @@ use Rattle.sentry_framing.specs.Receiver.{read_envelope}
 use Rattle.sentry_framing.specs.Headers.{HasLines, MembersHaveLines, IsHeader, IsSendable}
 use Rattle.sentry_framing.proofs.Received.{AreSendable, AreSendable-append, read_envelope-envelope_text}
 use Rattle.sentry_framing.proofs.Headed.{each, MembersHaveNumbers-optional, MembersHaveLines-optional, members_depth-optional}
-use Rattle.sentry_envelope.specs.Envelopes.{item_parts, headers_json, trace_json, PayloadReadsBack}
+use Rattle.sentry_envelope.specs.Envelopes.{Stacktraces, item_parts, headers_json, trace_json, PayloadReadsBack}
 
 -- a receiver can read these items, and what was written as JSON in them
-pub record AreReadable (items : List EnvelopeItem) : Type 0 where
-  pub sendable : AreSendable (map item_parts items)
-  pub payloads : All PayloadReadsBack items
+pub record AreReadable (ss : Stacktraces) (items : List EnvelopeItem) : Type 0 where
+  pub sendable : AreSendable (map (item_parts ss) items)
+  pub payloads : All (PayloadReadsBack ss) items
 
-pub AreReadable-none : AreReadable []
-AreReadable-none = record { sendable = tt; payloads = λ k d within. absurd (omega arith) }
+pub AreReadable-none : (ss : Stacktraces) → AreReadable ss []
+AreReadable-none ss = record { sendable = tt; payloads = λ k d within. absurd (omega arith) }
 
-pub AreReadable-push : (items : List EnvelopeItem) (i : EnvelopeItem) → AreReadable items → IsSendable (item_parts i) → PayloadReadsBack i → AreReadable (items ++ i ∷ [])
-AreReadable-push items i h s p =
-    let parts : map item_parts (items ++ i ∷ []) ≡ map item_parts items ++ item_parts i ∷ [] = map-append item_parts items (i ∷ []) in
+pub AreReadable-push : (ss : Stacktraces) (items : List EnvelopeItem) (i : EnvelopeItem) → AreReadable ss items → IsSendable (item_parts ss i) → PayloadReadsBack ss i
+    → AreReadable ss (items ++ i ∷ [])
+AreReadable-push ss items i h s p =
+    let parts : map (item_parts ss) (items ++ i ∷ []) ≡ map (item_parts ss) items ++ item_parts ss i ∷ [] = map-append (item_parts ss) items (i ∷ []) in
     record {
-      sendable = subst AreSendable (sym parts) (AreSendable-append (map item_parts items) (item_parts i ∷ []) h.sendable (s, tt));
-      payloads = All-push PayloadReadsBack items i h.payloads p;
+      sendable = subst AreSendable (sym parts) (AreSendable-append (map (item_parts ss) items) (item_parts ss i ∷ []) h.sendable (s, tt));
+      payloads = All-push (PayloadReadsBack ss) items i h.payloads p;
     }
 
-pub AreReadable-more : (items : List EnvelopeItem) (i : ℕ) (x : EnvelopeItem) → i < length items → x ≡ get_or items i x → AreReadable (take i items)
-    → IsSendable (item_parts x) → PayloadReadsBack x → AreReadable (take (i + 1) items)
-AreReadable-more items i x within is h s p =
+pub AreReadable-more : (ss : Stacktraces) (items : List EnvelopeItem) (i : ℕ) (x : EnvelopeItem) → i < length items → x ≡ get_or items i x → AreReadable ss (take i items)
+    → IsSendable (item_parts ss x) → PayloadReadsBack ss x → AreReadable ss (take (i + 1) items)
+AreReadable-more ss items i x within is h s p =
     let more : take (i + 1) items ≡ take i items ++ x ∷ [] = take_more items i x within ∙ ap (λ (y : EnvelopeItem). take i items ++ y ∷ []) (sym is) in
-    subst AreReadable (sym more) (AreReadable-push (take i items) x h s p)
+    subst (AreReadable ss) (sym more) (AreReadable-push ss (take i items) x h s p)
 
 -- the text has the header and these items, which a receiver can read
-pub record HasSent (header : Json) (bytes : Bytes) (items : List EnvelopeItem) : Type 0 where
-  pub text : bytes ≡ envelope_text header (map item_parts items)
-  pub readable : AreReadable items
+pub record HasSent (ss : Stacktraces) (header : Json) (bytes : Bytes) (items : List EnvelopeItem) : Type 0 where
+  pub text : bytes ≡ envelope_text header (map (item_parts ss) items)
+  pub readable : AreReadable ss items
 
-pub HasSent-none : (header : Json) (text : Bytes) → text ≡ line (json_text header) → HasSent header text []
-HasSent-none header text e = record { text = e ∙ sym (append-nil (line (json_text header))); readable = AreReadable-none }
+pub HasSent-none : (ss : Stacktraces) (header : Json) (text : Bytes) → text ≡ line (json_text header) → HasSent ss header text []
+HasSent-none ss header text e = record { text = e ∙ sym (append-nil (line (json_text header))); readable = AreReadable-none ss }
 
 flat_map-push : (items : List Item) (i : Item) → flat_map item_text (items ++ i ∷ []) ≡ flat_map item_text items ++ item_text i
 flat_map-push [] i = append-nil (item_text i)
 flat_map-push (j ∷ items) i = ap (λ ts. item_text j ++ ts) (flat_map-push items i) ∙ sym (append_assoc (item_text j) (flat_map item_text items) (item_text i))
 
-pub HasSent-push : (header : Json) (old new : Bytes) (items : List EnvelopeItem) (i : EnvelopeItem) → HasSent header old items
-    → new ≡ old ++ item_text (item_parts i) → IsSendable (item_parts i) → PayloadReadsBack i → HasSent header new (items ++ i ∷ [])
-HasSent-push header old new items i h e s p =
-    let parts : map item_parts (items ++ i ∷ []) ≡ map item_parts items ++ item_parts i ∷ [] = map-append item_parts items (i ∷ []) in
+pub HasSent-push : (ss : Stacktraces) (header : Json) (old new : Bytes) (items : List EnvelopeItem) (i : EnvelopeItem) → HasSent ss header old items
+    → new ≡ old ++ item_text (item_parts ss i) → IsSendable (item_parts ss i) → PayloadReadsBack ss i → HasSent ss header new (items ++ i ∷ [])
+HasSent-push ss header old new items i h e s p =
+    let parts : map (item_parts ss) (items ++ i ∷ []) ≡ map (item_parts ss) items ++ item_parts ss i ∷ [] = map-append (item_parts ss) items (i ∷ []) in
     let head = line (json_text header) in
     record {
       text =
-          e ∙ ap (λ ts. ts ++ item_text (item_parts i)) h.text
-          ∙ append_assoc head (flat_map item_text (map item_parts items)) (item_text (item_parts i))
-          ∙ ap (λ ts. head ++ ts) (sym (flat_map-push (map item_parts items) (item_parts i)))
+          e ∙ ap (λ ts. ts ++ item_text (item_parts ss i)) h.text
+          ∙ append_assoc head (flat_map item_text (map (item_parts ss) items)) (item_text (item_parts ss i))
+          ∙ ap (λ ts. head ++ ts) (sym (flat_map-push (map (item_parts ss) items) (item_parts ss i)))
           ∙ ap (envelope_text header) (sym parts);
-      readable = AreReadable-push items i h.readable s p;
+      readable = AreReadable-push ss items i h.readable s p;
     }
 
 -- ---- the header of an envelope can be read
@@ -117,18 +118,18 @@ IsHeader-headers_json headers utf8 = record {
 }
 
 -- a receiver takes apart what was sent
-pub receives : (headers : EnvelopeHeaders) (items : List EnvelopeItem) → IsHeader (headers_json headers) → AreReadable items
-    → read_envelope (envelope_text (headers_json headers) (map item_parts items)) ≡ Some (headers_json headers, map item_parts items)
-receives headers items readable h = read_envelope-envelope_text (headers_json headers) (map item_parts items) readable h.sendable
+pub receives : (ss : Stacktraces) (headers : EnvelopeHeaders) (items : List EnvelopeItem) → IsHeader (headers_json headers) → AreReadable ss items
+    → read_envelope (envelope_text (headers_json headers) (map (item_parts ss) items)) ≡ Some (headers_json headers, map (item_parts ss) items)
+receives ss headers items readable h = read_envelope-envelope_text (headers_json headers) (map (item_parts ss) items) readable h.sendable
 
 -- ---- an envelope that is written an item at a time
 
 -- the text of the items that are left
 abbrev pub items_text : List EnvelopeItem → Bytes
-items_text items = flat_map item_text (map item_parts items)
+items_text items = flat_map item_text (map (item_parts []) items)
 
 pub items_text-next : (items : List EnvelopeItem) (i : ℕ) (d : EnvelopeItem) → i < length items
-    → items_text (drop i items) ≡ item_text (item_parts (get_or items i d)) ++ items_text (drop (i + 1) items)
+    → items_text (drop i items) ≡ item_text (item_parts [] (get_or items i d)) ++ items_text (drop (i + 1) items)
 items_text-next items i d h =
     let at : drop i items ≡ get_or items i d ∷ drop (i + 1) items = rw add-one (drop-cons items i d h) in
     ap items_text at

@@ -1,5 +1,6 @@
 -- The JSON of contexts.
-use Rattle.std.specs.Prelude.{codes, List, Option}
+use Rattle.std.specs.Prelude.{codes, Bool, List, Option}
+use Rattle.std.specs.Str.{bytes_eq}
 use Rattle.json.specs.Json.{Json, string, object, no_members, member}
 use Rattle.sentry_plain.specs.Texts.{Bytes}
 use Rattle.sentry_plain.specs.Values.{Data}
@@ -9,7 +10,7 @@ use Rattle.sentry_base.specs.declared.protocol.context.TraceContext.{TraceContex
 use Rattle.sentry_framing.specs.Json.{optional}
 use Rattle.sentry_envelope.specs.Breadcrumbs.{put_values}
 use Rattle.sentry_envelope.specs.Ids.{span_id_json, trace_id_json}
-use Rattle.sentry_envelope.specs.Members.{put_entries}
+use Rattle.sentry_envelope.specs.Members.{put_others}
 use Rattle.sentry_envelope.specs.Statuses.{span_status_json}
 use Rattle.sentry_envelope.specs.Values.{value_json}
 
@@ -33,10 +34,14 @@ os_json name version = object
     (optional string (codes "version") version
     no_members)))
 
+-- the name of the member that a context of no kind that is known here has beside its values
+abbrev pub other_own : Bytes → Bool
+other_own name = bytes_eq name (codes "type")
+
 abbrev pub other_json : List (Bytes × Data) → Json
 other_json values = object
     (member (codes "type") (string (codes "unknown"))
-    (put_entries value_json values
+    (put_others other_own value_json values
     no_members))
 
 abbrev pub context_json : Context → Json

@@ -1,8 +1,9 @@
 -- Envelopes: the JSON of their headers, and their items as they are sent.
-use Rattle.std.specs.Prelude.{ℕ, ◌*◌, length, Bool, true, false, Some, None, unwrap_or, codes, map}
+use Rattle.std.specs.Prelude.{ℕ, ◌*◌, List, [], length, Bool, true, false, Option, Some, None, unwrap_or, codes, map}
 use Rattle.json.specs.Json.{Json, string, object, no_members}
 use Rattle.uuid.specs.Text.{hyphenated_text, simple_text, lower}
 use Rattle.sentry_plain.specs.Texts.{Bytes}
+use Rattle.sentry_plain.specs.declared.value.Value.{Value}
 use Rattle.sentry_base.specs.declared.protocol.attachment.Attachment.{Attachment}
 use Rattle.sentry_base.specs.declared.protocol.envelope.Envelope.{Envelope}
 use Rattle.sentry_base.specs.declared.protocol.envelope.EnvelopeHeaders.{EnvelopeHeaders}
@@ -74,25 +75,33 @@ item_header (item.Logs logs) = list_header (codes "log") (length logs) (codes "a
 item_header (item.Metrics metrics) = list_header (codes "trace_metric") (length metrics) (codes "application/vnd.sentry.items.trace-metric+json")
 item_header (item.ClientReport report) = record_header (codes "client_report")
 
+-- the stack traces that go with an envelope: of each exception of its event, in their order, or of the event if it has none
+abbrev pub Stacktraces : Type 0
+Stacktraces = List (Option Value)
+
 -- what follows the header of an item
-abbrev pub item_content : EnvelopeItem → Content
-item_content (item.Event event) = json (event_json event)
-item_content (item.SessionUpdate session) = json (session_json session)
-item_content (item.SessionAggregates aggregates) = json (aggregates_json aggregates)
-item_content (item.Transaction transaction) = json (transaction_json transaction)
-item_content (item.Attachment attachment) = file attachment.buffer
-item_content (item.Logs logs) = json (logs_json logs)
-item_content (item.Metrics metrics) = json (metrics_json metrics)
-item_content (item.ClientReport report) = json (report_json report)
+abbrev pub item_content : Stacktraces → EnvelopeItem → Content
+item_content stacktraces (item.Event event) = json (event_json stacktraces event)
+item_content stacktraces (item.SessionUpdate session) = json (session_json session)
+item_content stacktraces (item.SessionAggregates aggregates) = json (aggregates_json aggregates)
+item_content stacktraces (item.Transaction transaction) = json (transaction_json transaction)
+item_content stacktraces (item.Attachment attachment) = file attachment.buffer
+item_content stacktraces (item.Logs logs) = json (logs_json logs)
+item_content stacktraces (item.Metrics metrics) = json (metrics_json metrics)
+item_content stacktraces (item.ClientReport report) = json (report_json report)
 
 -- the header and the payload of an item
-abbrev pub item_parts : EnvelopeItem → lines.Item
-item_parts i = sent (item_header i) (content_text (item_content i))
+abbrev pub item_parts : Stacktraces → EnvelopeItem → lines.Item
+item_parts stacktraces i = sent (item_header i) (content_text (item_content stacktraces i))
 
 -- the JSON of an item's payload is read back from it
-abbrev pub PayloadReadsBack : EnvelopeItem → Type 0
-PayloadReadsBack i = ReadsBack (item_content i)
+abbrev pub PayloadReadsBack : Stacktraces → EnvelopeItem → Type 0
+PayloadReadsBack stacktraces i = ReadsBack (item_content stacktraces i)
+
+-- the bytes of an envelope, with stack traces
+abbrev pub text_with : Stacktraces → Envelope → Bytes
+text_with stacktraces envelope = lines.envelope_text (headers_json envelope.header) (map (item_parts stacktraces) envelope.items)
 
 -- the bytes of an envelope
 abbrev pub envelope_text : Envelope → Bytes
-envelope_text envelope = lines.envelope_text (headers_json envelope.header) (map item_parts envelope.items)
+envelope_text envelope = text_with [] envelope

@@ -17,3 +17,4 @@ pub mod Logs
 pub mod Metrics
 pub mod Events
 pub mod Envelopes
+pub mod Names

@@ -1,12 +1,12 @@
 //! Counts of sessions.
 ghost use Rattle.std.specs.Prelude.{◌≡◌, OnOk};
-ghost use Rattle.json.specs.Json.{array};
 ghost use Rattle.json.specs.Tree.{json_tokens};
-ghost use Rattle.sentry_framing.specs.Json.{Adds, Puts, items_of};
-ghost use Rattle.sentry_envelope.specs.Aggregates.{aggregates_json, counts_json, put_count};
+ghost use Rattle.sentry_framing.specs.Json.{Adds, Puts};
+ghost use Rattle.sentry_envelope.specs.Aggregates.{aggregates_json, put_count};
 
 use crate::sessions::write_attributes;
 use crate::texts::put_optional;
+use crate::write_json::{WriteJson, write_items};
 use json::Writer;
 use sentry_base::protocol::{SessionAggregateItem, SessionAggregates};
 use sentry_framing::members::{put_moment, put_whole};
@@ -22,29 +22,22 @@ fn put_count(out: &mut Writer, key: &str, count: u32) -> Result<(), AllocError>
     Ok(())
 }
 
-fn write_counts(out: &mut Writer, counts: &SessionAggregateItem) -> Result<(), AllocError>
-    ensures { OnOk result (Adds out.old out.new (json_tokens (counts_json counts.now))) }
-{
-    out.begin_object()?;
-    put_moment(out, "started", counts.started)?;
-    put_optional(out, "did", &counts.distinct_id)?;
-    put_count(out, "exited", counts.exited)?;
-    put_count(out, "errored", counts.errored)?;
-    put_count(out, "abnormal", counts.abnormal)?;
-    put_count(out, "crashed", counts.crashed)?;
-    out.end_object()?;
-    Ok(())
-}
+impl WriteJson for SessionAggregateItem {
+    ghost use Rattle.sentry_envelope.specs.Aggregates.{counts_json};
 
-fn write_count_list(out: &mut Writer, counts: &[SessionAggregateItem]) -> Result<(), AllocError>
-    ensures { OnOk result (Adds out.old out.new (json_tokens (array (items_of counts_json counts.now)))) }
-{
-    out.begin_array()?;
-    for item in counts {
-        write_counts(out, item)?;
+    ghost json = { counts_json };
+
+    fn write(&self, out: &mut Writer) -> Result<(), AllocError> {
+        out.begin_object()?;
+        put_moment(out, "started", self.started)?;
+        put_optional(out, "did", &self.distinct_id)?;
+        put_count(out, "exited", self.exited)?;
+        put_count(out, "errored", self.errored)?;
+        put_count(out, "abnormal", self.abnormal)?;
+        put_count(out, "crashed", self.crashed)?;
+        out.end_object()?;
+        Ok(())
     }
-    out.end_array()?;
-    Ok(())
 }
 
 /// Writes counts of sessions.
@@ -53,7 +46,7 @@ pub fn write_aggregates(out: &mut Writer, aggregates: &SessionAggregates) -> Res
 {
     out.begin_object()?;
     out.key("aggregates")?;
-    write_count_list(out, aggregates.aggregates.as_slice())?;
+    write_items(out, aggregates.aggregates.as_slice())?;
     out.key("attrs")?;
     write_attributes(out, aggregates.attributes.get())?;
     out.end_object()?;

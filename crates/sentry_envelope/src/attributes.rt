@@ -94,7 +94,6 @@ fn write_attributes(
 /// Writes the attributes of a log or a metric, if there are any.
 pub fn put_attributes(
     out: &mut Writer,
-    alloc: Global,
     attributes: &TextMap<LogAttribute>,
 ) -> Result<(), AllocError>
     ensures { OnOk result (Puts out.old out.new
@@ -104,6 +103,6 @@ pub fn put_attributes(
         return Ok(());
     }
     out.key("attributes")?;
-    write_attributes(out, alloc, attributes)?;
+    write_attributes(out, attributes.allocator(), attributes)?;
     Ok(())
 }

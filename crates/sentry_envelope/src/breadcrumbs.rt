@@ -6,6 +6,7 @@ ghost use Rattle.sentry_envelope.specs.Breadcrumbs.{put_values, breadcrumb_json}
 
 use crate::texts::put_optional;
 use crate::values::write_map;
+use crate::write_json::WriteJson;
 use json::Writer;
 use sentry_base::protocol::{Breadcrumb, ValueMap};
 use sentry_framing::members::{put_seconds, put_text};
@@ -23,17 +24,20 @@ pub fn put_values(out: &mut Writer, key: &str, values: &ValueMap) -> Result<(), 
     Ok(())
 }
 
-/// Writes a breadcrumb.
-pub fn write_breadcrumb(out: &mut Writer, breadcrumb: &Breadcrumb) -> Result<(), AllocError>
-    ensures { OnOk result (Adds out.old out.new (json_tokens (breadcrumb_json breadcrumb.now))) }
-{
-    out.begin_object()?;
-    put_seconds(out, "timestamp", breadcrumb.timestamp)?;
-    put_text(out, "type", breadcrumb.ty.as_str())?;
-    put_optional(out, "category", &breadcrumb.category)?;
-    put_text(out, "level", breadcrumb.level.as_str())?;
-    put_optional(out, "message", &breadcrumb.message)?;
-    put_values(out, "data", &breadcrumb.data_)?;
-    out.end_object()?;
-    Ok(())
+impl WriteJson for Breadcrumb {
+    ghost use Rattle.sentry_envelope.specs.Breadcrumbs.{breadcrumb_json};
+
+    ghost json = { breadcrumb_json };
+
+    fn write(&self, out: &mut Writer) -> Result<(), AllocError> {
+        out.begin_object()?;
+        put_seconds(out, "timestamp", self.timestamp)?;
+        put_text(out, "type", self.ty.as_str())?;
+        put_optional(out, "category", &self.category)?;
+        put_text(out, "level", self.level.as_str())?;
+        put_optional(out, "message", &self.message)?;
+        put_values(out, "data", &self.data_)?;
+        out.end_object()?;
+        Ok(())
+    }
 }

@@ -1,20 +1,19 @@
 //! Contexts.
-ghost use Rattle.std.specs.Prelude.{◌≡◌, OnOk, codes};
-ghost use Rattle.json.specs.Json.{member, no_members, object, string};
+ghost use Rattle.std.specs.Prelude.{◌≡◌, OnOk};
 ghost use Rattle.json.specs.Tree.{json_tokens};
-ghost use Rattle.sentry_framing.specs.Json.{Adds, Puts};
-ghost use Rattle.sentry_envelope.specs.Contexts.{context_json, os_json, other_json, trace_context_json};
-ghost use Rattle.sentry_envelope.specs.Members.{map_json, put_map};
+ghost use Rattle.sentry_framing.specs.Json.{Adds};
+ghost use Rattle.sentry_envelope.specs.Contexts.{os_json, other_json, trace_context_json};
 
 use crate::breadcrumbs::put_values;
-use crate::collections::put_entries;
 use crate::ids::{put_optional_span_id, put_span_id, put_trace_id};
+use crate::own_members::{OwnMembers, put_others};
 use crate::statuses::put_status;
 use crate::texts::put_optional;
+use crate::write_json::WriteJson;
 use json::Writer;
 use sentry_base::protocol::{Context, TraceContext, ValueMap};
 use sentry_framing::members::put_text;
-use sentry_plain::{Text, TextMap};
+use sentry_plain::Text;
 use std::alloc::AllocError;
 
 fn write_trace_context(out: &mut Writer, trace: &TraceContext) -> Result<(), AllocError>
@@ -45,46 +44,39 @@ fn write_os(out: &mut Writer, name: &Option<Text>, version: &Option<Text>) -> Re
     Ok(())
 }
 
+// What a context of no kind that is known here has beside its values: a type.
+struct Untyped;
+
+impl OwnMembers for Untyped {
+    ghost use Rattle.sentry_envelope.specs.Contexts.{other_own};
+
+    ghost own = { λ _. other_own };
+
+    fn has_own(&self, name: &str) -> bool {
+        name == "type"
+    }
+}
+
 fn write_other(out: &mut Writer, values: &ValueMap) -> Result<(), AllocError>
     ensures { OnOk result (Adds out.old out.new (json_tokens (other_json values.now))) }
 {
     out.begin_object()?;
     put_text(out, "type", "unknown")?;
-    put_entries(out, values)?;
+    put_others(out, &Untyped, values)?;
     out.end_object()?;
     Ok(())
 }
 
-fn write_context(out: &mut Writer, context: &Context) -> Result<(), AllocError>
-    ensures { OnOk result (Adds out.old out.new (json_tokens (context_json context.now))) }
-{
-    match context {
-        Context::Trace(trace) => write_trace_context(out, trace),
-        Context::Os { name, version } => write_os(out, name, version),
-        Context::Other(values) => write_other(out, values),
-    }
-}
+impl WriteJson for Context {
+    ghost use Rattle.sentry_envelope.specs.Contexts.{context_json};
 
-fn write_contexts(out: &mut Writer, contexts: &TextMap<Context>) -> Result<(), AllocError>
-    ensures { OnOk result (Adds out.old out.new (json_tokens (map_json context_json contexts.now))) }
-{
-    out.begin_object()?;
-    for (key, context) in contexts.iter() {
-        out.key(key)?;
-        write_context(out, context)?;
-    }
-    out.end_object()?;
-    Ok(())
-}
+    ghost json = { context_json };
 
-/// Writes contexts by key, if there are any.
-pub fn put_contexts(out: &mut Writer, contexts: &TextMap<Context>) -> Result<(), AllocError>
-    ensures { OnOk result (Puts out.old out.new (put_map context_json (codes "contexts") contexts.now)) }
-{
-    if contexts.is_empty() {
-        return Ok(());
+    fn write(&self, out: &mut Writer) -> Result<(), AllocError> {
+        match self {
+            Context::Trace(trace) => write_trace_context(out, trace),
+            Context::Os { name, version } => write_os(out, name, version),
+            Context::Other(values) => write_other(out, values),
+        }
     }
-    out.key("contexts")?;
-    write_contexts(out, contexts)?;
-    Ok(())
 }

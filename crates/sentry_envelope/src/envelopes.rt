@@ -1,5 +1,5 @@
 //! Whole envelopes.
-ghost use Rattle.std.specs.Prelude.{◌≡◌, ◌++◌, ◌*◌, IfOk, OnOk, OnErr, Some, All, map, codes};
+ghost use Rattle.std.specs.Prelude.{◌≡◌, ◌++◌, ◌*◌, [], IfOk, OnOk, OnErr, Some, All, map, codes};
 ghost use Rattle.json.specs.Tree.{json_tokens};
 ghost use Rattle.sentry_framing.specs.Json.{Adds, Puts, optional, json_text};
 ghost use Rattle.std.specs.Io.KnownBytes.{Appends};
@@ -10,12 +10,13 @@ ghost use Rattle.sentry_framing.specs.Moments.{seconds_text};
 ghost use Rattle.sentry_framing.specs.Receiver.{read_envelope};
 ghost use Rattle.json.specs.Json.{string};
 ghost use Rattle.uuid.specs.Text.{hyphenated_text, simple_text, lower};
-ghost use Rattle.sentry_envelope.specs.Envelopes.{trace_json, headers_json, item_parts, PayloadReadsBack, envelope_text, truth_text};
+ghost use Rattle.sentry_envelope.specs.Envelopes.{trace_json, headers_json, item_parts, PayloadReadsBack, text_with, envelope_text, truth_text};
+ghost use Rattle.sentry_envelope.specs.Names.{HasNamesOnce};
 
 use crate::items::push_envelope_item;
 use crate::texts::{put_hyphenated, put_optional, put_simple};
 use json::Writer;
-use sentry_base::protocol::{DynamicSamplingContext, Envelope, EnvelopeHeaders, Uuid};
+use sentry_base::protocol::{DynamicSamplingContext, Envelope, EnvelopeHeaders, Uuid, Value};
 use sentry_framing::members::put_text;
 use sentry_framing::moments::seconds_text;
 use sentry_framing::sending::write_bytes;
@@ -132,12 +133,37 @@ fn header_line(alloc: Global, headers: &EnvelopeHeaders) -> Result<Vec<u8>, Allo
 pub fn to_vec(alloc: Global, envelope: &Envelope) -> Result<Vec<u8>, AllocError>
     ensures text { IfOk result (λ text. text.items ≡ envelope_text envelope.now) }
     ensures reads_back { IfOk result (λ text. read_envelope text.items
-        ≡ Some (headers_json envelope.now.header, map item_parts envelope.now.items)) }
-    ensures payloads { IfOk result (λ _. All PayloadReadsBack envelope.now.items) }
+        ≡ Some (headers_json envelope.now.header, map (item_parts []) envelope.now.items)) }
+    ensures payloads { IfOk result (λ _. All (PayloadReadsBack []) envelope.now.items) }
+    ensures names { IfOk result (λ _. All (HasNamesOnce []) envelope.now.items) }
+{
+    let text = to_vec_with_stacktraces(alloc, envelope, &[])?;
+    Ok(text)
+}
+
+/// The bytes of an envelope, with the stack traces of its event, which no record has. Each is a value of the protocol's
+/// form, `{"frames": [..]}`, and is written as it is. The one at an index becomes the last member, `stacktrace`, of the
+/// event's exception at that index; the first is the event's own if it has no exception. `None`, and what is beyond
+/// the last, is written as nothing. Other items have no stack traces; should the caller have put several events into
+/// the envelope, each gets them.
+pub fn to_vec_with_stacktraces(
+    alloc: Global,
+    envelope: &Envelope,
+    stacktraces: &[Option<Value>],
+) -> Result<Vec<u8>, AllocError>
+    ensures text { IfOk result (λ text. text.items ≡ text_with stacktraces.now envelope.now) }
+    ensures reads_back { IfOk result (λ text. read_envelope text.items
+        ≡ Some (
+          headers_json envelope.now.header,
+          map (item_parts stacktraces.now) envelope.now.items,
+        )) }
+    ensures payloads { IfOk result
+        (λ _. All (PayloadReadsBack stacktraces.now) envelope.now.items) }
+    ensures names { IfOk result (λ _. All (HasNamesOnce stacktraces.now) envelope.now.items) }
 {
     let mut text = header_line(alloc, &envelope.header)?;
     for item in envelope.items.as_slice() {
-        text = push_envelope_item(alloc, text, item)?;
+        text = push_envelope_item(alloc, text, item, stacktraces)?;
     }
     Ok(text)
 }
@@ -150,13 +176,13 @@ pub fn to_writer<W: Write>(alloc: Global, envelope: &Envelope, writer: &mut W) -
     ensures err { OnErr result
         (AppendsFront (W.contents writer.old) (W.contents writer.new) (envelope_text envelope.now)) }
     ensures reads_back { OnOk result (read_envelope (envelope_text envelope.now)
-        ≡ Some (headers_json envelope.now.header, map item_parts envelope.now.items)) }
-    ensures payloads { OnOk result (All PayloadReadsBack envelope.now.items) }
+        ≡ Some (headers_json envelope.now.header, map (item_parts []) envelope.now.items)) }
+    ensures payloads { OnOk result (All (PayloadReadsBack []) envelope.now.items) }
 {
     let header = header_line(alloc, &envelope.header)?;
     write_bytes(writer, header.as_slice())?;
     for item in envelope.items.as_slice() {
-        let text = push_envelope_item(alloc, Vec::new(alloc), item)?;
+        let text = push_envelope_item(alloc, Vec::new(alloc), item, &[])?;
         write_bytes(writer, text.as_slice())?;
     }
     Ok(())

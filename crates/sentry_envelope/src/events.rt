@@ -1,33 +1,22 @@
 //! Events.
-ghost use Rattle.std.specs.Prelude.{◌≡◌, OnOk, codes};
+ghost use Rattle.std.specs.Prelude.{◌≡◌, OnOk, None, codes, get_or};
 ghost use Rattle.json.specs.Json.{array, boolean};
 ghost use Rattle.json.specs.Tree.{json_tokens};
 ghost use Rattle.sentry_framing.specs.Json.{Adds, Puts, items_of, optional};
 ghost use Rattle.sentry_envelope.specs.Breadcrumbs.{breadcrumb_json};
-ghost use Rattle.sentry_envelope.specs.Events.{put_list, mechanism_json, exception_json, event_json};
+ghost use Rattle.sentry_envelope.specs.Events.{put_list, mechanism_json, stacktrace_json, exception_json, exceptions_json, put_exceptions, event_json};
 
-use crate::breadcrumbs::{put_values, write_breadcrumb};
-use crate::collections::{put_text_map, write_texts};
-use crate::contexts::put_contexts;
+use crate::breadcrumbs::put_values;
 use crate::requests::put_request;
 use crate::sdks::put_sdk;
 use crate::texts::{put_optional, put_simple};
 use crate::users::put_user;
+use crate::values::write_value;
+use crate::write_json::{put_text_map, write_items};
 use json::Writer;
-use sentry_base::protocol::{Breadcrumb, Event, Exception, Mechanism};
+use sentry_base::protocol::{Breadcrumb, Event, Exception, Mechanism, Value};
 use sentry_framing::members::{put_boolean, put_seconds, put_text};
 use std::alloc::AllocError;
-
-fn write_breadcrumbs(out: &mut Writer, breadcrumbs: &[Breadcrumb]) -> Result<(), AllocError>
-    ensures { OnOk result (Adds out.old out.new (json_tokens (array (items_of breadcrumb_json breadcrumbs.now)))) }
-{
-    out.begin_array()?;
-    for breadcrumb in breadcrumbs {
-        write_breadcrumb(out, breadcrumb)?;
-    }
-    out.end_array()?;
-    Ok(())
-}
 
 fn put_breadcrumbs(out: &mut Writer, breadcrumbs: &[Breadcrumb]) -> Result<(), AllocError>
     ensures { OnOk result (Puts out.old out.new (put_list breadcrumb_json (codes "breadcrumbs") breadcrumbs.now)) }
@@ -38,7 +27,7 @@ fn put_breadcrumbs(out: &mut Writer, breadcrumbs: &[Breadcrumb]) -> Result<(), A
     out.key("breadcrumbs")?;
     out.begin_object()?;
     out.key("values")?;
-    write_breadcrumbs(out, breadcrumbs)?;
+    write_items(out, breadcrumbs)?;
     out.end_object()?;
     Ok(())
 }
@@ -78,51 +67,104 @@ fn put_mechanism(out: &mut Writer, mechanism: &Option<Mechanism>) -> Result<(), 
     }
 }
 
-fn write_exception(out: &mut Writer, exception: &Exception) -> Result<(), AllocError>
-    ensures { OnOk result (Adds out.old out.new (json_tokens (exception_json exception.now))) }
+fn put_stacktrace(out: &mut Writer, stacktrace: &Option<Value>) -> Result<(), AllocError>
+    ensures { OnOk result (Puts out.old out.new
+        (optional stacktrace_json (codes "stacktrace") stacktrace.now)) }
+{
+    match stacktrace {
+        None => Ok(()),
+        Some(stacktrace) => {
+            out.key("stacktrace")?;
+            write_value(out, stacktrace)?;
+            Ok(())
+        }
+    }
+}
+
+// Writes the stack trace at an index, if there is one.
+fn put_stacktrace_at(
+    out: &mut Writer,
+    stacktraces: &[Option<Value>],
+    index: usize,
+) -> Result<(), AllocError>
+    ensures { OnOk result (Puts out.old out.new
+        (optional stacktrace_json (codes "stacktrace") (get_or stacktraces.now index None))) }
+{
+    if index < stacktraces.len() {
+        put_stacktrace(out, &stacktraces[index])?;
+    }
+    Ok(())
+}
+
+fn write_exception(
+    out: &mut Writer,
+    exception: &Exception,
+    stacktraces: &[Option<Value>],
+    index: usize,
+) -> Result<(), AllocError>
+    ensures { OnOk result (Adds out.old out.new
+        (json_tokens (exception_json (get_or stacktraces.now index None) exception.now))) }
 {
     out.begin_object()?;
     put_text(out, "type", exception.ty.as_str())?;
     put_optional(out, "value", &exception.value)?;
     put_mechanism(out, &exception.mechanism)?;
+    put_stacktrace_at(out, stacktraces, index)?;
     out.end_object()?;
     Ok(())
 }
 
-fn write_exceptions(out: &mut Writer, exceptions: &[Exception]) -> Result<(), AllocError>
-    ensures { OnOk result (Adds out.old out.new (json_tokens (array (items_of exception_json exceptions.now)))) }
+fn write_exceptions(
+    out: &mut Writer,
+    exceptions: &[Exception],
+    stacktraces: &[Option<Value>],
+) -> Result<(), AllocError>
+    ensures { OnOk result (Adds out.old out.new
+        (json_tokens (array (exceptions_json stacktraces.now 0 exceptions.now)))) }
 {
     out.begin_array()?;
-    for exception in exceptions {
-        write_exception(out, exception)?;
+    let mut index = 0;
+    while index < exceptions.len() {
+        write_exception(out, &exceptions[index], stacktraces, index)?;
+        index += 1;
     }
     out.end_array()?;
     Ok(())
 }
 
-fn put_exceptions(out: &mut Writer, exceptions: &[Exception]) -> Result<(), AllocError>
-    ensures { OnOk result (Puts out.old out.new (put_list exception_json (codes "exception") exceptions.now)) }
+fn put_exceptions(
+    out: &mut Writer,
+    exceptions: &[Exception],
+    stacktraces: &[Option<Value>],
+) -> Result<(), AllocError>
+    ensures { OnOk result (Puts out.old out.new (put_exceptions stacktraces.now exceptions.now)) }
 {
     if exceptions.is_empty() {
+        put_stacktrace_at(out, stacktraces, 0)?;
         return Ok(());
     }
     out.key("exception")?;
     out.begin_object()?;
     out.key("values")?;
-    write_exceptions(out, exceptions)?;
+    write_exceptions(out, exceptions, stacktraces)?;
     out.end_object()?;
     Ok(())
 }
 
-/// Writes an event.
-pub fn write_event(out: &mut Writer, event: &Event) -> Result<(), AllocError>
-    ensures { OnOk result (Adds out.old out.new (json_tokens (event_json event.now))) }
+/// Writes an event, with the stack traces of its exceptions.
+pub fn write_event(
+    out: &mut Writer,
+    event: &Event,
+    stacktraces: &[Option<Value>],
+) -> Result<(), AllocError>
+    ensures { OnOk result (Adds out.old out.new
+        (json_tokens (event_json stacktraces.now event.now))) }
 {
     out.begin_object()?;
     put_simple(out, "event_id", event.event_id)?;
     put_text(out, "level", event.level.as_str())?;
     out.key("fingerprint")?;
-    write_texts(out, event.fingerprint.as_slice())?;
+    write_items(out, event.fingerprint.as_slice())?;
     put_optional(out, "transaction", &event.transaction)?;
     put_optional(out, "message", &event.message)?;
     put_text(out, "platform", event.platform.as_str())?;
@@ -132,9 +174,9 @@ pub fn write_event(out: &mut Writer, event: &Event) -> Result<(), AllocError>
     put_optional(out, "environment", &event.environment)?;
     put_user(out, &event.user)?;
     put_request(out, &event.request)?;
-    put_contexts(out, &event.contexts)?;
+    put_text_map(out, "contexts", &event.contexts)?;
     put_breadcrumbs(out, event.breadcrumbs.as_slice())?;
-    put_exceptions(out, event.exception.as_slice())?;
+    put_exceptions(out, event.exception.as_slice(), stacktraces)?;
     put_text_map(out, "tags", &event.tags)?;
     put_values(out, "extra", &event.extra)?;
     put_sdk(out, &event.sdk)?;

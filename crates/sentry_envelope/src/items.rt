@@ -4,7 +4,7 @@ ghost use Rattle.sentry_framing.specs.Json.{Adds};
 ghost use Rattle.sentry_framing.specs.Content.{content_text, content_tokens, record_text, ReadsBack};
 ghost use Rattle.sentry_framing.specs.Lines.{item_text};
 ghost use Rattle.sentry_framing.specs.Headers.{header_of, IsSendable};
-ghost use Rattle.sentry_envelope.specs.Envelopes.{record_header, list_header, attachment_header, item_header, item_content, item_parts, PayloadReadsBack};
+ghost use Rattle.sentry_envelope.specs.Envelopes.{record_header, list_header, attachment_header, item_header, Stacktraces, item_content, item_parts, PayloadReadsBack};
 
 use crate::aggregates::write_aggregates;
 use crate::events::write_event;
@@ -14,7 +14,7 @@ use crate::reports::write_report;
 use crate::sessions::write_session;
 use crate::transactions::write_transaction;
 use json::Writer;
-use sentry_base::protocol::{Attachment, EnvelopeItem};
+use sentry_base::protocol::{Attachment, EnvelopeItem, Value};
 use sentry_framing::headers::ItemHeader;
 use sentry_framing::lines::push_item;
 use std::alloc::{AllocError, Global};
@@ -83,35 +83,45 @@ fn item_header(item: &EnvelopeItem) -> ItemHeader<'_>
 }
 
 // Writes the record that an item is, or its list of records. Of an attachment nothing is written.
-fn write_record(out: &mut Writer, alloc: Global, item: &EnvelopeItem) -> Result<(), AllocError>
-    ensures { OnOk result (Adds out.old out.new (content_tokens (item_content item.now))) }
+fn write_record(
+    out: &mut Writer,
+    item: &EnvelopeItem,
+    stacktraces: &[Option<Value>],
+) -> Result<(), AllocError>
+    ensures { OnOk result (Adds out.old out.new
+        (content_tokens (item_content stacktraces.now item.now))) }
 {
     match item {
-        EnvelopeItem::Event(event) => write_event(out, event),
+        EnvelopeItem::Event(event) => write_event(out, event, stacktraces),
         EnvelopeItem::SessionUpdate(session) => write_session(out, session),
         EnvelopeItem::SessionAggregates(aggregates) => write_aggregates(out, aggregates),
         EnvelopeItem::Transaction(transaction) => write_transaction(out, transaction),
         EnvelopeItem::Attachment(_) => Ok(()),
-        EnvelopeItem::Logs(logs) => write_logs(out, alloc, logs.as_slice()),
-        EnvelopeItem::Metrics(metrics) => write_metrics(out, alloc, metrics.as_slice()),
+        EnvelopeItem::Logs(logs) => write_logs(out, logs.as_slice()),
+        EnvelopeItem::Metrics(metrics) => write_metrics(out, metrics.as_slice()),
         EnvelopeItem::ClientReport(report) => write_report(out, report),
     }
 }
 
-fn record_text(alloc: Global, item: &EnvelopeItem) -> Result<Vec<u8>, AllocError>
-    ensures text { IfOk result (λ text. text.items ≡ record_text (item_content item.now)) }
-    ensures reads_back { IfOk result (λ _. PayloadReadsBack item.now) }
+fn record_text(
+    alloc: Global,
+    item: &EnvelopeItem,
+    stacktraces: &[Option<Value>],
+) -> Result<Vec<u8>, AllocError>
+    ensures text { IfOk result (λ text. text.items
+        ≡ record_text (item_content stacktraces.now item.now)) }
+    ensures reads_back { IfOk result (λ _. PayloadReadsBack stacktraces.now item.now) }
 {
     let mut out = Writer::new(Vec::new(alloc));
-    write_record(&mut out, alloc, item)?;
+    write_record(&mut out, item, stacktraces)?;
     let text = out.into_inner();
     Ok(text)
 }
 
 // The payload of an item, of whose record this is the text.
 fn payload_of<'a>(item: &'a EnvelopeItem, text: &'a [u8]) -> &'a [u8]
-    requires { text.now ≡ record_text (item_content item.now) }
-    ensures { result.now ≡ content_text (item_content item.now) }
+    ensures { (stacktraces : Stacktraces) → text.now ≡ record_text (item_content stacktraces item.now)
+        → result.now ≡ content_text (item_content stacktraces item.now) }
 {
     match item {
         EnvelopeItem::Attachment(attachment) => attachment.buffer.as_slice(),
@@ -130,12 +140,14 @@ pub fn push_envelope_item(
     alloc: Global,
     text: Vec<u8>,
     item: &EnvelopeItem,
+    stacktraces: &[Option<Value>],
 ) -> Result<Vec<u8>, AllocError>
-    ensures text { IfOk result (λ made. made.items ≡ text.items ++ item_text (item_parts item.now)) }
-    ensures sendable { IfOk result (λ _. IsSendable (item_parts item.now)) }
-    ensures reads_back { IfOk result (λ _. PayloadReadsBack item.now) }
+    ensures text { IfOk result (λ made. made.items
+        ≡ text.items ++ item_text (item_parts stacktraces.now item.now)) }
+    ensures sendable { IfOk result (λ _. IsSendable (item_parts stacktraces.now item.now)) }
+    ensures reads_back { IfOk result (λ _. PayloadReadsBack stacktraces.now item.now) }
 {
-    let record = record_text(alloc, item)?;
+    let record = record_text(alloc, item, stacktraces)?;
     let payload = payload_of(item, record.as_slice());
     let made = push_item(text, item_header(item), payload)?;
     Ok(made)

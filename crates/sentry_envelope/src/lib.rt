@@ -9,7 +9,6 @@
 mod aggregates;
 mod attributes;
 mod breadcrumbs;
-mod collections;
 mod contexts;
 mod envelopes;
 mod events;
@@ -17,6 +16,7 @@ mod ids;
 mod items;
 mod logs;
 mod metrics;
+mod own_members;
 mod reports;
 mod requests;
 mod sdks;
@@ -27,7 +27,8 @@ mod texts;
 mod transactions;
 mod users;
 mod values;
+mod write_json;
 
-pub use envelopes::{to_vec, to_writer};
+pub use envelopes::{to_vec, to_vec_with_stacktraces, to_writer};
 pub use sentry_framing::raw::{RawEnvelope, RawItem};
 pub use sentry_framing::receiver::split_envelope;

@@ -4,8 +4,8 @@ ghost use Rattle.json.specs.Tree.{json_tokens};
 ghost use Rattle.sentry_framing.specs.Json.{Adds, Puts, optional};
 ghost use Rattle.sentry_envelope.specs.Requests.{request_json};
 
-use crate::collections::put_text_map;
 use crate::texts::put_optional;
+use crate::write_json::put_text_map;
 use json::Writer;
 use sentry_base::protocol::Request;
 use std::alloc::AllocError;

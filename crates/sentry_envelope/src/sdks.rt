@@ -1,48 +1,28 @@
 //! The SDK that made an event.
 ghost use Rattle.std.specs.Prelude.{◌≡◌, OnOk, codes};
-ghost use Rattle.json.specs.Json.{array};
 ghost use Rattle.json.specs.Tree.{json_tokens};
-ghost use Rattle.sentry_framing.specs.Json.{Adds, Puts, items_of, optional};
-ghost use Rattle.sentry_envelope.specs.Members.{put_items};
-ghost use Rattle.sentry_envelope.specs.Sdks.{package_json, sdk_json};
+ghost use Rattle.sentry_framing.specs.Json.{Adds, Puts, optional};
+ghost use Rattle.sentry_envelope.specs.Sdks.{sdk_json};
 
-use crate::collections::put_texts;
+use crate::write_json::{WriteJson, put_items};
 use json::Writer;
 use sentry_base::protocol::{ClientSdkInfo, ClientSdkPackage};
 use sentry_framing::members::put_text;
 use sentry_plain::Shared;
 use std::alloc::AllocError;
 
-fn write_package(out: &mut Writer, item: &ClientSdkPackage) -> Result<(), AllocError>
-    ensures { OnOk result (Adds out.old out.new (json_tokens (package_json item.now))) }
-{
-    out.begin_object()?;
-    put_text(out, "name", item.name.as_str())?;
-    put_text(out, "version", item.version.as_str())?;
-    out.end_object()?;
-    Ok(())
-}
+impl WriteJson for ClientSdkPackage {
+    ghost use Rattle.sentry_envelope.specs.Sdks.{package_json};
 
-fn write_packages(out: &mut Writer, packages: &[ClientSdkPackage]) -> Result<(), AllocError>
-    ensures { OnOk result (Adds out.old out.new (json_tokens (array (items_of package_json packages.now)))) }
-{
-    out.begin_array()?;
-    for item in packages {
-        write_package(out, item)?;
-    }
-    out.end_array()?;
-    Ok(())
-}
+    ghost json = { package_json };
 
-fn put_packages(out: &mut Writer, packages: &[ClientSdkPackage]) -> Result<(), AllocError>
-    ensures { OnOk result (Puts out.old out.new (put_items package_json (codes "packages") packages.now)) }
-{
-    if packages.is_empty() {
-        return Ok(());
+    fn write(&self, out: &mut Writer) -> Result<(), AllocError> {
+        out.begin_object()?;
+        put_text(out, "name", self.name.as_str())?;
+        put_text(out, "version", self.version.as_str())?;
+        out.end_object()?;
+        Ok(())
     }
-    out.key("packages")?;
-    write_packages(out, packages)?;
-    Ok(())
 }
 
 fn write_sdk(out: &mut Writer, sdk: &ClientSdkInfo) -> Result<(), AllocError>
@@ -51,8 +31,8 @@ fn write_sdk(out: &mut Writer, sdk: &ClientSdkInfo) -> Result<(), AllocError>
     out.begin_object()?;
     put_text(out, "name", sdk.name.as_str())?;
     put_text(out, "version", sdk.version.as_str())?;
-    put_texts(out, "integrations", sdk.integrations.as_slice())?;
-    put_packages(out, sdk.packages.as_slice())?;
+    put_items(out, "integrations", sdk.integrations.as_slice())?;
+    put_items(out, "packages", sdk.packages.as_slice())?;
     out.end_object()?;
     Ok(())
 }

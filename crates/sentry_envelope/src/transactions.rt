@@ -5,13 +5,11 @@ ghost use Rattle.sentry_framing.specs.Json.{Adds};
 ghost use Rattle.sentry_envelope.specs.Transactions.{transaction_json};
 
 use crate::breadcrumbs::put_values;
-use crate::collections::put_text_map;
-use crate::contexts::put_contexts;
 use crate::requests::put_request;
 use crate::sdks::put_sdk;
-use crate::spans::write_spans;
 use crate::texts::{put_optional, put_simple};
 use crate::users::put_user;
+use crate::write_json::{put_text_map, write_items};
 use json::Writer;
 use sentry_base::protocol::Transaction;
 use sentry_framing::members::{put_optional_seconds, put_seconds, put_text};
@@ -34,8 +32,8 @@ pub fn write_transaction(out: &mut Writer, transaction: &Transaction) -> Result<
     put_optional_seconds(out, "timestamp", transaction.timestamp)?;
     put_seconds(out, "start_timestamp", transaction.start_timestamp)?;
     out.key("spans")?;
-    write_spans(out, transaction.spans.as_slice())?;
-    put_contexts(out, &transaction.contexts)?;
+    write_items(out, transaction.spans.as_slice())?;
+    put_text_map(out, "contexts", &transaction.contexts)?;
     put_request(out, &transaction.request)?;
     put_optional(out, "server_name", &transaction.server_name)?;
     out.end_object()?;

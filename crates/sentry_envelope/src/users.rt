@@ -4,11 +4,27 @@ ghost use Rattle.json.specs.Tree.{json_tokens};
 ghost use Rattle.sentry_framing.specs.Json.{Adds, Puts, optional};
 ghost use Rattle.sentry_envelope.specs.Users.{user_json};
 
-use crate::collections::put_entries;
+use crate::own_members::{OwnMembers, put_others};
 use crate::texts::put_optional;
 use json::Writer;
 use sentry_base::protocol::User;
 use std::alloc::AllocError;
+
+impl OwnMembers for User {
+    ghost use Rattle.sentry_envelope.specs.Users.{user_own};
+
+    ghost own = { user_own };
+
+    fn has_own(&self, name: &str) -> bool {
+        match name {
+            "id" => self.id.is_some(),
+            "email" => self.email.is_some(),
+            "ip_address" => self.ip_address.is_some(),
+            "username" => self.username.is_some(),
+            _ => false,
+        }
+    }
+}
 
 fn write_user(out: &mut Writer, user: &User) -> Result<(), AllocError>
     ensures { OnOk result (Adds out.old out.new (json_tokens (user_json user.now))) }
@@ -18,7 +34,7 @@ fn write_user(out: &mut Writer, user: &User) -> Result<(), AllocError>
     put_optional(out, "email", &user.email)?;
     put_optional(out, "ip_address", &user.ip_address)?;
     put_optional(out, "username", &user.username)?;
-    put_entries(out, &user.data_)?;
+    put_others(out, user, &user.data_)?;
     out.end_object()?;
     Ok(())
 }

@@ -4,7 +4,7 @@ use Rattle.std.proofs.lemmas.Bool.Decides.{nat_tests}
 use Rattle.std.specs.Prelude.{if◌then◌else◌}
 use Rattle.sentry_base.specs.declared.protocol.envelope.Envelope.{Envelope}
 use Rattle.sentry_transport.specs.Limits.{without_limited, leaves_something, kept_of}
-use Rattle.sentry_transport.specs.QueueHistories.{QueueCall, offer_call, take_call, limit_call, is_limited, waiting_count, kept_envelopes}
+use Rattle.sentry_transport.specs.QueueHistories.{QueueCall, offer_call, take_call, limit_call, settle_call, is_limited, waiting_count, kept_envelopes}
 use Rattle.sentry_transport.specs.QueueCounts.{offered_count, emptied_count, turned_away_count}
 
 -- an offer is kept, turned away, or leaves nothing
@@ -35,6 +35,7 @@ module _ (capacity : ℕ) where
       let r = offers_add_up history in omega arith
   offers_add_up (take_call ∷ history) = offers_add_up history
   offers_add_up (limit_call which until ∷ history) = offers_add_up history
+  offers_add_up (settle_call ∷ history) = offers_add_up history
 
   pub waits_within_capacity : (history : List QueueCall) → waiting_count capacity history ≤ capacity
   waits_within_capacity [] = omega arith
@@ -44,3 +45,4 @@ module _ (capacity : ℕ) where
       (waits_within_capacity history)
   waits_within_capacity (take_call ∷ history) = let r = waits_within_capacity history in omega arith
   waits_within_capacity (limit_call which until ∷ history) = waits_within_capacity history
+  waits_within_capacity (settle_call ∷ history) = waits_within_capacity history

@@ -5,19 +5,13 @@ use Rattle.std.proofs.lemmas.List.{length-drop, drop-drop, drop-append-le, drop_
 use Rattle.std.specs.Prelude.{if◌then◌else◌, slice_get, option_to_list}
 use Rattle.sentry_base.specs.declared.protocol.envelope.Envelope.{Envelope}
 use Rattle.sentry_transport.specs.Limits.{without_limited, leaves_something, is_kept, kept_of}
-use Rattle.sentry_transport.specs.QueueHistories.{QueueCall, offer_call, take_call, limit_call, is_limited, waiting_count, kept_envelopes, queued_envelopes, taken_envelopes}
+use Rattle.sentry_transport.specs.QueueHistories.{QueueCall, offer_call, take_call, limit_call, settle_call, is_limited, waiting_count, kept_envelopes, queued_envelopes, taken_envelopes}
 
 kept_length : (b : Bool) (left : Envelope) → length (if b then left ∷ [] else []) ≡ (if b then 1 else 0)
 kept_length true left = refl
 kept_length false left = refl
 
 module _ (capacity : ℕ) where
-  -- how many more wait after an offer
-  abbrev more : QueueCall → List QueueCall → ℕ
-  more (offer_call envelope now) history = length (kept_of (is_limited history now) capacity (waiting_count capacity history) envelope)
-  more take_call history = 0
-  more (limit_call which until) history = 0
-
   pub count_after_offer : (envelope : Envelope) (now : ℕ) (history : List QueueCall)
       → waiting_count capacity (offer_call envelope now ∷ history)
       ≡ waiting_count capacity history + length (kept_of (is_limited history now) capacity (waiting_count capacity history) envelope)
@@ -35,6 +29,7 @@ module _ (capacity : ℕ) where
       let r = waits_at_most_kept history in omega arith
   waits_at_most_kept (take_call ∷ history) = let r = waits_at_most_kept history in omega arith
   waits_at_most_kept (limit_call which until ∷ history) = waits_at_most_kept history
+  waits_at_most_kept (settle_call ∷ history) = waits_at_most_kept history
 
   pub queue_length : (history : List QueueCall) → length (queued_envelopes capacity history) ≡ waiting_count capacity history
   queue_length history =
@@ -55,6 +50,7 @@ module _ (capacity : ℕ) where
       kept_within (leaves_something (is_limited history now) envelope) (waiting_count capacity history) (waits_at_most_capacity history)
   waits_at_most_capacity (take_call ∷ history) = let r = waits_at_most_capacity history in omega arith
   waits_at_most_capacity (limit_call which until ∷ history) = waits_at_most_capacity history
+  waits_at_most_capacity (settle_call ∷ history) = waits_at_most_capacity history
 
   pub queue_is_bounded : (history : List QueueCall) → length (queued_envelopes capacity history) ≤ capacity
   queue_is_bounded history = let a = queue_length history in let b = waits_at_most_capacity history in omega arith
@@ -108,3 +104,4 @@ module _ (capacity : ℕ) where
       ∙ ap (λ rest. taken ++ rest) (first_and_rest queue)
       ∙ taken_then_queued history
   taken_then_queued (limit_call which until ∷ history) = taken_then_queued history
+  taken_then_queued (settle_call ∷ history) = taken_then_queued history

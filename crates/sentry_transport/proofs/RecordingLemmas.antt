@@ -11,8 +11,8 @@ use Rattle.sentry_base.specs.declared.protocol.losses.Reason.TheVariants.{Rateli
 use Rattle.sentry_base.specs.RecordLosses.{item_losses, envelope_losses}
 use Rattle.sentry_base.specs.Losses.{category_index}
 use Rattle.sentry_client_reports.specs.LossWords.{LossPart, steps_to_record}
-use Rattle.sentry_transport.specs.Limits.{is_item_limited, limited_items, other_items, without_limited, leaves_something, kept_of, losses_of}
-use Rattle.sentry_transport.specs.QueueHistories.{QueueCall, offer_call, take_call, limit_call, acts_on, is_limited, is_limited_by, waiting_count, queue_losses, steps_to_record_each, recorder_after, Queue, StandsFor}
+use Rattle.sentry_transport.specs.Limits.{is_item_limited, has_limited, limited_items, other_items, without_limited, leaves_something, is_lost, kept_of, losses_of}
+use Rattle.sentry_transport.specs.QueueHistories.{QueueCall, offer_call, take_call, limit_call, settle_call, acts_on, is_limited, is_limited_by, waiting_count, queue_losses, has_lost, is_settled, steps_to_record_each, recorder_after, Queue, StandsFor}
 use Rattle.sentry_transport.specs.QueueSteps.{after_offer, after_recording_limited, after_enqueue, AreLimited}
 use Rattle.sentry_transport.proofs.LimitLemmas.{none_below, none_limited}
 use Rattle.sentry_transport.proofs.QueueLemmas.{queue_length, queue_after_offer, queue_after_take}
@@ -65,27 +65,39 @@ recorded_first limited first rest recorder =
     ∙ ap (λ each. recorder_after each recorder) (sym (map_both losses one others) ∙ ap (map losses) (limited_first limited first rest))
 
 -- an offer is its two steps
-pub offered : (leaves waits : Bool) (queue : Queue) (out : List (List ℕ)) (left : Envelope) (lost : List ℕ)
+pub offered : (leaves waits some : Bool) (queue : Queue) (out : List (List ℕ)) (left : Envelope) (lost : List ℕ)
     → (if leaves
     then (if waits
-    then record queue { envelopes = queue.envelopes ++ left ∷ []; recorder = option_map (recorder_after out) queue.recorder }
+    then record queue {
+      envelopes = queue.envelopes ++ left ∷ [];
+      recorder = option_map (recorder_after out) queue.recorder;
+      has_lost = some || queue.has_lost;
+    }
     else record queue {
       recorder = option_map (recorder_after (lost ∷ [])) (option_map (recorder_after out) queue.recorder);
+      has_lost = true;
     })
-    else record queue { recorder = option_map (recorder_after out) queue.recorder })
+    else record queue { recorder = option_map (recorder_after out) queue.recorder; has_lost = some || queue.has_lost })
     ≡ record queue {
       envelopes = queue.envelopes ++ (if leaves && waits then left ∷ [] else []);
       recorder = option_map (recorder_after (out ++ (if leaves && not waits then lost ∷ [] else []))) queue.recorder;
+      has_lost = ((leaves && not waits) || some) || queue.has_lost;
     }
-offered true true queue out left lost =
-    ap (λ losses. record queue { envelopes = queue.envelopes ++ left ∷ []; recorder = option_map (recorder_after losses) queue.recorder })
-    (sym (append-nil out))
-offered true false queue out left lost =
-    ap₂ (λ envelopes recorder. record queue { envelopes = envelopes; recorder = recorder })
+offered true true some queue out left lost =
+    ap (λ losses. record queue {
+      envelopes = queue.envelopes ++ left ∷ [];
+      recorder = option_map (recorder_after losses) queue.recorder;
+      has_lost = some || queue.has_lost;
+    }) (sym (append-nil out))
+offered true false some queue out left lost =
+    ap₂ (λ envelopes recorder. record queue { envelopes = envelopes; recorder = recorder; has_lost = true })
     (sym (append-nil queue.envelopes)) (recorded_both out (lost ∷ []) queue.recorder)
-offered false waits queue out left lost =
-    ap₂ (λ envelopes losses. record queue { envelopes = envelopes; recorder = option_map (recorder_after losses) queue.recorder })
-    (sym (append-nil queue.envelopes)) (sym (append-nil out))
+offered false waits some queue out left lost =
+    ap₂ (λ envelopes losses. record queue {
+      envelopes = envelopes;
+      recorder = option_map (recorder_after losses) queue.recorder;
+      has_lost = some || queue.has_lost;
+    }) (sym (append-nil queue.envelopes)) (sym (append-nil out))
 
 or_true : (a b : Bool) → b ≡ true → (a || b) ≡ true
 or_true true b e = refl
@@ -114,27 +126,30 @@ offered_by_steps queue recorded after envelope left now limits recording same le
     let limited : Category → Bool = is_limited_by queue.limits now in
     let whole : Envelope = without_limited limited envelope in
     let waits : Bool = ltb (length queue.envelopes) queue.capacity in
+    let limits_some : Bool = has_limited limited envelope.items in
     let out : List (List ℕ) = map (item_losses RatelimitBackoff) (limited_items limited envelope.items) in
     let lost : List ℕ = envelope_losses QueueOverflow whole.items in
     let left_is : left ≡ whole = leaving ∙ ap (λ ls. without_limited (is_limited_by ls now) envelope) here in
     let is_left : true ≡ leaves_something limited envelope = sym leaves ∙ ap (λ ls. leaves_something (is_limited_by ls now) envelope) here in
     enqueued
     ∙ ap₂ (λ q l. after_enqueue q l) recording left_is
-    ∙ offered true waits queue out whole lost
+    ∙ offered true waits limits_some queue out whole lost
     ∙ ap (λ some. record queue {
       envelopes = queue.envelopes ++ (if some && waits then whole ∷ [] else []);
       recorder = option_map (recorder_after (out ++ (if some && not waits then lost ∷ [] else []))) queue.recorder;
+      has_lost = ((some && not waits) || limits_some) || queue.has_lost;
     }) is_left
 
 pub stands_new : (room : ℕ) (first : Option LossPart) (envelopes : List Envelope) (capacity : ℕ) (limits : List ℕ)
     → capacity ≡ room → envelopes ≡ [] → limits ≡ replicate 7 0
-    → StandsFor room first [] (record { envelopes = envelopes; capacity = capacity; limits = limits; recorder = first })
+    → StandsFor room first [] (record { envelopes = envelopes; capacity = capacity; limits = limits; recorder = first; has_lost = false })
 stands_new room first envelopes capacity limits same none zeros = record {
   capacity = same;
   envelopes = none;
   limits = λ now category. ap (λ ls. ltb now (slice_index ls (category_index category))) zeros
       ∙ ap (λ moment. ltb now moment) (none_limited category) ∙ none_below now;
   recorder = sym (recorded_none first);
+  has_lost = refl;
 }
 
 module _ (capacity : ℕ) (recorder : Option LossPart) (history : List QueueCall) (queue : Queue) (stands : StandsFor capacity recorder history queue) where
@@ -154,13 +169,19 @@ module _ (capacity : ℕ) (recorder : Option LossPart) (history : List QueueCall
       ≡ losses_of (is_limited history now) capacity (waiting_count capacity history) envelope =
       ap (λ limited. losses_of limited queue.capacity (length queue.envelopes) envelope) same
       ∙ ap (λ c. losses_of (is_limited history now) c (length queue.envelopes) envelope) stands.capacity
-      ∙ ap (λ n. losses_of (is_limited history now) capacity n envelope) same_count in record {
+      ∙ ap (λ n. losses_of (is_limited history now) capacity n envelope) same_count in
+      let lost : is_lost (is_limited_by queue.limits now) queue.capacity (length queue.envelopes) envelope
+      ≡ is_lost (is_limited history now) capacity (waiting_count capacity history) envelope =
+      ap (λ limited. is_lost limited queue.capacity (length queue.envelopes) envelope) same
+      ∙ ap (λ c. is_lost (is_limited history now) c (length queue.envelopes) envelope) stands.capacity
+      ∙ ap (λ n. is_lost (is_limited history now) capacity n envelope) same_count in record {
         capacity = stands.capacity;
         envelopes = ap₂ (λ some more. some ++ more) stands.envelopes kept ∙ sym (queue_after_offer capacity envelope now history);
         limits = stands.limits;
         recorder = ap₂ (λ each part. option_map (recorder_after each) part) losses stands.recorder
             ∙ recorded_both (queue_losses capacity history)
             (losses_of (is_limited history now) capacity (waiting_count capacity history) envelope) recorder;
+        has_lost = ap₂ (λ some before. some || before) lost stands.has_lost;
       }
 
   pub stands_after_take : (envelopes : List Envelope) → envelopes ≡ drop 1 queue.envelopes
@@ -170,6 +191,19 @@ module _ (capacity : ℕ) (recorder : Option LossPart) (history : List QueueCall
     envelopes = rest ∙ ap (λ all. drop 1 all) stands.envelopes ∙ sym (queue_after_take capacity history);
     limits = stands.limits;
     recorder = stands.recorder;
+    has_lost = stands.has_lost;
+  }
+
+  pub settled_answer : (not queue.has_lost && length queue.envelopes == 0) ≡ is_settled capacity history
+  settled_answer = ap₂ (λ lost count. not lost && count == 0) stands.has_lost same_count
+
+  pub stands_after_settle : StandsFor capacity recorder (settle_call ∷ history) (record queue { has_lost = false })
+  stands_after_settle = record {
+    capacity = stands.capacity;
+    envelopes = stands.envelopes;
+    limits = stands.limits;
+    recorder = stands.recorder;
+    has_lost = refl;
   }
 
   beyond : (now some until : ℕ) → ltb now (max some until) ≡ (ltb now until || ltb now some)
@@ -196,4 +230,5 @@ module _ (capacity : ℕ) (recorder : Option LossPart) (history : List QueueCall
         ∙ limited_more (acts_on which category) now (slice_index queue.limits (category_index category)) until
         ∙ ap (λ others. (acts_on which category && ltb now until) || others) (stands.limits now category);
     recorder = stands.recorder;
+    has_lost = stands.has_lost;
   }

@@ -1,5 +1,6 @@
 -- Items of limited categories: which they are, and what is left of an envelope without them.
 use Rattle.std.specs.Prelude.{ℕ, ltb, ◌==◌, ◌&&◌, ◌||◌, not, Bool, false, if◌then◌else◌, Option, Some, None, List, [], ◌∷◌, ◌++◌, length, map, filter, option_map, unwrap_or}
+use Rattle.std.specs.List.{list_any}
 use Rattle.sentry_base.specs.declared.protocol.envelope.Envelope.{Envelope}
 use Rattle.sentry_base.specs.declared.protocol.envelope.EnvelopeItem.{EnvelopeItem}
 use Rattle.sentry_base.specs.declared.protocol.envelope.EnvelopeItem.TheVariants as item
@@ -24,6 +25,9 @@ module _ (limited : Category → Bool) where
   abbrev pub is_item_limited : EnvelopeItem → Bool
   is_item_limited item = unwrap_or (option_map limited (item_category item)) false
 
+  abbrev pub has_limited : List EnvelopeItem → Bool
+  has_limited items = list_any is_item_limited items
+
   abbrev pub limited_items : List EnvelopeItem → List EnvelopeItem
   limited_items items = filter is_item_limited items
 
@@ -45,6 +49,10 @@ module _ (limited : Category → Bool) where
 
     abbrev pub is_turned_away : Envelope → Bool
     is_turned_away envelope = leaves_something envelope && not (ltb count capacity)
+
+    -- all of it, or some of its items
+    abbrev pub is_lost : Envelope → Bool
+    is_lost envelope = is_turned_away envelope || has_limited envelope.items
 
     -- what goes to the end of the queue
     abbrev pub kept_of : Envelope → List Envelope

@@ -17,7 +17,8 @@ pub const DEFAULT_CAPACITY: usize = 30;
 
 /// A transport that queues what it is handed, in a queue whose memory is all taken when it is made, until `pump` passes
 /// it to an inner transport. Items of limited categories, and envelopes for which the queue has no room, are recorded as
-/// lost. The queue has a lock of its own, which is never held while a call of the inner transport runs.
+/// lost, and make the next `flush` answer false. The queue has a lock of its own, which is never held while a call of the
+/// inner transport runs. A `Pump` is a thread that pumps it.
 #[derive(Drop)]
 pub struct QueueTransport<R: Wait + Drop, T, K> {
     rt: R,
@@ -77,12 +78,17 @@ impl<R: Wait + Drop, T: Transport + Drop, K: Clock + Drop> QueueTransport<R, T, 
     }
 
     // Passes on at most as many envelopes as wait when it begins.
-    fn pump_waiting(&self) {
+    pub(crate) fn pump_waiting(&self) {
         for _ in 0..self.len() {
             if !self.pump() {
                 return;
             }
         }
+    }
+
+    // Whether all that was handed over since the last such question was passed on.
+    fn settle(&self) -> bool {
+        self.lock().queue.settle()
     }
 
     /// Limits a category, or without one each category, until this moment (nanoseconds since the epoch), as a server
@@ -123,16 +129,20 @@ impl<R: Wait + Drop, T: Transport + Drop, K: Clock + Drop> Transport for QueueTr
         self.lock().queue.offer(envelope);
     }
 
-    /// Passes on at most as many envelopes as wait when it begins, and then answers the `flush` of the inner transport,
-    /// with the timeout, in nanoseconds.
+    /// Passes on at most as many envelopes as wait when it begins, and then calls the `flush` of the inner transport, with
+    /// the timeout, in nanoseconds. Answers true if that did, no envelope or item was lost here since the last flush or
+    /// shutdown, and nothing waits any more.
     fn flush(&self, timeout: u64) -> bool {
         self.pump_waiting();
-        self.inner.flush(timeout)
+        let is_flushed = self.inner.flush(timeout);
+        self.settle() && is_flushed
     }
 
-    /// The same with the `shutdown` of the inner transport. What is handed over later is still queued.
+    /// The same with the `shutdown` of the inner transport. What is handed over later is queued as before: the next pump
+    /// or flush passes it on, and what has no room is recorded as lost.
     fn shutdown(&self, timeout: u64) -> bool {
         self.pump_waiting();
-        self.inner.shutdown(timeout)
+        let is_shut = self.inner.shutdown(timeout);
+        self.settle() && is_shut
     }
 }

@@ -2,13 +2,13 @@
 ghost use Rattle.std.specs.Prelude.{◌≡◌, ◌≤◌, ℕ, Option, List, [], max, IfOk, IfErr};
 ghost use Rattle.sentry_base.specs.declared.protocol.refusal.Refusal.TheVariants.{OutOfMemory};
 ghost use Rattle.sentry_client_reports.specs.LossWords.{LossPart};
-ghost use Rattle.sentry_transport.specs.QueueHistories.{QueueCall, take_call, limit_call, StandsFor, first_envelope, waiting_count};
+ghost use Rattle.sentry_transport.specs.QueueHistories.{QueueCall, take_call, limit_call, settle_call, StandsFor, first_envelope, waiting_count, is_settled};
 ghost use Rattle.sentry_transport.specs.QueueCalls.{IsMadeByCalls, MakesCall, IsOffered};
 
 use crate::queueing::QueueCore;
 use sentry_base::clock::Clock;
 use sentry_base::protocol::{Category, Envelope, Refusal};
-use sentry_client_reports::client_reports::Recorder;
+use sentry_client_reports::Recorder;
 use std::alloc::Global;
 
 /// A queue, and the clock that tells the moment of an offer.
@@ -59,6 +59,17 @@ impl<K: Drop> TimedQueue<K> {
         ensures clock { self.new.clock ≡ self.old.clock }
     {
         self.queue.limit(category, until);
+    }
+
+    /// Answers whether all that was offered since the last such question is on its way: nothing was turned away or taken
+    /// out as limited since, and nothing waits. It takes no memory.
+    pub fn settle(&mut self) -> bool
+        ensures answer { (capacity : ℕ) (recorder : Option LossPart) (history : List QueueCall)
+            → StandsFor capacity recorder history self.old.queue → result ≡ is_settled capacity history }
+        ensures call { MakesCall settle_call self.old.queue self.new.queue }
+        ensures clock { self.new.clock ≡ self.old.clock }
+    {
+        self.queue.settle()
     }
 
     /// How many envelopes wait: at most as many as can.

@@ -1,5 +1,5 @@
 -- What is asked of a folder, and what that makes of it.
-use Rattle.std.specs.Prelude.{◌≡◌, Bool, true, false, ◌⊎◌, List, [], ◌∷◌}
+use Rattle.std.specs.Prelude.{◌≡◌, Bool, true, false, ◌⊎◌, List, [], ◌∷◌, codes}
 use Rattle.sentry_plain.specs.Texts.{Bytes}
 
 -- a call, and whether it was done
@@ -14,6 +14,12 @@ pub data FolderCall : Type 0 where
 abbrev pub Runs : {S : Type 0} → (S → FolderCall → S → Type 0) → List FolderCall → S → S → Type 0
 Runs does [] first last = last ≡ first
 Runs does (call ∷ calls) first last = (next : _) × does first call next × Runs does calls next last
+
+-- the calls that try a folder: an empty file is written, under a name that no envelope gets, and removed
+abbrev pub trial_calls : List FolderCall
+trial_calls =
+    let name = codes "00000000000000000000-00000000000000000000.part" in
+    write_call name [] true ∷ remove_call name true ∷ []
 
 module _ (partial name text : Bytes) where
   -- the calls that put a file into a folder: it is written under a first name, and then gets its own

@@ -1,14 +1,14 @@
 //! A writer to which envelopes are written.
-ghost use Rattle.std.specs.Prelude.{◌≡◌, Some, IfOk, OnOk, OnErr};
+ghost use Rattle.std.specs.Prelude.{◌≡◌, ◌||◌, not, Some, false, is_some, IfOk, OnOk, OnErr};
 ghost use Rattle.std.specs.Io.KnownBytes.{Appends};
 ghost use Rattle.sentry_client_reports.specs.declared.client_reports.reason.TransportLossReason.TheVariants.{InternalError};
 ghost use Rattle.sentry_framing.specs.Sending.{AppendsFront};
 ghost use Rattle.sentry_writers.specs.Sending.{recorder_after};
 ghost use Rattle.sentry_writers.specs.Writing.{IsWritten};
 
-use crate::losses::after_sending;
+use crate::losses::LossLog;
 use sentry_base::protocol::Envelope;
-use sentry_client_reports::client_reports::{Recorder, TransportLossReason};
+use sentry_client_reports::{Recorder, TransportLossReason};
 use sentry_framing::sending::write_bytes;
 use std::alloc::AllocError;
 use std::io;
@@ -18,16 +18,18 @@ use std::io::Write;
 #[derive(Drop)]
 pub struct EnvelopeWriter<W> {
     writer: W,
-    recorder: Option<Recorder>,
+    losses: LossLog,
 }
 
 impl<W: Write + Drop> EnvelopeWriter<W> {
     /// To this writer. Without a recorder, losses are not counted.
     pub fn new(writer: W, recorder: Option<Recorder>) -> EnvelopeWriter<W>
         ensures writer { result.writer ≡ writer }
-        ensures recorder { result.recorder ≡ recorder }
+        ensures recorder { result.losses.recorder ≡ recorder }
+        ensures lost { result.losses.has_lost ≡ false }
     {
-        EnvelopeWriter { writer, recorder }
+        let losses = LossLog::new(recorder);
+        EnvelopeWriter { writer, losses }
     }
 
     // After an error a beginning of it stands written, once.
@@ -35,7 +37,7 @@ impl<W: Write + Drop> EnvelopeWriter<W> {
     fn write(&mut self, text: &[u8]) -> io::Result<()>
         ensures ok { OnOk result (Appends (W.contents self.old.writer) (W.contents self.new.writer) text.now) }
         ensures err { OnErr result (AppendsFront (W.contents self.old.writer) (W.contents self.new.writer) text.now) }
-        ensures recorder { self.new.recorder ≡ self.old.recorder }
+        ensures losses { self.new.losses ≡ self.old.losses }
     {
         write_bytes(&mut self.writer, text)?;
         self.writer.flush()?;
@@ -44,7 +46,7 @@ impl<W: Write + Drop> EnvelopeWriter<W> {
 
     fn write_text(&mut self, text: &[u8]) -> Option<TransportLossReason>
         ensures written { IsWritten (W.contents self.old.writer) (W.contents self.new.writer) text.now result }
-        ensures recorder { self.new.recorder ≡ self.old.recorder }
+        ensures losses { self.new.losses ≡ self.old.losses }
     {
         match self.write(text) {
             Ok(()) => None,
@@ -56,7 +58,7 @@ impl<W: Write + Drop> EnvelopeWriter<W> {
     fn write_if_made(&mut self, text: Result<Vec<u8>, AllocError>) -> Option<TransportLossReason>
         ensures written { IfOk text (λ text. IsWritten (W.contents self.old.writer) (W.contents self.new.writer) text.items result) }
         ensures unmade { OnErr text ((self.new.writer ≡ self.old.writer) × (result ≡ Some InternalError)) }
-        ensures recorder { self.new.recorder ≡ self.old.recorder }
+        ensures losses { self.new.losses ≡ self.old.losses }
     {
         match text {
             Err(_) => Some(TransportLossReason::InternalError),
@@ -74,10 +76,21 @@ impl<W: Write + Drop> EnvelopeWriter<W> {
     ) -> Option<TransportLossReason>
         ensures written { IfOk text (λ text. IsWritten (W.contents self.old.writer) (W.contents self.new.writer) text.items result) }
         ensures unmade { OnErr text ((self.new.writer ≡ self.old.writer) × (result ≡ Some InternalError)) }
-        ensures recorder { self.new.recorder ≡ recorder_after result envelope.now self.old.recorder }
+        ensures recorder { self.new.losses.recorder ≡ recorder_after result envelope.now self.old.losses.recorder }
+        ensures lost { self.new.losses.has_lost ≡ (is_some result || self.old.losses.has_lost) }
     {
         let lost = self.write_if_made(text);
-        self.recorder = after_sending(self.recorder.take(), envelope, lost);
+        self.losses.note(envelope, lost);
         lost
+    }
+
+    /// Answers whether each envelope since the last such question was written.
+    pub fn settle(&mut self) -> bool
+        ensures answer { result ≡ not self.old.losses.has_lost }
+        ensures anew { self.new.losses.has_lost ≡ false }
+        ensures recorder { self.new.losses.recorder ≡ self.old.losses.recorder }
+        ensures writer { self.new.writer ≡ self.old.writer }
+    {
+        self.losses.settle()
     }
 }

@@ -13,6 +13,6 @@ pub mod stamps;
 pub mod writer_transport;
 
 pub use crate::dsn_urls::{envelope_api_url, to_auth};
-pub use crate::folder::{FileFolder, Folder, Usage};
+pub use crate::folder::{FileFolder, Folder, FolderError, Usage};
 pub use spool_transport::SpoolTransport;
 pub use writer_transport::WriterTransport;

@@ -1,17 +1,17 @@
 //! A folder into which envelopes are put, a file each.
-ghost use Rattle.std.specs.Prelude.{◌≡◌, Some, None, length, IfOk, IfSome, IsSomeAnd, OnErr};
+ghost use Rattle.std.specs.Prelude.{◌≡◌, ◌||◌, not, Some, None, false, is_some, codes, length, IfOk, IfSome, OnOk, OnErr};
 ghost use Rattle.sentry_client_reports.specs.declared.client_reports.reason.TransportLossReason.TheVariants.{InternalError};
-ghost use Rattle.sentry_writers.specs.Folders.{PutsFile};
+ghost use Rattle.sentry_writers.specs.Folders.{PutsFile, Runs, trial_calls};
 ghost use Rattle.sentry_writers.specs.Sending.{recorder_after};
 ghost use Rattle.sentry_writers.specs.Spooling.{PutsNext, Spools};
 ghost use Rattle.sentry_writers.specs.Usages.{IsWithin, with_file};
 
-use crate::folder::{Folder, Usage};
-use crate::losses::after_sending;
-use crate::stamps::{ENDING, Stamp, Stamps};
+use crate::folder::{Folder, FolderError, Usage};
+use crate::losses::LossLog;
+use crate::stamps::{ENDING, Stamp, Stamps, TRIAL_NAME};
 use sentry_base::clock::Clock;
 use sentry_base::protocol::Envelope;
-use sentry_client_reports::client_reports::{Recorder, TransportLossReason};
+use sentry_client_reports::{Recorder, TransportLossReason};
 use std::alloc::{AllocError, Global};
 use std::io;
 
@@ -21,8 +21,8 @@ pub struct Spool<F, K> {
     folder: F,
     stamps: Stamps<K>,
     limits: Usage,
-    used: Option<Usage>,
-    recorder: Option<Recorder>,
+    used: Usage,
+    losses: LossLog,
 }
 
 impl<F: Drop, K: Drop> Drop for Spool<F, K> {
@@ -32,7 +32,7 @@ impl<F: Drop, K: Drop> Drop for Spool<F, K> {
             stamps: _,
             limits: _,
             used: _,
-            recorder: _,
+            losses: _,
         } = self;
     }
 }
@@ -67,20 +67,53 @@ fn put_file<F: Folder>(folder: &mut F, partial: &str, name: &str, text: &[u8]) -
     true
 }
 
+// Writes an empty file under a name that no envelope gets, and removes it.
+fn try_writing<F: Folder>(folder: &mut F) -> io::Result<()>
+    ensures { OnOk result (Runs F.does trial_calls folder.old folder.new) }
+{
+    let written = folder.write(TRIAL_NAME, b"");
+    let removed = folder.remove(TRIAL_NAME);
+    written?;
+    removed
+}
+
+// Tries a folder, and answers what the files of envelopes take.
+fn try_folder<F: Folder>(folder: &mut F) -> io::Result<Usage>
+    ensures tried { OnOk result (Runs F.does trial_calls folder.old folder.new) }
+    ensures used { IfOk result (λ used. F.has folder.new (codes ".envelope") used) }
+{
+    try_writing(folder)?;
+    folder.measure(ENDING)
+}
+
 impl<F: Folder + Drop, K: Clock + Drop> Spool<F, K> {
     /// Into this folder, with at most so many files and bytes in it. Files that stand there already count too. Without a
-    /// recorder, losses are not counted.
-    pub fn new(folder: F, limits: Usage, recorder: Option<Recorder>, clock: K) -> Spool<F, K>
-        ensures folder { result.folder ≡ folder }
-        ensures limits { result.limits ≡ limits }
-        ensures recorder { result.recorder ≡ recorder }
+    /// recorder, losses are not counted. The folder is tried: an empty file is written and removed.
+    ///
+    /// `Unusable`: the folder isn't there, or can't be written to or read. `OutOfMemory`.
+    pub fn new(
+        alloc: Global,
+        folder: F,
+        limits: Usage,
+        recorder: Option<Recorder>,
+        clock: K,
+    ) -> Result<Spool<F, K>, FolderError>
+        ensures tried { IfOk result (λ spool. Runs F.does trial_calls folder spool.folder) }
+        ensures used { IfOk result (λ spool. F.has spool.folder (codes ".envelope") spool.used) }
+        ensures limits { IfOk result (λ spool. spool.limits ≡ limits) }
+        ensures recorder { IfOk result (λ spool. spool.losses.recorder ≡ recorder) }
+        ensures lost { IfOk result (λ spool. spool.losses.has_lost ≡ false) }
     {
-        Spool {
-            folder,
-            stamps: Stamps::new(clock),
-            limits,
-            used: None,
-            recorder,
+        let mut folder = folder;
+        match try_folder(&mut folder) {
+            Err(error) => Err(FolderError::at(alloc, folder.path(), error)),
+            Ok(used) => Ok(Spool {
+                folder,
+                stamps: Stamps::new(clock),
+                limits,
+                used,
+                losses: LossLog::new(recorder),
+            }),
         }
     }
 
@@ -89,10 +122,8 @@ impl<F: Folder + Drop, K: Clock + Drop> Spool<F, K> {
     fn room_for(&self, length: u64) -> io::Result<Option<Usage>>
         ensures { IfOk result (λ after. IfSome after (IsWithin self.now.limits length)) }
     {
-        if let Some(used) = self.used {
-            if let Some(after) = used.with_file(length, self.limits) {
-                return Ok(Some(after));
-            }
+        if let Some(after) = self.used.with_file(length, self.limits) {
+            return Ok(Some(after));
         }
         let used = self.folder.measure(ENDING)?;
         Ok(used.with_file(length, self.limits))
@@ -102,7 +133,7 @@ impl<F: Folder + Drop, K: Clock + Drop> Spool<F, K> {
     fn put_next(&mut self, alloc: Global, text: &[u8]) -> bool
         ensures folder { PutsNext F.does self.new.stamps.last text.now result self.old.folder self.new.folder }
         ensures limits { self.new.limits ≡ self.old.limits }
-        ensures recorder { self.new.recorder ≡ self.old.recorder }
+        ensures losses { self.new.losses ≡ self.old.losses }
     {
         let Some(stamp) = self.stamps.next() else {
             return false;
@@ -124,23 +155,23 @@ impl<F: Folder + Drop, K: Clock + Drop> Spool<F, K> {
         after: Usage,
     ) -> Option<TransportLossReason>
         ensures folder { Spools F.does self.new.stamps.last text.now result self.old.folder self.new.folder }
-        ensures used { result ≡ None → self.new.used ≡ Some after }
+        ensures used { result ≡ None → self.new.used ≡ after }
         ensures limits { self.new.limits ≡ self.old.limits }
-        ensures recorder { self.new.recorder ≡ self.old.recorder }
+        ensures losses { self.new.losses ≡ self.old.losses }
     {
         if !self.put_next(alloc, text) {
             return Some(TransportLossReason::InternalError);
         }
-        self.used = Some(after);
+        self.used = after;
         None
     }
 
     // Puts a text into the folder, if there is room. Answers why it was lost, if it was.
     fn put_text(&mut self, alloc: Global, text: &[u8]) -> Option<TransportLossReason>
         ensures folder { Spools F.does self.new.stamps.last text.now result self.old.folder self.new.folder }
-        ensures room { result ≡ None → IsSomeAnd self.new.used (IsWithin self.old.limits (length text.now)) }
+        ensures room { result ≡ None → IsWithin self.old.limits (length text.now) self.new.used }
         ensures limits { self.new.limits ≡ self.old.limits }
-        ensures recorder { self.new.recorder ≡ self.old.recorder }
+        ensures losses { self.new.losses ≡ self.old.losses }
     {
         match self.room_for(text.len() as u64) {
             Err(_) => Some(TransportLossReason::InternalError),
@@ -157,9 +188,9 @@ impl<F: Folder + Drop, K: Clock + Drop> Spool<F, K> {
     ) -> Option<TransportLossReason>
         ensures folder { IfOk text (λ text. Spools F.does self.new.stamps.last text.items result self.old.folder self.new.folder) }
         ensures unmade { OnErr text ((self.new.folder ≡ self.old.folder) × (result ≡ Some InternalError)) }
-        ensures room { IfOk text (λ text. result ≡ None → IsSomeAnd self.new.used (IsWithin self.old.limits (length text.items))) }
+        ensures room { IfOk text (λ text. result ≡ None → IsWithin self.old.limits (length text.items) self.new.used) }
         ensures limits { self.new.limits ≡ self.old.limits }
-        ensures recorder { self.new.recorder ≡ self.old.recorder }
+        ensures losses { self.new.losses ≡ self.old.losses }
     {
         match text {
             Err(_) => Some(TransportLossReason::InternalError),
@@ -178,12 +209,23 @@ impl<F: Folder + Drop, K: Clock + Drop> Spool<F, K> {
     ) -> Option<TransportLossReason>
         ensures folder { IfOk text (λ text. Spools F.does self.new.stamps.last text.items result self.old.folder self.new.folder) }
         ensures unmade { OnErr text ((self.new.folder ≡ self.old.folder) × (result ≡ Some InternalError)) }
-        ensures room { IfOk text (λ text. result ≡ None → IsSomeAnd self.new.used (IsWithin self.old.limits (length text.items))) }
+        ensures room { IfOk text (λ text. result ≡ None → IsWithin self.old.limits (length text.items) self.new.used) }
         ensures limits { self.new.limits ≡ self.old.limits }
-        ensures recorder { self.new.recorder ≡ recorder_after result envelope.now self.old.recorder }
+        ensures recorder { self.new.losses.recorder ≡ recorder_after result envelope.now self.old.losses.recorder }
+        ensures lost { self.new.losses.has_lost ≡ (is_some result || self.old.losses.has_lost) }
     {
         let lost = self.put(alloc, text);
-        self.recorder = after_sending(self.recorder.take(), envelope, lost);
+        self.losses.note(envelope, lost);
         lost
+    }
+
+    /// Answers whether each envelope since the last such question was put into the folder.
+    pub fn settle(&mut self) -> bool
+        ensures answer { result ≡ not self.old.losses.has_lost }
+        ensures anew { self.new.losses.has_lost ≡ false }
+        ensures recorder { self.new.losses.recorder ≡ self.old.losses.recorder }
+        ensures folder { self.new.folder ≡ self.old.folder }
+    {
+        self.losses.settle()
     }
 }

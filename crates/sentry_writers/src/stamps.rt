@@ -11,6 +11,9 @@ pub const ENDING: &str = ".envelope";
 /// How the name of a file ends that is being written.
 pub const PARTIAL_ENDING: &str = ".part";
 
+/// The name of the file by which a folder is tried. No stamp has it, since they count from 1.
+pub const TRIAL_NAME: &str = "00000000000000000000-00000000000000000000.part";
+
 const DIGITS: usize = 20;
 
 /// When a file was made, in nanoseconds since the epoch, and as which.

@@ -1,6 +1,6 @@
 //! Until when each category is limited, as a server asked.
 ghost use Rattle.std.specs.Prelude.{◌≡◌, Some, None, replicate};
-ghost use Rattle.sentry_transport.specs.Limits.{item_category, is_item_limited};
+ghost use Rattle.sentry_transport.specs.Limits.{item_category, is_item_limited, has_limited};
 ghost use Rattle.sentry_transport.specs.QueueHistories.{is_limited_by};
 ghost use Rattle.sentry_transport.specs.QueueSteps.{AreLimited};
 
@@ -54,6 +54,13 @@ impl Limits {
             None => false,
             Some(category) => self.is_limited(category, now),
         }
+    }
+
+    /// Whether one of the items is limited at this moment.
+    pub(crate) fn has_limited(&self, items: &[EnvelopeItem], now: u64) -> bool
+        ensures { result ≡ has_limited (is_limited_by self.now.until now) items.now }
+    {
+        items.iter().any(|item| self.is_item_limited(item, now))
     }
 
     /// Limits a category, or each of them, until this moment, unless it is limited for longer.

@@ -1,17 +1,17 @@
 //! A queue of envelopes.
-ghost use Rattle.std.specs.Prelude.{◌≡◌, ◌+◌, ◌<◌, ◌≤◌, ◌++◌, ◌==◌, ℕ, ltb, Option, List, [], ◌∷◌, max, length, drop, slice_get, option_map, if◌then◌else◌, IfOk, IfErr};
+ghost use Rattle.std.specs.Prelude.{◌≡◌, ◌+◌, ◌<◌, ◌≤◌, ◌++◌, ◌==◌, ◌&&◌, not, ℕ, ltb, Option, List, [], ◌∷◌, max, length, drop, slice_get, option_map, if◌then◌else◌, IfOk, IfErr};
 ghost use Rattle.sentry_base.specs.declared.protocol.refusal.Refusal.TheVariants.{OutOfMemory};
 ghost use Rattle.sentry_base.specs.declared.protocol.losses.Reason.TheVariants.{QueueOverflow};
 ghost use Rattle.sentry_base.specs.RecordLosses.{envelope_losses};
 ghost use Rattle.sentry_client_reports.specs.LossWords.{LossPart};
-ghost use Rattle.sentry_transport.specs.QueueHistories.{Queue, QueueCall, offer_call, take_call, limit_call, StandsFor, queued_envelopes, kept_envelopes, taken_envelopes, first_envelope, waiting_count, recorder_after};
+ghost use Rattle.sentry_transport.specs.QueueHistories.{Queue, QueueCall, offer_call, take_call, limit_call, settle_call, StandsFor, queued_envelopes, kept_envelopes, taken_envelopes, first_envelope, waiting_count, is_settled, recorder_after};
 ghost use Rattle.sentry_transport.specs.QueueSteps.{after_offer, after_recording_limited, after_enqueue};
 
 use crate::queueing::limits::Limits;
 use crate::queueing::recording::{after_limited, after_turned_away};
 use crate::queueing::removing::without_limited;
 use sentry_base::protocol::{Category, Envelope, Refusal};
-use sentry_client_reports::client_reports::Recorder;
+use sentry_client_reports::Recorder;
 use std::alloc::Global;
 use std::collections::VecDeque;
 use std::marker::Model;
@@ -24,6 +24,7 @@ pub struct QueueCore {
     capacity: usize,
     limits: Limits,
     recorder: Option<Recorder>,
+    has_lost: bool,
 }
 
 impl Drop for QueueCore {
@@ -33,6 +34,7 @@ impl Drop for QueueCore {
             capacity: _,
             limits: _,
             recorder: _,
+            has_lost: _,
         } = self;
     }
 }
@@ -53,6 +55,7 @@ impl Model for QueueCore {
       capacity = q.capacity;
       limits = q.limits.until;
       recorder = q.recorder;
+      has_lost = q.has_lost;
     } };
 
     ghost invariant = { λ q. (length q.envelopes.items ≤ q.capacity) × (q.capacity ≤ deque_capacity q.envelopes) };
@@ -76,6 +79,7 @@ impl QueueCore {
             capacity,
             limits: Limits::none(),
             recorder,
+            has_lost: false,
         })
     }
 
@@ -107,6 +111,7 @@ impl QueueCore {
         ensures { self.new ≡ after_recording_limited self.old envelope.now now }
     {
         let items = envelope.items.as_slice();
+        self.has_lost = self.limits.has_limited(items, now) || self.has_lost;
         self.recorder = after_limited(self.recorder.take(), &self.limits, items, now);
     }
 
@@ -118,6 +123,7 @@ impl QueueCore {
             self.envelopes.push_back_reserved(envelope);
         } else {
             self.recorder = after_turned_away(self.recorder.take(), &envelope);
+            self.has_lost = true;
         }
     }
 
@@ -139,6 +145,25 @@ impl QueueCore {
             → StandsFor capacity recorder (limit_call category until ∷ history) self.new }
     {
         self.limits.limit(category, until);
+    }
+
+    /// Answers whether all that was offered since the last such question is on its way: nothing was turned away or taken
+    /// out as limited since, and nothing waits. It takes no memory.
+    pub fn settle(&mut self) -> bool
+        ensures answer { (capacity : ℕ) (recorder : Option LossPart) (history : List QueueCall)
+            → StandsFor capacity recorder history self.old → result ≡ is_settled capacity history }
+        ensures stands { (capacity : ℕ) (recorder : Option LossPart) (history : List QueueCall)
+            → StandsFor capacity recorder history self.old → StandsFor capacity recorder (settle_call ∷ history) self.new }
+    {
+        let answer = self.is_settled();
+        self.has_lost = false;
+        answer
+    }
+
+    fn is_settled(&self) -> bool
+        ensures { result ≡ (not self.now.has_lost && length self.now.envelopes == 0) }
+    {
+        !self.has_lost && self.envelopes.is_empty()
     }
 
     /// How many envelopes wait.

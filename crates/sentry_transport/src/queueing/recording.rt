@@ -7,7 +7,7 @@ ghost use Rattle.sentry_transport.specs.QueueHistories.{is_limited_by, recorder_
 
 use crate::queueing::limits::Limits;
 use sentry_base::protocol::{Envelope, EnvelopeItem};
-use sentry_client_reports::client_reports::{Recorder, TransportLossReason};
+use sentry_client_reports::{Recorder, TransportLossReason};
 
 // Records an item if it is limited.
 fn record_if_limited(recorder: &mut Recorder, limits: &Limits, item: &EnvelopeItem, now: u64)

@@ -5,8 +5,8 @@ ghost use Rattle.sentry_base.specs.declared.protocol.refusal.Refusal.TheVariants
 ghost use Rattle.sentry_transport.specs.Transports.{transport_options};
 
 use sentry_base::protocol::Refusal;
-use sentry_client_reports::client_reports::Recorder;
-use sentry_options::clientoptions::{ClientOptions, UserAgent};
+use sentry_client_reports::Recorder;
+use sentry_options::{ClientOptions, UserAgent};
 use sentry_plain::Text;
 use sentry_texts::dsn::Dsn;
 use std::num::NonZeroUsize;

@@ -59,6 +59,10 @@ fn length_of<R: Files>(entry: &DirEntry<R>, ending: &str) -> io::Result<Option<u
 }
 
 impl<R: Files + AllocGlobal + Clone + Drop> Folder for FileFolder<R> {
+    fn path(&self) -> &str {
+        self.path.as_str()
+    }
+
     fn write(&mut self, name: &str, bytes: &[u8]) -> io::Result<()> {
         let path = self.path_of(name)?;
         let mut file = fs::create(&self.rt, path.as_str())?;

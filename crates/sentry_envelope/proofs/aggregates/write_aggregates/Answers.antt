@@ -10,7 +10,7 @@ pub returns : goal.returns
 returns c =
     let counts =
     puts (array (items_of counts_json c.args.aggregates.now.aggregates)) c.in_ok-key.ensures
-    (same_json (array (items_of counts_json c.as_slice.result.now)) c.in_ok-write_count_list.ensures
+    (same_json (array (items_of counts_json c.as_slice.result.now)) c.in_ok-write_items.ensures
     (ap (λ xs. array (items_of counts_json xs)) c.as_slice.ensures)) in
     made c.in_ok-begin_object.ensures
     (then counts

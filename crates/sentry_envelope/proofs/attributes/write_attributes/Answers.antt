@@ -1,8 +1,8 @@
 use Rattle.std.proofs.Common.{◌≡◌, List, subst, ◌∙◌, sym}
-use Rattle.json.specs.Json.{member, no_members}
+use Rattle.json.specs.Json.{no_members}
 use Rattle.json.specs.Tree.{members_tokens}
 use Rattle.sentry_base.specs.declared.protocol.log.LogAttribute.{LogAttribute}
-use Rattle.sentry_framing.specs.Json.{Left, Puts}
+use Rattle.sentry_framing.specs.Json.{Left}
 use Rattle.sentry_framing.proofs.Written.{puts}
 use Rattle.sentry_framing.proofs.Lists.{all_left, fewer}
 use Rattle.sentry_plain.specs.Texts.{Bytes}

@@ -1,4 +1,4 @@
-use Rattle.std.proofs.Common.{drop, take}
+use Rattle.std.proofs.Common.{[], drop, take}
 use Rattle.sentry_framing.proofs.SendingLemmas.{Progress}
 use Rattle.sentry_envelope.specs.Envelopes.{envelope_text}
 use Rattle.sentry_envelope.proofs.Sending.{items_text, AreReadable}
@@ -8,4 +8,4 @@ use Rattle.sentry_envelope.proofs.envelopes.to_writer.Given as goal
 abbrev pub invariant-loop-item : goal.invariant-loop-item
 invariant-loop-item g l =
     Progress (g.W.Write.contents l.fn.writer) (g.W.Write.contents l.writer) (envelope_text l.envelope) (items_text (drop l.item-index l.item-items))
-    × AreReadable (take l.item-index l.item-items)
+    × AreReadable [] (take l.item-index l.item-items)

@@ -10,13 +10,13 @@ use Rattle.sentry_envelope.proofs.items.record_text.Goals as goal
 
 pub returns-clause-text : goal.returns-clause-text
 returns-clause-text c =
-    let content = item_content c.args.item.now in
+    let content = item_content c.args.stacktraces.now c.args.item.now in
     filled {ts = content_tokens content} c.in_ok-write_record.ensures (c.new-out.ensures.before ∙ c.new.ensures.items) c.new-out.ensures.tokens c.into_inner-text.ensures.items
     ∙ print_content content
 
 pub returns-clause-reads_back : goal.returns-clause-reads_back
 returns-clause-reads_back c =
-    let content = item_content c.args.item.now in
+    let content = item_content c.args.stacktraces.now c.args.item.now in
     let all : c.write_record.new.out.tokens ≡ content_tokens content =
     c.in_ok-write_record.ensures.tokens ∙ ap (λ (ts : List Token). ts ++ content_tokens content) c.new-out.ensures.tokens in
     content_reads content

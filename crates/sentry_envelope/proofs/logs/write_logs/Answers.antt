@@ -7,5 +7,5 @@ use Rattle.sentry_envelope.proofs.logs.write_logs.Goals as goal
 pub returns : goal.returns
 returns c =
     made c.in_ok-begin_object.ensures
-    (puts (array (items_of log_json c.args.logs.now)) c.in_ok-key.ensures c.in_ok-write_log_list.ensures)
+    (puts (array (items_of log_json c.args.logs.now)) c.in_ok-key.ensures c.in_ok-write_items.ensures)
     c.in_ok-end_object.ensures

@@ -7,5 +7,5 @@ use Rattle.sentry_envelope.proofs.metrics.write_metrics.Goals as goal
 pub returns : goal.returns
 returns c =
     made c.in_ok-begin_object.ensures
-    (puts (array (items_of metric_json c.args.metrics.now)) c.in_ok-key.ensures c.in_ok-write_metric_list.ensures)
+    (puts (array (items_of metric_json c.args.metrics.now)) c.in_ok-key.ensures c.in_ok-write_items.ensures)
     c.in_ok-end_object.ensures

@@ -13,6 +13,6 @@ returns c =
     made c.in_ok-begin_object.ensures
     (then (says c.in_ok-put_text.ensures c.as_str.ensures)
     (then (says c.in_ok-put_text-2.ensures c.as_str-2.ensures)
-    (then (same_members c.in_ok-put_texts.ensures (λ rest. ap (λ (xs : List Bytes). put_items string (codes "integrations") xs rest) c.as_slice.ensures))
-    (same_members c.in_ok-put_packages.ensures (λ rest. ap (λ (xs : List ClientSdkPackage). put_items package_json (codes "packages") xs rest) c.as_slice-2.ensures)))))
+    (then (same_members c.in_ok-put_items.ensures (λ rest. ap (λ (xs : List Bytes). put_items string (codes "integrations") xs rest) c.as_slice.ensures))
+    (same_members c.in_ok-put_items-2.ensures (λ rest. ap (λ (xs : List ClientSdkPackage). put_items package_json (codes "packages") xs rest) c.as_slice-2.ensures)))))
     c.in_ok-end_object.ensures
