@@ -2,10 +2,10 @@
 use crate::boxed::ClientCallbacks;
 use sentry_base::callbacks::BoxedEventCallback;
 pub use sentry_engine::call::{SpanCall, SpanReply};
-pub use sentry_engine::engine::{Out, Sent};
+pub use sentry_engine::{Out, Sent};
 
 /// An engine.
-pub type Engine = sentry_engine::engine::Engine<BoxedEventCallback, ClientCallbacks>;
+pub type Engine = sentry_engine::Engine<BoxedEventCallback, ClientCallbacks>;
 
 /// A call of an engine, with its arguments.
 pub type Call = sentry_engine::call::Call<BoxedEventCallback, ClientCallbacks>;

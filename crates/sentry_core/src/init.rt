@@ -1,10 +1,13 @@
 //! The start of a program: a client, its hub, and the hubs of the first thread.
-use crate::boxed::{Client, ClientOptions, Hub, Scope, Seed, SharedCore, ThreadHub};
+use crate::boxed::{
+    Client, ClientOptions, ClientSetup, Generator, Hub, Scope, Seed, SharedCore, ThreadHub,
+};
 use sentry_base::clock::{BoxedClock, TickClock};
-use sentry_base::protocol::Refusal;
+use sentry_base::protocol::{Fresh, Refusal};
 use sentry_hub::worker::{BoxedJoiner, Worker};
-use sentry_lock::core_lock::BoxedGate;
-use sentry_transport::transport::BoxedTransport;
+use sentry_lock::BoxedGate;
+use sentry_thread_hub::Refused;
+use sentry_transport::{BoxedTransport, TransportOptions};
 use std::alloc::Global;
 use std::sync::Wait;
 use std::thread::Threads;
@@ -93,8 +96,91 @@ impl Drop for ClientInitGuard {
     }
 }
 
-/// A client with a transport, and the hubs of a thread, of which the main and the current one is a hub with that client.
-/// The tag of its keys and the ids of its scope are the first that the generator of the seed draws.
+/// What a program starts from, before the transport of its client is made.
+pub struct Starting {
+    core: SharedCore,
+    setup: ClientSetup,
+    fresh: Fresh,
+    clock: BoxedClock,
+    generator: Generator,
+}
+
+impl Drop for Starting {
+    fn drop(self) {
+        let Starting {
+            core: _,
+            setup: _,
+            fresh: _,
+            clock: _,
+            generator: _,
+        } = self;
+    }
+}
+
+/// What a client of these options and the hubs of a thread start from. The tag of the client's keys and the ids of its
+/// scope are the first that the generator of the seed draws.
+///
+/// What the engine refuses of a client; `OutOfMemory`.
+pub fn prepare(
+    alloc: Global,
+    wait: BoxedGate,
+    options: ClientOptions,
+    clock: BoxedClock,
+    seed: Seed,
+) -> Result<Starting, Refusal> {
+    let mut drawing = sentry_thread_hub::ThreadHub::new((), clock, seed)?;
+    let fresh = drawing.fresh();
+    let (_, tag) = fresh.uuid.as_u64_pair();
+    let core = SharedCore::new(wait, alloc, tag)?;
+    let setup = core.client_setup(options)?;
+    Ok(Starting {
+        core,
+        setup,
+        fresh,
+        clock: drawing.clock,
+        generator: drawing.generator,
+    })
+}
+
+impl Starting {
+    /// The DSN and the rest of what a transport is made of, with the recorder of what it loses: the client reports that.
+    /// `None` if the client has no DSN, and the second time.
+    ///
+    /// `OutOfMemory`.
+    pub fn transport_options(&mut self) -> Result<Option<TransportOptions>, Refusal> {
+        self.setup.transport_options()
+    }
+
+    /// A client with this transport, and the hubs of a thread, of which the main and the current one is a hub with that
+    /// client.
+    ///
+    /// What the engine refuses of a client and a hub; `OutOfMemory`.
+    pub fn start(self, transport: BoxedTransport) -> Result<(ClientInitGuard, ThreadHub), Refusal> {
+        let Starting {
+            core,
+            setup,
+            fresh,
+            clock,
+            generator,
+        } = self;
+        let client = Client::with_options(setup, Some(transport), fresh.now)?;
+        let scope = Scope::new(core.allocator(), fresh.trace_id, fresh.span_id);
+        let main = Hub::new(&core, Some(&client), scope)?;
+        let thread = ThreadHub {
+            current: main.clone()?,
+            main,
+            clock,
+            generator,
+            request: None,
+            refused: Refused::nothing(),
+        };
+        let ticker = None;
+        Ok((ClientInitGuard { client, ticker }, thread))
+    }
+}
+
+/// A client with a transport, and the hubs of a thread: `prepare` and `Starting::start` at once. The transport gets no
+/// recorder.
 ///
 /// What the engine refuses of a client and a hub; `OutOfMemory`.
 pub fn start(
@@ -105,20 +191,6 @@ pub fn start(
     clock: BoxedClock,
     seed: Seed,
 ) -> Result<(ClientInitGuard, ThreadHub), Refusal> {
-    let mut drawing = sentry_thread_hub::thread_hub::ThreadHub::new((), clock, seed)?;
-    let fresh = drawing.fresh();
-    let (_, tag) = fresh.uuid.as_u64_pair();
-    let core = SharedCore::new(wait, alloc, tag)?;
-    let setup = core.client_setup(options)?;
-    let client = Client::with_options(setup, Some(transport), fresh.now)?;
-    let scope = Scope::new(alloc, fresh.trace_id, fresh.span_id);
-    let main = Hub::new(&core, Some(&client), scope)?;
-    let thread = ThreadHub {
-        current: main.clone()?,
-        main,
-        clock: drawing.clock,
-        generator: drawing.generator,
-    };
-    let ticker = None;
-    Ok((ClientInitGuard { client, ticker }, thread))
+    let starting = prepare(alloc, wait, options, clock, seed)?;
+    starting.start(transport)
 }

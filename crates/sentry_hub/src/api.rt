@@ -6,6 +6,7 @@
 //! would wait for itself. Closures run without the lock, and so do the methods of an error.
 ghost use Rattle.std.specs.Prelude.{◌≡◌, IfOk};
 ghost use Rattle.std.specs.Iterator.{IsFiniteIterable};
+ghost use Rattle.sentry_hub.specs.Requests.{message_event, with_request};
 
 use crate::breadcrumbs::IntoBreadcrumbs;
 use crate::errors::IntoErrorLinks;
@@ -14,19 +15,20 @@ use crate::performance::Transaction;
 use rand_core::Rng;
 use sentry_base::callbacks::{BreadcrumbCallback, EventCallback, LogCallback, MetricCallback};
 use sentry_base::clock::Clock;
-use sentry_base::protocol::{Event, Fresh, Level, Refusal, SessionStatus, SpanId, TraceId, Uuid};
-use sentry_engine::engine::ScopeGuard;
-use sentry_lock::core_lock::CoreLock;
-use sentry_lock::scope_edits::ScopeEdits;
-use sentry_options::clientoptions::{Callbacks, ClientCallbacks};
-use sentry_options::integration::Integration;
-use sentry_options::sampler::TracesSampler;
-use sentry_plain::Boxed;
-use sentry_scope::scope::Scope;
-use sentry_thread_hub::hub_switch_guard::run_under;
-use sentry_thread_hub::thread_hub::{ThreadHub, fresh_of};
+use sentry_base::protocol::{
+    Event, Fresh, Level, Refusal, Request, SessionStatus, SpanId, TraceId, TransactionOrSpanKey,
+    Uuid,
+};
+use sentry_engine::ScopeGuard;
+use sentry_lock::{CoreLock, ScopeEdits};
+use sentry_options::{Callbacks, ClientCallbacks, Integration, TracesSampler};
+use sentry_plain::{Boxed, Text};
+use sentry_scope::Scope;
+use sentry_texts::utils::event_from_error;
+use sentry_thread_hub::{ThreadHub, fresh_of, run_under};
 use sentry_trace::performance::TransactionContext;
-use std::alloc::AllocError;
+use std::alloc::{AllocError, Global};
+use std::fmt::Display;
 
 // What `with_scope` works on: the guard of the layer that was pushed onto the current hub with a copy of its scope,
 // unless the hub isn't active, and the hub once more, which is current while the callback runs.
@@ -81,7 +83,35 @@ fn start_without_client_at<L: CoreLock>(
     started
 }
 
-/// Captures an event. Its id is the answer; the nil id if it was not sent.
+// The event with the request that a thread serves, if it tells of none.
+fn with_request(mut event: Event, request: &Option<Request>) -> Result<Event, AllocError>
+    ensures { IfOk result (λ made. made ≡ with_request request.now event) }
+{
+    if event.request.is_none() {
+        event.request = request.clone()?;
+    }
+    Ok(event)
+}
+
+// The event of a message with the request that a thread serves.
+fn message_event(
+    alloc: Global,
+    message: &str,
+    level: Level,
+    request: &Option<Request>,
+    id: Uuid,
+    now: u64,
+) -> Result<Event, AllocError>
+    ensures { IfOk result (λ made. made ≡ with_request request.now (message_event message.now level id now)) }
+{
+    let mut event = Event::new(alloc, id, now)?;
+    event.level = level;
+    event.message = Some(Text::new(alloc, message)?);
+    with_request(event, request)
+}
+
+/// Captures an event. Its id is the answer; the nil id if it was not sent. If it tells of no request, it tells of the one
+/// that the thread serves.
 ///
 /// `Stale`: the hub isn't held. `OutOfMemory`.
 pub fn capture_event<L: CoreLock, K: Clock, G: Rng>(
@@ -91,6 +121,7 @@ pub fn capture_event<L: CoreLock, K: Clock, G: Rng>(
     ensures main { thread.new.main ≡ thread.old.main }
     ensures current { thread.new.current ≡ thread.old.current }
 {
+    let event = with_request(event, &thread.request)?;
     let hub = &thread.current;
     let Some(active) = hub.lock_active()? else {
         return Ok(Uuid::nil());
@@ -99,7 +130,7 @@ pub fn capture_event<L: CoreLock, K: Clock, G: Rng>(
     active.capture_event(event, fresh)
 }
 
-/// Captures a message. Its id is the answer; the nil id if it was not sent.
+/// Captures a message. Its id is the answer; the nil id if it was not sent. It tells of the request that the thread serves.
 ///
 /// `Stale`: the hub isn't held. `OutOfMemory`.
 pub fn capture_message<L: CoreLock, K: Clock, G: Rng>(
@@ -115,11 +146,23 @@ pub fn capture_message<L: CoreLock, K: Clock, G: Rng>(
         return Ok(Uuid::nil());
     };
     let fresh = fresh_of(&mut thread.clock, &mut thread.generator);
-    active.capture_message(message, level, fresh)
+    if thread.request.is_none() {
+        return active.capture_message(message, level, fresh);
+    }
+    let alloc = hub.allocator();
+    let event = message_event(
+        alloc,
+        message,
+        level,
+        &thread.request,
+        fresh.uuid,
+        fresh.now,
+    )?;
+    active.capture_event(event, fresh)
 }
 
 /// Captures an error, an error and its causes, or the links of one, outermost first. Its id is the answer; the nil id if
-/// it was not sent.
+/// it was not sent. It tells of the request that the thread serves.
 ///
 /// `Stale`: the hub isn't held. `OutOfMemory`.
 pub fn capture_error<L: CoreLock, K: Clock, G: Rng, E: IntoErrorLinks>(
@@ -138,7 +181,11 @@ pub fn capture_error<L: CoreLock, K: Clock, G: Rng, E: IntoErrorLinks>(
         return Ok(Uuid::nil());
     };
     let fresh = fresh_of(&mut thread.clock, &mut thread.generator);
-    active.capture_error(links.as_slice(), fresh)
+    if thread.request.is_none() {
+        return active.capture_error(links.as_slice(), fresh);
+    }
+    let event = event_from_error(hub.allocator(), links.as_slice(), fresh.uuid, fresh.now)?;
+    active.capture_event(with_request(event, &thread.request)?, fresh)
 }
 
 /// The context of a transaction of this name and operation, whose ids are drawn.
@@ -231,6 +278,33 @@ pub fn configure_scope<
     };
     let scope = active.scope()?;
     hub.configure_copy(scope, thread.clock.now(), configure)
+}
+
+/// Sets a tag of the scope of the top layer to the text of a value. It replaces a tag with the same key.
+///
+/// `Stale`: the hub isn't held. `OutOfMemory`.
+pub fn set_tag<L: CoreLock, K: Clock, G, V: Display + Drop>(
+    thread: &mut ThreadHub<Hub<L>, K, G>,
+    key: &str,
+    value: V,
+) -> Result<(), Refusal>
+    ensures main { thread.new.main ≡ thread.old.main }
+    ensures current { thread.new.current ≡ thread.old.current }
+{
+    let text = format!(in thread.current.allocator(); "{value}")?;
+    configure_scope(thread, |scope| scope.set_tag(key, text.as_str()))
+}
+
+/// Makes no span active on the scope of the top layer.
+///
+/// `Stale`: the hub isn't held. `OutOfMemory`.
+pub fn clear_span<L: CoreLock, K: Clock, G>(
+    thread: &mut ThreadHub<Hub<L>, K, G>,
+) -> Result<(), Refusal>
+    ensures main { thread.new.main ≡ thread.old.main }
+    ensures current { thread.new.current ≡ thread.old.current }
+{
+    configure_scope(thread, |scope| scope.set_span(None::<TransactionOrSpanKey>))
 }
 
 /// Runs the callback, which is lent the hubs of the thread, while a layer stands on top whose scope is a copy of the one

@@ -10,12 +10,9 @@ mod threads;
 pub(crate) use scopes::refuse_scope;
 pub use scopes::{PopScopeError, WithScopeError};
 use sentry_base::protocol::{HubKey, Refusal};
-use sentry_lock::client::Client;
-use sentry_lock::core_lock::CoreLock;
-use sentry_lock::direct::LockedHub;
-use sentry_lock::shared_core::SharedCore;
-use sentry_scope::scope::Scope;
-use sentry_thread_hub::thread_hub::MakeFromTop;
+use sentry_lock::{Client, CoreLock, LockedHub, SharedCore};
+use sentry_scope::Scope;
+use sentry_thread_hub::MakeFromTop;
 use std::alloc::{AllocError, Global};
 use std::marker::Model;
 
@@ -96,6 +93,21 @@ impl<L: CoreLock> Hub<L> {
         ensures { result ≡ self.now }
     {
         self.key
+    }
+
+    // Makes the value one of the hub of this key in the same core.
+    pub(crate) fn set_key(&mut self, key: HubKey)
+        ensures { self.new ≡ key }
+    {
+        self.key = key;
+    }
+
+    // The same, of a value that is handed in.
+    pub(crate) fn with_key(self, key: HubKey) -> Hub<L>
+        ensures { result ≡ key }
+    {
+        let Hub { core, key: _ } = self;
+        Hub { core, key }
     }
 
     /// The allocator of the core.

@@ -5,8 +5,8 @@ use crate::hub::Hub;
 use sentry_base::clock::Clock;
 use sentry_base::protocol::Refusal;
 use sentry_batches::metrics::{IntoProtocolMetric, TypedMetric};
-use sentry_lock::core_lock::CoreLock;
-use sentry_thread_hub::thread_hub::ThreadHub;
+use sentry_lock::CoreLock;
+use sentry_thread_hub::ThreadHub;
 
 /// The method `capture` of counters, gauges and distributions.
 pub trait CaptureMetric {

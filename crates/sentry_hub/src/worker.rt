@@ -1,8 +1,7 @@
 //! A thread that ticks a client.
 pub use sentry_base::clock::{BoxedTickClock, TickClock};
 use sentry_base::protocol::Refusal;
-use sentry_lock::client::Client;
-use sentry_lock::core_lock::CoreLock;
+use sentry_lock::{Client, CoreLock};
 use std::alloc::AllocError;
 use std::sync::atomic::{AtomicU64, Ordering};
 use std::sync::{Arc, Wait};

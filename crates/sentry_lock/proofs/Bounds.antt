@@ -10,7 +10,7 @@ use Rattle.sentry_sessions.proofs.QueueLemmas.{queue_is_short_is}
 use Rattle.sentry_span_table.proofs.SpanListLemmas.{kept_short}
 use Rattle.sentry_span_table.specs.SpanLists.{TransactionHistory, stored_transaction}
 use Rattle.sentry_span_table.specs.declared.table.records.TransactionRecord.{TransactionRecord}
-use Rattle.sentry_state.specs.declared.state.Client.{Client}
+use Rattle.sentry_state.specs.declared.state.ClientState.{ClientState}
 use Rattle.sentry_state.specs.declared.state.State.{State}
 use Rattle.sentry_state.specs.Worlds.{World, ClientHistory, Stands, stored_client}
 use Rattle.sentry_state.proofs.Keeping.{found_in_world, value_at-map_values}
@@ -24,12 +24,12 @@ module _ {C : Type 0} where
     sessions = queue_is_short_is client.options.plain.session_mode client.queues.sessions;
   }
 
-  found_short : (o : Option (ClientHistory C)) (client : Client C) → Some client ≡ option_map stored_client o
+  found_short : (o : Option (ClientHistory C)) (client : ClientState C) → Some client ≡ option_map stored_client o
       → AreShort client.options.plain client.queues
   found_short None client e = absurd cc
   found_short (Some state) client e =
       let same : client ≡ stored_client state = cc in
-      subst (λ (c : Client C). AreShort c.options.plain c.queues) (sym same) (state_short state)
+      subst (λ (c : ClientState C). AreShort c.options.plain c.queues) (sym same) (state_short state)
 
 found_kept : (o : Option TransactionHistory) (transaction : TransactionRecord)
     → option_map stored_transaction o ≡ Some transaction → length transaction.spans ≤ transaction.max_spans
@@ -44,7 +44,7 @@ found_balanced (Some history) book e =
     let same : book_of history ≡ book = cc in subst IsBalanced same (balanced history)
 
 module _ {P C : Type 0} (engine : State P C) (world : World P C) (stands : Stands engine world) where
-  pub queues_short : (n : ℕ) (client : Client C) → value_at engine.clients n ≡ Some client
+  pub queues_short : (n : ℕ) (client : ClientState C) → value_at engine.clients n ≡ Some client
       → AreShort client.options.plain client.queues
   queues_short n client at = found_short (value_at world.clients n) client (sym at ∙ found_in_world engine world stands n)
 

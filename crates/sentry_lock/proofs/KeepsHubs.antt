@@ -19,11 +19,11 @@ use Rattle.sentry_scope.specs.declared.scope.edit.ScopeEdit.{ScopeEdit}
 use Rattle.sentry_events.specs.Captures as captures
 use Rattle.sentry_state.specs.Breadcrumbs.{add_breadcrumbs}
 use Rattle.sentry_base.specs.declared.protocol.refusal.Refusal.TheVariants.{Stale}
-use Rattle.sentry_hub_table.specs.declared.hub.Hub.{Hub}
+use Rattle.sentry_hub_table.specs.declared.hub.HubState.{HubState}
 use Rattle.sentry_state.specs.Clients.{is_enabled_client}
 use Rattle.sentry_state.specs.Outcomes.{Outcome, hub_at, let_some, stored_client_at, reply_with, require_some}
 use Rattle.sentry_state.specs.Worlds.{World}
-use Rattle.sentry_state.specs.declared.state.Client.{Client}
+use Rattle.sentry_state.specs.declared.state.ClientState.{ClientState}
 use Rattle.sentry_calls.specs.Active.{if_active}
 use Rattle.sentry_calls.specs.declared.call.Call.TheVariants as group
 use Rattle.sentry_calls.specs.declared.call.hubs.HubCall.TheVariants as on_hub
@@ -40,7 +40,7 @@ module _ {P C : Type 0} where
   client_active_keeps call world true keeps = keeps
   client_active_keeps call world false keeps = unchanged world.books
 
-  layer_active_keeps : (call : World P C → Outcome P C (Unit {0})) (world : World P C) (client : Option (Client C)) → KeepsBooks world.books (call world).after.books
+  layer_active_keeps : (call : World P C → Outcome P C (Unit {0})) (world : World P C) (client : Option (ClientState C)) → KeepsBooks world.books (call world).after.books
       → KeepsBooks world.books (let_some client (reply_with tt [] world) (λ c. if is_enabled_client c then call world else reply_with tt [] world)).after.books
   layer_active_keeps call world None keeps = unchanged world.books
   layer_active_keeps call world (Some client) keeps = client_active_keeps call world (is_enabled_client client) keeps
@@ -51,7 +51,7 @@ module _ {P C : Type 0} where
   top_active_keeps call world None keeps = unchanged world.books
   top_active_keeps call world (Some key) keeps = layer_active_keeps call world (stored_client_at world key) keeps
 
-  hub_active_keeps : (call : World P C → Outcome P C (Unit {0})) (world : World P C) (hub : Option (Hub P)) → KeepsBooks world.books (call world).after.books
+  hub_active_keeps : (call : World P C → Outcome P C (Unit {0})) (world : World P C) (hub : Option (HubState P)) → KeepsBooks world.books (call world).after.books
       → KeepsBooks world.books (require_some Stale world hub (λ h. let_some h.stack.top.client (reply_with tt [] world) (λ k.
       let_some (stored_client_at world k) (reply_with tt [] world) (λ c. if is_enabled_client c then call world else reply_with tt [] world)))).after.books
   hub_active_keeps call world None keeps = unchanged world.books

@@ -18,7 +18,7 @@ use Rattle.sentry_options.specs.Meanings.{Meanings}
 use Rattle.sentry_trace.specs.declared.performance.context.TransactionContext.{TransactionContext}
 use Rattle.sentry_calls.specs.SpanCalls.{span_step}
 use Rattle.sentry_calls.specs.declared.call.spans.records.SpanCall.TheVariants as on_span
-use Rattle.sentry_span_edits.specs.Discards as discards
+use Rattle.sentry_spans.specs.Discards as discards
 use Rattle.sentry_span_edits.specs.Setters as setters
 use Rattle.sentry_spans.specs.Ends as ends
 use Rattle.sentry_spans.specs.Spans as spans

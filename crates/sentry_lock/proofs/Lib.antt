@@ -11,3 +11,4 @@ mod Sound
 mod Silent
 mod Walks
 mod Sent
+mod LockAnswers

@@ -17,7 +17,7 @@ use Rattle.sentry_calls.specs.Replies.{map_answer, map_reply}
 use Rattle.sentry_calls.specs.declared.call.spans.records.SpanCall.{SpanCall}
 use Rattle.sentry_calls.specs.declared.call.spans.records.SpanCall.TheVariants as on_span
 use Rattle.sentry_calls.specs.declared.call.spans.records.SpanReply.{SpanReply}
-use Rattle.sentry_span_edits.specs.Discards.{discard, is_active_on}
+use Rattle.sentry_spans.specs.Discards.{discard, is_active_on}
 use Rattle.sentry_span_edits.specs.Reads.{get_status, read_data, is_sampled, get_span_id, get_trace_context, iter_headers}
 use Rattle.sentry_span_edits.specs.Setters.{change}
 use Rattle.sentry_span_edits.specs.declared.edit.SpanEdit.{SpanEdit}

@@ -10,7 +10,7 @@ use Rattle.sentry_client_reports.specs.LossCounts.{CountedPart}
 use Rattle.sentry_options.specs.declared.clientoptions.plain.PlainOptions.{PlainOptions}
 use Rattle.sentry_sessions.specs.declared.session.aggregates.TheConstants.{MAX_INDIVIDUAL}
 use Rattle.sentry_span_table.specs.declared.table.records.TransactionRecord.{TransactionRecord}
-use Rattle.sentry_state.specs.declared.state.Client.{Client}
+use Rattle.sentry_state.specs.declared.state.ClientState.{ClientState}
 use Rattle.sentry_state.specs.declared.state.Out.{Out}
 use Rattle.sentry_state.specs.declared.state.Queues.{Queues}
 use Rattle.sentry_state.specs.declared.state.State.{State}
@@ -41,7 +41,7 @@ pub record IsSound {P C : Type 0} (engine : State P C) (drainers : Drainers) : T
   pub world : World P C
   pub stands : Stands engine world
   pub sorted : IsIncreasing 0 world.books
-  pub short : (n : ℕ) (client : Client C) → value_at engine.clients n ≡ Some client
+  pub short : (n : ℕ) (client : ClientState C) → value_at engine.clients n ≡ Some client
       → AreShort client.options.plain client.queues
   pub kept : (n : ℕ) (transaction : TransactionRecord) → value_at engine.spans.transactions n ≡ Some transaction
       → length transaction.spans ≤ transaction.max_spans

@@ -1,20 +1,24 @@
 //! A client: its key, and a share of the core that holds it.
-ghost use Rattle.std.specs.Prelude.{◌≡◌, IfOk, Ok, nat_lt};
+ghost use Rattle.std.specs.Option.{is_some};
+ghost use Rattle.std.specs.Prelude.{◌≡◌, IfErr, IfOk, Ok, nat_lt, option_copied};
 ghost use Rattle.sentry_base.specs.Losses.{no_losses};
+ghost use Rattle.sentry_calls.specs.Clients as clients;
+ghost use Rattle.sentry_calls.specs.Telemetry as telemetry;
+ghost use Rattle.sentry_lock.specs.Answers.{LockAnswers, LockAnswersWithoutMemory, LockDrainsAndAnswers, LockRefuses, LockRefusesWithoutMemory};
 
 mod setup;
 
 use crate::core_lock::CoreLock;
-use crate::handed::{Ending, Handed};
+use crate::handed::{Ending, Handed, reply_of};
 use crate::shared_core::SharedCore;
 use sentry_base::protocol::{
     ClientKey, Draw, Envelope, Event, Fresh, Label, Log, Refusal, SampleRate, Uuid,
 };
 use sentry_batches::metrics::IntoProtocolMetric;
-use sentry_client_reports::client_reports::CountedDrainer;
-use sentry_options::clientoptions::ClientOptions;
+use sentry_client_reports::CountedDrainer;
+use sentry_options::ClientOptions;
 use sentry_plain::{Boxed, Shared};
-use sentry_scope::scope::Scope;
+use sentry_scope::Scope;
 use sentry_texts::dsn::Dsn;
 pub use setup::ClientSetup;
 use std::alloc::{AllocError, Global};
@@ -41,6 +45,8 @@ fn add_client<L: CoreLock>(
 ) -> Result<ClientKey, Refusal>
     requires label { drainer.part.label ≡ label }
     requires none { drainer.taken ≡ no_losses }
+    ensures { IfOk result (λ key. LockAnswers L.Processor L.Callbacks L.Transport key
+        (clients.add_client L.Callbacks.meanings options (is_some transport) label now)) }
 {
     let mut guard = core.lock();
     let out = guard
@@ -103,7 +109,10 @@ impl<L: CoreLock> Client<L> {
         setup: ClientSetup<L, L::Callbacks>,
         transport: Option<L::Transport>,
         now: u64,
-    ) -> Result<Client<L>, Refusal> {
+    ) -> Result<Client<L>, Refusal>
+        ensures { IfOk result (λ client. LockAnswers L.Processor L.Callbacks L.Transport client
+            (clients.add_client L.Callbacks.meanings setup.options (is_some transport) setup.label now)) }
+    {
         let ClientSetup {
             core,
             options,
@@ -116,7 +125,8 @@ impl<L: CoreLock> Client<L> {
         let kept = share.clone()?;
         let added = add_client(&core, options, share, label, drainer, now);
         drop(kept);
-        Ok(Client { core, key: added? })
+        let key = added?;
+        Ok(Client { core, key })
     }
 
     /// The same as `with_options`.
@@ -124,7 +134,10 @@ impl<L: CoreLock> Client<L> {
         setup: ClientSetup<L, L::Callbacks>,
         transport: Option<L::Transport>,
         now: u64,
-    ) -> Result<Client<L>, Refusal> {
+    ) -> Result<Client<L>, Refusal>
+        ensures { IfOk result (λ client. LockAnswers L.Processor L.Callbacks L.Transport client
+            (clients.add_client L.Callbacks.meanings setup.options (is_some transport) setup.label now)) }
+    {
         Client::with_options(setup, transport, now)
     }
 
@@ -143,31 +156,43 @@ impl<L: CoreLock> Client<L> {
     /// The options, as a share: after the `setup` of the integrations, which are among them.
     ///
     /// `Stale`: the client isn't held. `OutOfMemory`.
-    pub fn options(&self) -> Result<Shared<ClientOptions<L::Callbacks>>, Refusal> {
+    pub fn options(&self) -> Result<Shared<ClientOptions<L::Callbacks>>, Refusal>
+        ensures done { IfOk result (λ reply. LockAnswers L.Processor L.Callbacks L.Transport
+            reply (clients.options self.now)) }
+        ensures refused { IfErr result (λ refusal. LockRefuses L.Processor L.Callbacks L.Transport
+            refusal (clients.options self.now)) }
+    {
         let mut guard = self.core.lock();
         let core = &mut guard.under.core;
-        let out = core.engine().options(self.key)?;
-        Ok(out.reply)
+        reply_of(core.engine().options(self.key))
     }
 
     /// Where the client sends to, if anywhere.
     ///
     /// `Stale`: the client isn't held. `OutOfMemory`.
-    pub fn dsn(&self) -> Result<Option<Dsn>, Refusal> {
+    pub fn dsn(&self) -> Result<Option<Dsn>, Refusal>
+        ensures done { IfOk result (λ reply. LockAnswers L.Processor L.Callbacks L.Transport
+            reply (clients.dsn self.now)) }
+        ensures refused { IfErr result (λ refusal. LockRefuses L.Processor L.Callbacks L.Transport
+            refusal (clients.dsn self.now)) }
+    {
         let mut guard = self.core.lock();
         let core = &mut guard.under.core;
-        let out = core.engine().dsn(self.key)?;
-        Ok(out.reply)
+        reply_of(core.engine().dsn(self.key))
     }
 
     /// Whether the client has a DSN, now and when it was added, and a transport. It takes no memory.
     ///
     /// `Stale`: the client isn't held.
-    pub fn is_enabled(&self) -> Result<bool, Refusal> {
+    pub fn is_enabled(&self) -> Result<bool, Refusal>
+        ensures done { IfOk result (λ reply. LockAnswersWithoutMemory L.Processor L.Callbacks L.Transport
+            reply (clients.is_enabled self.now)) }
+        ensures refused { IfErr result (λ refusal. LockRefusesWithoutMemory L.Processor L.Callbacks L.Transport
+            refusal (clients.is_enabled self.now)) }
+    {
         let mut guard = self.core.lock();
         let core = &mut guard.under.core;
-        let out = core.engine().is_enabled(self.key)?;
-        Ok(out.reply)
+        reply_of(core.engine().is_enabled(self.key))
     }
 
     /// Whether what has this draw is sent at this rate. It takes no lock and no memory, and is never refused.
@@ -186,7 +211,10 @@ impl<L: CoreLock> Client<L> {
         event: Event,
         scope: Option<&Scope<L::Processor>>,
         fresh: Fresh,
-    ) -> Result<Option<Boxed<Event>>, Refusal> {
+    ) -> Result<Option<Boxed<Event>>, Refusal>
+        ensures { IfOk result (λ reply. LockAnswers L.Processor L.Callbacks L.Transport
+            reply (clients.prepare_event L.Processor.gives L.Callbacks.meanings self.now event (option_copied scope.entry) fresh)) }
+    {
         self.core
             .lock()
             .under
@@ -202,7 +230,10 @@ impl<L: CoreLock> Client<L> {
         event: Event,
         scope: Option<&Scope<L::Processor>>,
         fresh: Fresh,
-    ) -> Result<Uuid, Refusal> {
+    ) -> Result<Uuid, Refusal>
+        ensures { IfOk result (λ reply. LockDrainsAndAnswers L.Processor L.Callbacks L.Transport
+            reply (clients.client_capture_event L.Processor.gives L.Callbacks.meanings self.now event (option_copied scope.entry) fresh)) }
+    {
         let mut guard = self.core.lock();
         let core = &mut guard.under.core;
         let handed = core.client_capture_event(self.key, event, scope, fresh)?;
@@ -213,7 +244,10 @@ impl<L: CoreLock> Client<L> {
     /// Captures a log under a scope.
     ///
     /// `Stale`: the client isn't held, or the span of the scope isn't. `OutOfMemory`.
-    pub fn capture_log(&self, log: Log, scope: &Scope<L::Processor>) -> Result<(), Refusal> {
+    pub fn capture_log(&self, log: Log, scope: &Scope<L::Processor>) -> Result<(), Refusal>
+        ensures { IfOk result (λ reply. LockDrainsAndAnswers L.Processor L.Callbacks L.Transport
+            reply (telemetry.client_capture_log L.Callbacks.meanings self.now log scope.now)) }
+    {
         let mut guard = self.core.lock();
         let core = &mut guard.under.core;
         let handed = core.client_capture_log(self.key, log, scope)?;
@@ -229,7 +263,10 @@ impl<L: CoreLock> Client<L> {
         metric: M,
         scope: &Scope<L::Processor>,
         now: u64,
-    ) -> Result<(), Refusal> {
+    ) -> Result<(), Refusal>
+        ensures { IfOk result (λ reply. LockDrainsAndAnswers L.Processor L.Callbacks L.Transport
+            reply (telemetry.client_capture_metric L.Callbacks.meanings self.now (M.draft_of metric) scope.now now)) }
+    {
         let draft = metric.into_draft();
         let mut guard = self.core.lock();
         let core = &mut guard.under.core;
@@ -241,7 +278,10 @@ impl<L: CoreLock> Client<L> {
     /// Sends an envelope, with the pending report as its last item. Without a transport nothing is sent.
     ///
     /// `Stale`: the client isn't held. `OutOfMemory`.
-    pub fn send_envelope(&self, envelope: Envelope) -> Result<(), Refusal> {
+    pub fn send_envelope(&self, envelope: Envelope) -> Result<(), Refusal>
+        ensures { IfOk result (λ reply. LockDrainsAndAnswers L.Processor L.Callbacks L.Transport
+            reply (clients.send_envelope self.now envelope)) }
+    {
         let mut guard = self.core.lock();
         let handed = guard.under.core.send_envelope(self.key, envelope)?;
         drop(guard);
@@ -253,7 +293,9 @@ impl<L: CoreLock> Client<L> {
     /// transport, or was closed.
     ///
     /// `Stale`: the client isn't held. `OutOfMemory`.
-    pub fn flush(&self, timeout: Option<u64>) -> Result<bool, Refusal> {
+    pub fn flush(&self, timeout: Option<u64>) -> Result<bool, Refusal>
+        ensures { IfOk result (λ _. LockDrainsAndAnswers L.Processor L.Callbacks L.Transport tt (clients.flush self.now)) }
+    {
         let mut guard = self.core.lock();
         let core = &mut guard.under.core;
         let option = core.engine().shutdown_timeout(self.key);
@@ -268,7 +310,9 @@ impl<L: CoreLock> Client<L> {
     /// closed.
     ///
     /// `Stale`: the client isn't held. `OutOfMemory`.
-    pub fn close(&self, timeout: Option<u64>) -> Result<bool, Refusal> {
+    pub fn close(&self, timeout: Option<u64>) -> Result<bool, Refusal>
+        ensures { IfOk result (λ _. LockDrainsAndAnswers L.Processor L.Callbacks L.Transport tt (clients.close self.now)) }
+    {
         let mut guard = self.core.lock();
         let core = &mut guard.under.core;
         let option = core.engine().shutdown_timeout(self.key);
@@ -298,7 +342,10 @@ impl<L: CoreLock> Client<L> {
     /// Tells the client the moment, in nanoseconds since the epoch: what is due is sent.
     ///
     /// `Stale`: the client isn't held. `OutOfMemory`.
-    pub fn tick(&self, now: u64) -> Result<(), Refusal> {
+    pub fn tick(&self, now: u64) -> Result<(), Refusal>
+        ensures { IfOk result (λ reply. LockDrainsAndAnswers L.Processor L.Callbacks L.Transport
+            reply (clients.tick self.now now)) }
+    {
         let mut guard = self.core.lock();
         let handed = guard.under.core.tick(self.key, now)?;
         drop(guard);
@@ -309,7 +356,9 @@ impl<L: CoreLock> Client<L> {
     /// the epoch.
     ///
     /// `Stale`: the client isn't held. `Full`: the numbers are used up. `OutOfMemory`.
-    pub fn clone_client(&self, now: u64) -> Result<Client<L>, Refusal> {
+    pub fn clone_client(&self, now: u64) -> Result<Client<L>, Refusal>
+        ensures { IfOk result (λ client. LockAnswers L.Processor L.Callbacks L.Transport client (clients.clone_client self.now now)) }
+    {
         let core = self.core.clone()?;
         let key = self.core.lock().under.core.clone_client(self.key, now)?;
         Ok(Client { core, key })
@@ -320,7 +369,10 @@ impl<L: CoreLock> Client<L> {
     ///
     /// `Stale`: the client isn't held. `StillNamed`: a layer of a hub names it, a session that goes on started under it,
     /// or it will send a transaction that is unfinished. `OutOfMemory`.
-    pub fn drop_client(&self) -> Result<(), Refusal> {
+    pub fn drop_client(&self) -> Result<(), Refusal>
+        ensures { IfOk result (λ reply. LockDrainsAndAnswers L.Processor L.Callbacks L.Transport
+            reply (clients.drop_client self.now)) }
+    {
         // By this share the callbacks are dropped without the lock.
         let _options = self.options()?;
         let mut guard = self.core.lock();

@@ -2,10 +2,12 @@
 use crate::locked::Core;
 use crate::under_lock::UnderLock;
 use sentry_base::callbacks::EventCallback;
-use sentry_options::clientoptions::Callbacks;
-use sentry_transport::transport::Transport;
+use sentry_base::protocol::{ClientReport, Label, Losses, Refusal};
+use sentry_options::Callbacks;
+use sentry_transport::Transport;
 use std::alloc::{AllocError, Global};
 use std::convert::Infallible;
+use std::hint::spin_loop;
 use std::sync::{Mutex, MutexGuard, Wait};
 
 /// What waits for a lock, by a runtime that it keeps.
@@ -48,7 +50,7 @@ impl Gate for BoxedGate {
 
 /// What holds the lock of a core. It is given up when this is dropped.
 pub struct CoreGuard<'a, U> {
-    pub under: MutexGuard<'a, U>,
+    pub(crate) under: MutexGuard<'a, U>,
     gate: MutexGuard<'a, ()>,
 }
 
@@ -57,6 +59,29 @@ impl<U> Drop for CoreGuard<'_, U> {
         let CoreGuard { under, gate } = self;
         drop(under);
         drop(gate);
+    }
+}
+
+impl<P: EventCallback + Drop, C: Callbacks, T: Drop> CoreGuard<'_, UnderLock<P, C, T>> {
+    /// As `SharedCore::drain_and_absorb`, in this hold of the lock.
+    ///
+    /// `ForeignLosses`: no client that is held names the label.
+    pub fn drain_and_absorb(&mut self, label: Label) -> Result<Option<Losses>, Refusal> {
+        self.under.core.drain_and_absorb(label)
+    }
+
+    /// As `SharedCore::take_report`, in this hold of the lock.
+    ///
+    /// `ForeignLosses`: no client that is held names the label. `OutOfMemory`.
+    pub fn take_report(&mut self, label: Label) -> Result<Option<ClientReport>, Refusal> {
+        self.under.core.take_report(label)
+    }
+
+    /// As `SharedCore::close_losses`, in this hold of the lock.
+    ///
+    /// `ForeignLosses`: no client that is held names the label.
+    pub fn close_losses(&mut self, label: Label) -> Result<bool, Refusal> {
+        self.under.core.close_losses(label)
     }
 }
 
@@ -76,6 +101,8 @@ pub trait CoreLock: Drop {
 /// A core under its lock, and what waits for the lock. Whoever takes the core has entered the gate.
 pub struct Locked<P, C, T, W> {
     gate: Mutex<()>,
+    // Two lines of a cache, so that those who try the gate don't take from whoever is in it what lies beside it.
+    apart: [u64; 16],
     core: Mutex<UnderLock<P, C, T>>,
     wait: W,
 }
@@ -84,6 +111,7 @@ impl<P: Drop, C: Drop, T: Drop, W: Drop> Drop for Locked<P, C, T, W> {
     fn drop(self) {
         let Locked {
             gate: _,
+            apart: _,
             core: _,
             wait: _,
         } = self;
@@ -103,9 +131,36 @@ impl<P: EventCallback + Drop, C: Callbacks, T: Transport + Drop, W: Gate + Drop>
         let core = Mutex::new(UnderLock::new(Core::new(alloc, tag)?));
         Ok(Locked {
             gate: Mutex::new(()),
+            apart: [0; 16],
             core,
             wait,
         })
+    }
+}
+
+// How often the gate is tried before a thread sleeps at it, some 20 microseconds, and how long it rests between two tries.
+// Whoever leaves the gate has to wake a thread that sleeps, which takes longer than most calls hold the lock.
+const TRIES: u32 = 1_000;
+
+const RESTS: u32 = 2;
+
+impl<P: EventCallback + Drop, C: Callbacks, T: Transport + Drop, W: Gate + Drop> Locked<
+    P,
+    C,
+    T,
+    W,
+> {
+    // Enters the gate: by trying for a while, and then by what waits.
+    fn enter(&self) -> MutexGuard<'_, ()> {
+        for _ in 0..TRIES {
+            if let Some(gate) = self.gate.try_lock() {
+                return gate;
+            }
+            for _ in 0..RESTS {
+                spin_loop();
+            }
+        }
+        self.wait.enter(&self.gate)
     }
 }
 
@@ -118,7 +173,7 @@ impl<P: EventCallback + Drop, C: Callbacks, T: Transport + Drop, W: Gate + Drop>
     type Transport = T;
 
     fn lock(&self) -> CoreGuard<'_, UnderLock<P, C, T>> {
-        let gate = self.wait.enter(&self.gate);
+        let gate = self.enter();
         match self.core.try_lock() {
             Some(under) => CoreGuard { under, gate },
             // Whoever holds the core has entered the gate, and no one waits for the core itself.

@@ -1,11 +1,22 @@
 //! Envelopes on their way from the lock to the transports.
-ghost use Rattle.std.specs.Prelude.{◌≡◌};
+ghost use Rattle.std.specs.Prelude.{◌≡◌, Err, IfErr, IfOk, Ok};
 
-use sentry_base::protocol::{ClientKey, Envelope};
-use sentry_engine::engine::{Out, Sent};
+use sentry_base::protocol::{ClientKey, Envelope, Refusal};
+use sentry_engine::{Out, Sent};
 use sentry_plain::{Shared, Table};
-use sentry_transport::transport::Transport;
+use sentry_transport::Transport;
 use std::alloc::AllocError;
+
+/// The reply of a call that hands nothing out.
+pub(crate) fn reply_of<A: Drop>(answer: Result<Out<A>, Refusal>) -> Result<A, Refusal>
+    ensures ok { IfOk answer (λ out. result ≡ Ok out.reply) }
+    ensures err { IfErr answer (λ refusal. result ≡ Err refusal) }
+{
+    match answer {
+        Ok(out) => Ok(out.reply),
+        Err(refusal) => Err(refusal),
+    }
+}
 
 /// The transports by the number of their client. A call takes a share of the whole table before it changes the engine, so
 /// that nothing needs memory after it.

@@ -14,8 +14,8 @@ use crate::handed::Routes;
 use crate::words::Drainers;
 use sentry_base::callbacks::EventCallback;
 use sentry_base::protocol::Losses;
-use sentry_engine::engine::{Engine, Held};
-use sentry_options::clientoptions::Callbacks;
+use sentry_engine::{Engine, Held};
+use sentry_options::Callbacks;
 use sentry_plain::{Shared, Table};
 use std::alloc::{AllocError, Global};
 
@@ -65,7 +65,9 @@ impl<P: EventCallback + Drop, C: Callbacks, T: Drop> Core<P, C, T> {
     }
 
     /// The engine, to read.
-    pub(crate) fn engine(&self) -> &Engine<P, C> {
+    pub(crate) fn engine(&self) -> &Engine<P, C>
+        ensures { result.now ≡ self.now.engine }
+    {
         &self.engine
     }
 }

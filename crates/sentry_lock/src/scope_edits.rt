@@ -5,9 +5,9 @@ ghost use Rattle.sentry_scope.specs.declared.scope.edit.ScopeEdit.TheVariants as
 use sentry_base::protocol::{
     Attachment, Context, Level, SpanId, TraceId, TransactionOrSpanKey, User,
 };
-use sentry_batches::to_value::ToValue;
+use sentry_batches::ToValue;
 use sentry_plain::{Items, Text, ValueMap, copy_texts};
-use sentry_scope::scope::{Scope, ScopeEdit};
+use sentry_scope::{Scope, ScopeEdit};
 use std::alloc::{AllocError, Global};
 
 /// What names the transaction or the span that is to be active, or none.

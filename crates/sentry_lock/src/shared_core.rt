@@ -1,20 +1,28 @@
 //! The lock, and the calls that take it.
-ghost use Rattle.std.specs.Prelude.{◌≡◌, ◌+◌, ◌≤◌, IfOk, true, length, vec_len};
+ghost use Rattle.std.specs.Prelude.{◌≡◌, ◌+◌, ◌≤◌, IfErr, IfOk, true, length, vec_len};
 ghost use Rattle.std.specs.List.{list_all};
 ghost use Rattle.std.specs.Vec.{vec_capacity};
+ghost use Rattle.sentry_calls.specs.Hubs as hubs;
+ghost use Rattle.sentry_calls.specs.Layers as layers;
+ghost use Rattle.sentry_calls.specs.Losses as losses;
+ghost use Rattle.sentry_calls.specs.Steps.{needs, step};
+ghost use Rattle.sentry_lock.specs.Answers.{LockAnswers, LockDrainsAndAnswers, LockMakes, LockRefuses};
 ghost use Rattle.sentry_lock.specs.Setups.{IsRecorderOf};
-ghost use Rattle.sentry_lock.specs.ValueCalls.{is_ordinary_call};
+ghost use Rattle.sentry_lock.specs.ValueCalls.{can_hand_out, is_ordinary_call};
+
+mod spans;
 
 use crate::client::{Client, ClientSetup};
 use crate::core_lock::{CoreGuard, CoreLock, Gate, Locked};
 use crate::handed::Handed;
 use crate::under_lock::UnderLock;
 use sentry_base::callbacks::EventCallback;
-use sentry_base::protocol::{ClientKey, HubKey, Refusal};
+use sentry_base::protocol::{ClientKey, ClientReport, HubKey, Label, Losses, Refusal};
 use sentry_engine::call::{Call, Reply};
-use sentry_engine::engine::{Held, ScopeGuard};
-use sentry_options::clientoptions::{Callbacks, ClientOptions};
-use sentry_transport::transport::Transport;
+use sentry_engine::{Held, ScopeGuard};
+use sentry_options::{Callbacks, ClientOptions};
+use sentry_scope::Scope;
+use sentry_transport::Transport;
 use std::alloc::{AllocError, Global};
 use std::fmt;
 use std::fmt::Debug;
@@ -77,7 +85,7 @@ impl<L: CoreLock> SharedCore<L> {
         self.alloc
     }
 
-    /// Takes the lock: the core is the guard's field `under.core`. While the guard is held every other call on this core waits.
+    /// Takes the lock. While the guard is held every other call on this core waits.
     pub fn lock(&self) -> CoreGuard<'_, UnderLock<L::Processor, L::Callbacks, L::Transport>> {
         self.core.lock()
     }
@@ -119,9 +127,12 @@ impl<L: CoreLock> SharedCore<L> {
         call: Call<L::Processor, L::Callbacks>,
     ) -> Result<Handed<Reply<L::Processor, L::Callbacks>, L::Transport>, Refusal>
         requires { is_ordinary_call call ≡ true }
+        ensures { IfOk result (λ handed. LockMakes L.Transport (can_hand_out call) (needs call)
+            handed.out.reply (step L.Processor.gives L.Callbacks.meanings call)) }
     {
         let mut guard = self.lock();
-        guard.under.core.drain_and_apply(call)
+        let handed = guard.under.core.drain_and_apply(call)?;
+        Ok(handed)
     }
 
     /// Makes one call and answers its reply. The call adds no client, absorbs nothing, and flushes or closes none:
@@ -133,6 +144,8 @@ impl<L: CoreLock> SharedCore<L> {
         call: Call<L::Processor, L::Callbacks>,
     ) -> Result<Reply<L::Processor, L::Callbacks>, Refusal>
         requires { is_ordinary_call call ≡ true }
+        ensures { IfOk result (λ reply. LockMakes L.Transport (can_hand_out call) (needs call)
+            reply (step L.Processor.gives L.Callbacks.meanings call)) }
     {
         let handed = self.called(call)?;
         Ok(handed.deliver())
@@ -171,10 +184,60 @@ impl<L: CoreLock> SharedCore<L> {
         answer
     }
 
+    /// Drains the words of a label once, absorbs what that gave, and returns it; `None` if the words were ended. It takes
+    /// no memory.
+    ///
+    /// `ForeignLosses`: no client that is held names the label.
+    pub fn drain_and_absorb(&self, label: Label) -> Result<Option<Losses>, Refusal> {
+        self.lock().under.core.drain_and_absorb(label)
+    }
+
+    /// Returns a report of the losses that are pending under a label, which then count as reported, or `None` if there
+    /// are none. What its words hold is not in it: drain them first.
+    ///
+    /// `ForeignLosses`: no client that is held names the label. `OutOfMemory`.
+    pub fn take_report(&self, label: Label) -> Result<Option<ClientReport>, Refusal>
+        ensures done { IfOk result (λ report. LockAnswers L.Processor L.Callbacks L.Transport
+            report (losses.take_report label)) }
+        ensures refused { IfErr result (λ refusal. LockRefuses L.Processor L.Callbacks L.Transport
+            refusal (losses.take_report label)) }
+    {
+        self.lock().under.core.take_report(label)
+    }
+
+    /// Ends the words of a label, absorbs what still stood in them, and answers true; or answers false and changes
+    /// nothing while a recorder of them is held. True also if they were ended before. It takes no memory.
+    ///
+    /// `ForeignLosses`: no client that is held names the label.
+    pub fn close_losses(&self, label: Label) -> Result<bool, Refusal> {
+        self.lock().under.core.close_losses(label)
+    }
+
+    /// Adds a hub with one layer, of a client or none and a scope, and answers its key.
+    ///
+    /// `Stale`: the client isn't held, or the span of the scope isn't. `Full`: the numbers are used up. `OutOfMemory`.
+    pub fn new_hub(
+        &self,
+        client: Option<ClientKey>,
+        scope: Scope<L::Processor>,
+    ) -> Result<HubKey, Refusal>
+        ensures done { IfOk result (λ reply. LockAnswers L.Processor L.Callbacks L.Transport
+            reply (hubs.new_hub client scope)) }
+        ensures refused { IfErr result (λ refusal. LockRefuses L.Processor L.Callbacks L.Transport
+            refusal (hubs.new_hub client scope)) }
+    {
+        self.lock().under.core.new_hub(client, scope)
+    }
+
     /// Pushes a copy of a hub's top layer onto it. The guard stands for the new layer.
     ///
     /// `Stale`: the hub isn't held. `OutOfMemory`.
-    pub fn push_scope(&self, hub: HubKey) -> Result<ScopeGuard, Refusal> {
+    pub fn push_scope(&self, hub: HubKey) -> Result<ScopeGuard, Refusal>
+        ensures done { IfOk result (λ reply. LockAnswers L.Processor L.Callbacks L.Transport
+            reply (layers.push_scope hub)) }
+        ensures refused { IfErr result (λ refusal. LockRefuses L.Processor L.Callbacks L.Transport
+            refusal (layers.push_scope hub)) }
+    {
         self.lock().under.core.push_scope(hub)
     }
 
@@ -183,7 +246,11 @@ impl<L: CoreLock> SharedCore<L> {
     ///
     /// `Stale`: the hub isn't held. `OutOfOrder`: the guard's layer isn't the top one, or is the only one.
     /// `OutOfMemory`.
-    pub fn pop_scope(&self, guard: ScopeGuard, now: u64) -> Result<(), (Refusal, ScopeGuard)> {
+    pub fn pop_scope(&self, guard: ScopeGuard, now: u64) -> Result<(), (Refusal, ScopeGuard)>
+        ensures done { IfOk result (λ reply. LockDrainsAndAnswers L.Processor L.Callbacks L.Transport
+            reply (layers.pop_scope guard.0 guard.1 now)) }
+        ensures back { IfErr result (λ refused. refused.1 ≡ guard) }
+    {
         let mut held = self.lock();
         let handed = held.under.core.pop_scope(guard, now)?;
         drop(held);

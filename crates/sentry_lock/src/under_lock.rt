@@ -1,6 +1,4 @@
 //! A core as it lies under its lock.
-ghost use Rattle.std.specs.Borrow.{ftrue};
-
 use crate::locked::Core;
 use std::marker::Model;
 
@@ -9,16 +7,23 @@ use std::marker::Model;
 ///
 /// A check proves `Send` of most types by itself, from their fields. Of a core that takes a proof by hand, since its
 /// events hold values that lead back to themselves. Rattle reads such a proof only of a struct with `also_owns`, so this
-/// one has it, and owns nothing beside the core. Contracts see nothing of it: what a core promises, it promises always.
+/// one has it, and owns nothing beside the core. Contracts see the core.
 #[derive(Drop)]
 pub struct UnderLock<P, C, T> {
     pub core: Core<P, C, T>,
 }
 
 impl<P, C, T> Model for UnderLock<P, C, T> {
-    ghost Value = { Unit };
+    ghost use Rattle.std.specs.Borrow.{ftrue};
+    ghost use Rattle.std.specs.Coded.{codes};
+    ghost use Rattle.sentry_lock.specs.declared.locked.Core.{Core};
+    ghost use Rattle.sentry_plain.specs.Values.{data_code};
 
-    ghost view = { λ _. tt };
+    ghost Value = { Core P C T };
+
+    ghost coded = { Prim.hlevel (codes, data_code) };
+
+    ghost view = { λ under. under.core };
 
     ghost also_owns = { λ _. ftrue };
 }

@@ -4,7 +4,7 @@ ghost use Rattle.sentry_client_reports.specs.LossWords.{given_if};
 ghost use Rattle.sentry_lock.specs.Words.{HasNoOpenWords, HasOpenWords, DrainsOne, EndsWords};
 
 use sentry_base::protocol::Losses;
-use sentry_client_reports::client_reports::CountedDrainer;
+use sentry_client_reports::CountedDrainer;
 use sentry_plain::Table;
 
 /// By the number of a label, the drainer of its words; `None` once these were ended.

@@ -1,5 +1,5 @@
 -- The breadcrumb, the event and the log of a record.
-use Rattle.std.specs.Prelude.{◌≡◌, ℕ, List, Some, codes}
+use Rattle.std.specs.Prelude.{◌≡◌, ℕ, List, [], Some, codes}
 use Rattle.std.specs.Fmt.{signed_decimal}
 use Rattle.log.specs.Kv.{Pair, bool_text}
 use Rattle.log.specs.Record.{metadata_level, metadata_target, record_metadata}
@@ -11,11 +11,14 @@ use Rattle.sentry_base.specs.declared.protocol.level.Level as event_level
 use Rattle.sentry_base.specs.declared.protocol.level.Level.TheVariants as event
 use Rattle.sentry_base.specs.declared.protocol.log.LogLevel.{LogLevel}
 use Rattle.sentry_base.specs.declared.protocol.log.LogLevel.TheVariants as log_level
-use Rattle.sentry_base.specs.Events.{new_breadcrumb}
+use Rattle.sentry_base.specs.Events.{new_breadcrumb, new_event, nil_id}
+use Rattle.sentry_base.specs.declared.protocol.event.Event.{Event}
 use Rattle.sentry_base.specs.declared.protocol.log.LogAttribute.{LogAttribute}
 use Rattle.sentry_plain.specs.declared.value.Value.{Value}
 use Rattle.sentry_plain.specs.declared.value.Value.TheVariants.{Bool, Int, Text}
 use Rattle.sentry_plain.specs.Texts.{Bytes, put}
+use Rattle.sentry_plain.specs.Values.{Data}
+use Rattle.sentry_plain.specs.ValueView.{data_of}
 
 module _ {D K S : Type 0} where
   abbrev pub level_in : Record D K S → Level
@@ -70,3 +73,20 @@ AddsPair before pair after = (value : Value) × PrintsAs value pair.1 × (after 
 -- the attribute of a text
 abbrev pub text_attribute : Bytes → LogAttribute
 text_attribute text = record { 0 = Text text }
+
+-- values, in the order of their keys
+abbrev pub Extras : Type 0
+Extras = List (Bytes × Data)
+
+-- the values after a pair: its key has a value that prints as the pair's
+abbrev pub AddsExtra : Extras → Pair → Extras → Type 0
+AddsExtra before pair after = (value : Value) × PrintsAs value pair.1 × (after ≡ put before pair.0 (data_of value))
+
+-- the event of a record with this level, target and text, whose id is drawn when it is captured
+abbrev pub event_of : ℕ → Level → Bytes → Bytes → Extras → Event
+event_of now level target text extra = record (new_event nil_id now) {
+  level = level_of level;
+  message = Some text;
+  tags = put [] (codes "logger") target;
+  extra = extra;
+}

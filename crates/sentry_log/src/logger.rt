@@ -1,19 +1,20 @@
 //! A sink of the crate `log` that tells the current hub of a thread what is logged.
-ghost use Rattle.std.specs.Prelude.{◌≡◌};
+ghost use Rattle.std.specs.Prelude.{◌≡◌, IfOk};
 ghost use Rattle.sentry_log.specs.Filters.{default_levels};
 
 use crate::filter::{Levels, LogFilter, RecordFilter};
-use crate::mapping::{RecordMapping, level_of, map_record};
+use crate::mapping::{RecordMapping, map_record};
 use log::kv::Source;
 use log::span::Spans;
-use log::{Level, Log, Metadata, Record};
-use rand_core::Rng;
+use log::{Log, Metadata, Record};
+use rand_core::{Rng, SeedableRng};
 use sentry_base::clock::Clock;
 use sentry_base::protocol::Refusal;
-use sentry_hub::api::{add_breadcrumb, capture_message};
-use sentry_hub::hub::Hub;
-use sentry_lock::core_lock::CoreLock;
-use sentry_thread_hub::thread_hub::ThreadHub;
+use sentry_hub::Hub;
+use sentry_hub::api::{add_breadcrumb, capture_event};
+use sentry_lock::CoreLock;
+use sentry_thread_hub::{Refused, ThreadHub};
+use std::alloc::AllocError;
 use std::cell::RefCell;
 use std::fmt::Display;
 
@@ -34,6 +35,32 @@ impl<L: CoreLock, K, G> SentryLogger<L, K, G, Levels> {
         ensures { result.filter ≡ default_levels }
     {
         SentryLogger::with_filter(thread, Levels::new())
+    }
+}
+
+impl<L: CoreLock, K: Clock + Drop, G: SeedableRng + Rng + Drop> SentryLogger<L, K, G, Levels> {
+    /// A sink on the hubs of this thread, with a clock of its own: what is logged goes to the hub that is current here now,
+    /// and its events tell of the request that the thread serves now.
+    ///
+    /// An allocation may fail.
+    pub fn of<C: Clock>(
+        thread: &mut ThreadHub<Hub<L>, C, G>,
+        clock: K,
+    ) -> Result<SentryLogger<L, K, G, Levels>, AllocError>
+        ensures { IfOk result (λ sink. sink.filter ≡ default_levels) }
+    {
+        let main = Hub::current(thread)?;
+        let current = Hub::current(thread)?;
+        let request = thread.request.clone()?;
+        let generator = G::from_rng(&mut thread.generator);
+        Ok(SentryLogger::new(ThreadHub {
+            main,
+            current,
+            clock,
+            generator,
+            request,
+            refused: Refused::nothing(),
+        }))
     }
 }
 
@@ -95,13 +122,12 @@ pub fn tell<L: CoreLock, K: Clock, G: Rng, D: Display, P: Source, S: Spans>(
     let alloc = thread.current.allocator();
     let now = thread.clock.now();
     let mapping = map_record(alloc, now, record, becomes)?;
-    hand_over(thread, record.level(), mapping)
+    hand_over(thread, mapping)
 }
 
 // The log first, and the breadcrumb last, so that an event has no breadcrumb of its own record.
 fn hand_over<L: CoreLock, K: Clock, G: Rng>(
     thread: &mut ThreadHub<Hub<L>, K, G>,
-    level: Level,
     mapping: RecordMapping,
 ) -> Result<(), Refusal>
     ensures main { thread.new.main ≡ thread.old.main }
@@ -109,14 +135,14 @@ fn hand_over<L: CoreLock, K: Clock, G: Rng>(
 {
     let RecordMapping {
         breadcrumb,
-        message,
+        event,
         log,
     } = mapping;
     if let Some(log) = log {
         thread.current.capture_log(log)?;
     }
-    if let Some(message) = message {
-        capture_message(thread, message.as_str(), level_of(level))?;
+    if let Some(event) = event {
+        capture_event(thread, event)?;
     }
     match breadcrumb {
         None => Ok(()),

@@ -6,16 +6,16 @@ ghost use Rattle.log.specs.Record.{metadata_level, metadata_target};
 ghost use Rattle.log.specs.Record.{record_args, record_key_values};
 ghost use Rattle.sentry_plain.specs.declared.value.Value.TheVariants as of_value;
 ghost use Rattle.sentry_plain.specs.Texts.{Bytes, put};
-ghost use Rattle.sentry_log.specs.Mappings.{AddsPair, Attributes, PrintsAs, text_attribute};
-ghost use Rattle.sentry_log.specs.Mappings.{breadcrumb_of, level_in, level_of, log_level_of, target_in, target_key};
+ghost use Rattle.sentry_log.specs.Mappings.{AddsExtra, AddsPair, Attributes, Extras, PrintsAs, text_attribute};
+ghost use Rattle.sentry_log.specs.Mappings.{breadcrumb_of, event_of, level_in, level_of, log_level_of, target_in, target_key};
 
 use crate::filter::LogFilter;
 use log::kv::{Source, VisitSource};
 use log::span::Spans;
 use log::{Level, Metadata, Record, kv};
 use sentry_base::protocol;
-use sentry_base::protocol::{Breadcrumb, Log, LogAttribute, LogLevel};
-use sentry_plain::{Text, TextMap, Value};
+use sentry_base::protocol::{Breadcrumb, Event, Log, LogAttribute, LogLevel, Uuid};
+use sentry_plain::{Text, TextMap, Value, ValueMap};
 use std::alloc::{AllocError, Global};
 use std::fmt::Display;
 use std::marker::Model;
@@ -24,8 +24,7 @@ use std::marker::Model;
 #[derive(Drop)]
 pub struct RecordMapping {
     pub breadcrumb: Option<Breadcrumb>,
-    /// The message of an event.
-    pub message: Option<Text>,
+    pub event: Option<Event>,
     pub log: Option<Log>,
 }
 
@@ -55,7 +54,8 @@ pub fn log_level_of(level: Level) -> LogLevel
 }
 
 /// What is made of a record at this moment, in nanoseconds since the epoch. A log has the pairs of the record as
-/// attributes: whole numbers stay numbers, and what is neither a number nor a `bool` is its text.
+/// attributes, and an event has them as extra data, and the target as the tag `logger`: whole numbers stay numbers, and what
+/// is neither a number nor a `bool` is its text. The event has the nil id until it is captured.
 ///
 /// An allocation may fail.
 pub fn map_record<D: Display, K: Source, S: Spans>(
@@ -65,17 +65,20 @@ pub fn map_record<D: Display, K: Source, S: Spans>(
     becomes: LogFilter,
 ) -> Result<RecordMapping, AllocError>
     ensures which { IfOk result (λ made. (is_some made.breadcrumb ≡ becomes.breadcrumb)
-        × (is_some made.message ≡ becomes.event) × (is_some made.log ≡ becomes.log)) }
+        × (is_some made.event ≡ becomes.event) × (is_some made.log ≡ becomes.log)) }
     ensures text { IfOk result (λ made. (text : Bytes)
         × IfSome (D.output (record_args «record».now)) (λ shown. text ≡ shown)
         × IfSome made.breadcrumb (λ breadcrumb. breadcrumb
         ≡ breadcrumb_of now (level_in «record».now) (target_in «record».now) text)
-        × IfSome made.message (λ message. message ≡ text)
         × IfSome made.log (λ log. (log.body ≡ text) × (log.timestamp ≡ now)
         × (log.level ≡ log_level_of (level_in «record».now)))) }
     ensures attributes { IfOk result (λ made. IfSome made.log (λ log. (pairs : Attributes)
         × (log.attributes ≡ put pairs target_key (text_attribute (target_in «record».now)))
         × IfSome (K.pairs (record_key_values «record».now)) (λ list. FoldsTo AddsPair [] list pairs))) }
+    ensures event { IfOk result (λ made. IfSome made.event (λ event. (text : Bytes) × (extra : Extras)
+        × IfSome (D.output (record_args «record».now)) (λ shown. text ≡ shown)
+        × (event ≡ event_of now (level_in «record».now) (target_in «record».now) text extra)
+        × IfSome (K.pairs (record_key_values «record».now)) (λ list. FoldsTo AddsExtra [] list extra))) }
 {
     let text = print(alloc, record.args())?;
     let breadcrumb = match becomes.breadcrumb {
@@ -92,13 +95,13 @@ pub fn map_record<D: Display, K: Source, S: Spans>(
             record.key_values(),
         )?),
     };
-    let message = match becomes.event {
+    let event = match becomes.event {
         false => None,
-        true => Some(text),
+        true => Some(make_event(alloc, now, record.metadata(), text, record.key_values())?),
     };
     Ok(RecordMapping {
         breadcrumb,
-        message,
+        event,
         log,
     })
 }
@@ -123,6 +126,29 @@ fn make_breadcrumb(
     breadcrumb.category = Some(Text::new(alloc, metadata.target())?);
     breadcrumb.message = Some(Text::new(alloc, text)?);
     Ok(breadcrumb)
+}
+
+// An event with the target as a tag, and the pairs as extra data.
+fn make_event<K: Source>(
+    alloc: Global,
+    now: u64,
+    metadata: &Metadata<'_>,
+    text: Text,
+    pairs: &K,
+) -> Result<Event, AllocError>
+    ensures { IfOk result (λ made. (extra : Extras)
+        × (made ≡ event_of now (metadata_level metadata.now) (metadata_target metadata.now) text extra)
+        × IfSome (K.pairs pairs.now) (λ list. FoldsTo AddsExtra [] list extra)) }
+{
+    let key = Text::new(alloc, "logger")?;
+    let target = Text::new(alloc, metadata.target())?;
+    let extra = collect_extra(alloc, pairs)?;
+    let mut event = Event::new(alloc, Uuid::nil(), now)?;
+    event.level = level_of(metadata.level());
+    event.message = Some(text);
+    event.tags.insert(key, target)?;
+    event.extra = extra;
+    Ok(event)
 }
 
 // A log with the target and the pairs as attributes.
@@ -196,6 +222,71 @@ fn add_pair<D: Display>(
     let key = Text::new(alloc, key)?;
     let value = make_value(alloc, value)?;
     attributes.insert(key, LogAttribute(value))
+}
+
+// What takes the pairs of a record as extra data. Contracts see the data.
+#[derive(Drop)]
+struct ExtraPairs {
+    alloc: Global,
+    extra: ValueMap,
+}
+
+impl Model for ExtraPairs {
+    ghost use Rattle.std.specs.Coded.{codes};
+    ghost use Rattle.sentry_plain.specs.Values.{data_code};
+    ghost use Rattle.sentry_log.specs.Mappings.{Extras};
+
+    ghost Value = { Extras };
+
+    ghost coded = { Prim.hlevel (codes, data_code) };
+
+    ghost view = { λ pairs. pairs.extra };
+}
+
+impl VisitSource for ExtraPairs {
+    ghost use Rattle.sentry_log.specs.Mappings.{AddsExtra};
+
+    ghost visit_pair_gives = { AddsExtra };
+
+    fn visit_pair<D: Display>(
+        &mut self,
+        key: &str,
+        value: kv::Value<'_, D>,
+    ) -> Result<(), kv::Error> {
+        match add_extra(self.alloc, &mut self.extra, key, value) {
+            Ok(()) => Ok(()),
+            Err(_) => Err(kv::Error::msg("out of memory")),
+        }
+    }
+}
+
+fn add_extra<D: Display>(
+    alloc: Global,
+    extra: &mut ValueMap,
+    key: &str,
+    value: kv::Value<'_, D>,
+) -> Result<(), AllocError>
+    ensures { OnOk result (IfSome (value_text D.output value.entry)
+        (λ text. AddsExtra extra.old (key.now, text) extra.new)) }
+{
+    let key = Text::new(alloc, key)?;
+    let value = make_value(alloc, value)?;
+    extra.insert(key, value)
+}
+
+// As `collect_pairs`.
+fn collect_extra<K: Source>(alloc: Global, pairs: &K) -> Result<ValueMap, AllocError>
+    ensures { IfOk result (λ all. IfSome (K.pairs pairs.now) (λ list. FoldsTo AddsExtra [] list all)) }
+{
+    let mut all = ExtraPairs {
+        alloc,
+        extra: ValueMap::new(alloc),
+    };
+    if pairs.visit(&mut all).is_err() {
+        return Err(AllocError);
+    }
+    let ExtraPairs { alloc: _, extra } = all;
+    Ok(extra)
 }
 
 fn make_value<D: Display>(alloc: Global, value: kv::Value<'_, D>) -> Result<Value, AllocError>

@@ -2,10 +2,9 @@
 use crate::breadcrumbs::{At, IntoBreadcrumbs};
 use crate::hub::Hub;
 use sentry_base::protocol::{Breadcrumb, Fresh, Refusal, SessionStatus, Uuid};
-use sentry_lock::client::Client;
-use sentry_lock::core_lock::CoreLock;
+use sentry_lock::{Client, CoreLock};
 use sentry_plain::Few;
-use sentry_scope::scope::Scope;
+use sentry_scope::Scope;
 use std::alloc::AllocError;
 
 impl<L: CoreLock> Hub<L> {

@@ -3,7 +3,7 @@ use crate::hub::Hub;
 use crate::performance::Transaction;
 use sentry_base::protocol::{ErrorLink, Event, Fresh, Level, Log, Refusal, Uuid};
 use sentry_batches::metrics::IntoProtocolMetric;
-use sentry_lock::core_lock::CoreLock;
+use sentry_lock::CoreLock;
 use sentry_trace::performance::TransactionContext;
 
 impl<L: CoreLock> Hub<L> {

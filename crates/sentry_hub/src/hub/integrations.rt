@@ -4,10 +4,8 @@ ghost use Rattle.std.specs.Prelude.{◌≡◌, IfSome};
 use crate::hub::Hub;
 use sentry_base::callbacks::{BreadcrumbCallback, EventCallback, LogCallback, MetricCallback};
 use sentry_base::protocol::Refusal;
-use sentry_lock::core_lock::CoreLock;
-use sentry_options::clientoptions::ClientCallbacks;
-use sentry_options::integration::Integration;
-use sentry_options::sampler::TracesSampler;
+use sentry_lock::CoreLock;
+use sentry_options::{ClientCallbacks, Integration, TracesSampler};
 use sentry_plain::Shared;
 
 // The first integration of a name.

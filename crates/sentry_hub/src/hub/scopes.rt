@@ -1,13 +1,12 @@
 //! The layers of a hub, and the scope of the top one.
-ghost use Rattle.std.specs.Prelude.{◌≡◌, None, IfOk};
+ghost use Rattle.std.specs.Prelude.{◌≡◌, Err, None, IfErr, IfOk};
 
 use crate::hub::Hub;
 use sentry_base::protocol::Refusal;
-use sentry_engine::engine::ScopeGuard;
-use sentry_lock::core_lock::CoreLock;
-use sentry_lock::scope_edits::ScopeEdits;
+use sentry_engine::ScopeGuard;
+use sentry_lock::{CoreLock, ScopeEdits};
 use sentry_plain::Boxed;
-use sentry_scope::scope::{Scope, ScopeEdit};
+use sentry_scope::{Scope, ScopeEdit};
 use std::alloc::AllocError;
 use std::error::Error;
 use std::fmt;
@@ -35,6 +34,18 @@ impl<A: Drop> From<WithScopeError<A>> for Refusal {
 }
 
 impl<A: Drop> WithScopeError<A> {
+    // The guard of the layer, if that could not be removed, and the refusal.
+    pub(crate) fn into_guard(self) -> (Option<ScopeGuard>, Result<(), Refusal>)
+        ensures { result ≡ (self.guard, Err self.refusal) }
+    {
+        let WithScopeError {
+            refusal,
+            answer: _,
+            guard,
+        } = self;
+        (guard, Err(refusal))
+    }
+
     /// The refusal, and what the callback answered: a layer that could not be removed stays.
     pub fn into_refusal(self) -> (Refusal, Option<A>)
         ensures { result ≡ (self.refusal, self.answer) }
@@ -140,10 +151,30 @@ impl<L: CoreLock> Hub<L> {
     ///
     /// `Stale`: the guard's hub isn't held. `OutOfOrder`: the guard's layer isn't the top one, or is the only one.
     /// `OutOfMemory`.
-    pub fn pop_scope(&self, guard: ScopeGuard, now: u64) -> Result<(), PopScopeError> {
+    pub fn pop_scope(&self, guard: ScopeGuard, now: u64) -> Result<(), PopScopeError>
+        ensures { IfErr result (λ error. error.guard ≡ guard) }
+    {
         match self.core.pop_scope(guard, now) {
             Ok(()) => Ok(()),
             Err((refusal, guard)) => Err(PopScopeError { refusal, guard }),
+        }
+    }
+
+    /// The same, for a program that can't hold the guard any longer, in a second try where no memory was left. Where that
+    /// is refused too, the layer stays on the hub.
+    ///
+    /// `Stale`, `OutOfOrder`, `OutOfMemory`: as of `pop_scope`.
+    pub fn pop_or_give_up(&self, guard: ScopeGuard, now: u64) -> Result<(), Refusal> {
+        match self.core.pop_scope(guard, now) {
+            Ok(()) => Ok(()),
+            Err((Refusal::OutOfMemory, guard)) => {
+                let popped = self.pop_scope(guard, now);
+                Ok(popped?)
+            }
+            Err((refusal, guard)) => {
+                let (_hub, _depth) = guard.into_parts();
+                Err(refusal)
+            }
         }
     }
 

@@ -5,9 +5,8 @@ ghost use Rattle.sentry_thread_hub.specs.Lends.{AnswersLent};
 use crate::hub::Hub;
 use sentry_base::clock::Clock;
 use sentry_base::protocol::Refusal;
-use sentry_lock::core_lock::CoreLock;
-use sentry_thread_hub::hub_switch_guard::run_with;
-use sentry_thread_hub::thread_hub::ThreadHub;
+use sentry_lock::CoreLock;
+use sentry_thread_hub::{ThreadHub, run_with};
 use std::alloc::AllocError;
 
 impl<L: CoreLock> Hub<L> {

@@ -5,8 +5,7 @@ ghost use Rattle.sentry_lock.specs.ValueCalls.{is_ordinary_call};
 
 use sentry_base::protocol::Refusal;
 use sentry_engine::call::{Call, SpanCall};
-use sentry_lock::core_lock::CoreLock;
-use sentry_lock::shared_core::SharedCore;
+use sentry_lock::{CoreLock, SharedCore};
 use sentry_plain::Items;
 use std::alloc::{AllocError, Global};
 

@@ -1,28 +1,33 @@
 //! What transactions and spans have in common: a key, and a share of the core that holds what it names.
-ghost use Rattle.std.specs.Prelude.{◌≡◌, IfOk};
+ghost use Rattle.std.specs.Prelude.{◌≡◌, [], IfOk};
+ghost use Rattle.sentry_trace.specs.TraceHeaders.{headers_left};
 
 use crate::hub::Hub;
+use crate::leftovers::forget_with_spans;
 use crate::performance::{Data, EndError, HandleKey, calls};
 use sentry_base::clock::Clock;
 use sentry_base::protocol::{
-    Fresh, HubKey, Refusal, Request, SpanId, SpanKey, SpanStatus, TraceContext, TransactionKey,
-    TransactionOrSpanKey,
+    Fresh, HubKey, Refusal, Request, SpanId, SpanKey, SpanStatus, TraceContext, TraceId,
+    TransactionKey, TransactionOrSpanKey, ValueMap,
 };
-use sentry_batches::to_value::ToValue;
-use sentry_lock::core_lock::CoreLock;
-use sentry_lock::scope_edits::IntoSpanKey;
-use sentry_lock::shared_core::SharedCore;
-use sentry_thread_hub::thread_hub::ThreadHub;
+use sentry_batches::ToValue;
+use sentry_lock::{CoreLock, IntoSpanKey, SharedCore};
+use sentry_thread_hub::ThreadHub;
 use sentry_trace::headers::TraceHeadersIter;
-use std::alloc::AllocError;
+use std::alloc::{AllocError, Global};
 use std::marker::Model;
 
 /// A transaction or a span, by its key and a share of the core that holds it. A clone of the value is the same
 /// transaction or span, and values are equal if their keys are. Contracts see the key.
 ///
 /// A transaction or span is held until it is discarded, also once it is finished.
+///
+/// Work that `in_transaction` or `in_span` runs although nothing could be begun is lent one that names nothing: its setters
+/// do nothing, it has no headers, data or status, zeros are its ids, and its children name nothing too.
 pub struct Handle<L, N> {
-    core: SharedCore<L>,
+    // None where it names nothing.
+    core: Option<SharedCore<L>>,
+    alloc: Global,
     key: N,
 }
 
@@ -37,7 +42,11 @@ pub type TransactionOrSpan<L> = Handle<L, TransactionOrSpanKey>;
 
 impl<L: Drop, N: Drop> Drop for Handle<L, N> {
     fn drop(self) {
-        let Handle { core: _, key: _ } = self;
+        let Handle {
+            core: _,
+            alloc: _,
+            key: _,
+        } = self;
     }
 }
 
@@ -53,6 +62,7 @@ impl<L: Drop, N: Copy> Clone for Handle<L, N> {
     fn clone(&self) -> Result<Handle<L, N>, AllocError> {
         Ok(Handle {
             core: self.core.clone()?,
+            alloc: self.alloc,
             key: self.key,
         })
     }
@@ -109,12 +119,35 @@ impl<L, N: HandleKey> Handle<L, N> {
     fn into_either(self) -> TransactionOrSpan<L>
         ensures { result ≡ N.span_key self }
     {
-        let Handle { core, key } = self;
+        let Handle { core, alloc, key } = self;
         Handle {
             core,
+            alloc,
             key: key.span_key(),
         }
     }
+}
+
+// What is said of what names nothing.
+fn context_of_zeros(alloc: Global) -> TraceContext {
+    TraceContext {
+        trace_id: TraceId([0; 16]),
+        span_id: SpanId([0; 8]),
+        parent_span_id: None,
+        op: None,
+        description: None,
+        status: None,
+        origin: None,
+        data_: ValueMap::new(alloc),
+    }
+}
+
+fn no_headers(alloc: Global) -> TraceHeadersIter
+    ensures { headers_left result ≡ [] }
+{
+    let mut headers = TraceHeadersIter::new(String::new(alloc));
+    drop(headers.next());
+    headers
 }
 
 impl<L: CoreLock, N: HandleKey> Handle<L, N> {
@@ -124,17 +157,28 @@ impl<L: CoreLock, N: HandleKey> Handle<L, N> {
     pub fn new(core: &SharedCore<L>, key: N) -> Result<Handle<L, N>, AllocError>
         ensures { IfOk result (λ made. made ≡ key) }
     {
-        Ok(Handle {
-            core: core.clone()?,
-            key,
-        })
+        Ok(Handle::of_key(core.clone()?, key))
     }
 
     // The same over a share.
     pub(crate) fn of_key(core: SharedCore<L>, key: N) -> Handle<L, N>
         ensures { result ≡ key }
     {
-        Handle { core, key }
+        let alloc = core.allocator();
+        Handle {
+            core: Some(core),
+            alloc,
+            key,
+        }
+    }
+
+    // One that names nothing.
+    pub(crate) fn of_nothing(alloc: Global) -> Handle<L, N> {
+        Handle {
+            core: None,
+            alloc,
+            key: N::of_nothing(),
+        }
     }
 
     /// The key.
@@ -144,9 +188,12 @@ impl<L: CoreLock, N: HandleKey> Handle<L, N> {
         self.key
     }
 
-    // The core that holds it.
-    pub(super) fn core(&self) -> &SharedCore<L> {
-        &self.core
+    // The core that holds it, if it names something.
+    pub(super) fn core(&self) -> Option<&SharedCore<L>> {
+        match &self.core {
+            None => None,
+            Some(core) => Some(core),
+        }
     }
 
     fn span_key(&self) -> TransactionOrSpanKey
@@ -159,15 +206,21 @@ impl<L: CoreLock, N: HandleKey> Handle<L, N> {
     ///
     /// `Stale`: it isn't held. `OutOfMemory`.
     pub fn set_data<V: ToValue + Drop>(&self, key: &str, value: V) -> Result<(), Refusal> {
-        let value = value.to_value(self.core.allocator())?;
-        self.core.set_data(self.span_key(), key, value)
+        let Some(core) = &self.core else {
+            return Ok(());
+        };
+        let value = value.to_value(self.alloc)?;
+        core.set_data(self.span_key(), key, value)
     }
 
     /// Sets a tag, of a transaction while it is unfinished. It replaces a tag with the same key.
     ///
     /// `Stale`: it isn't held. `OutOfMemory`.
     pub fn set_tag(&self, key: &str, value: &str) -> Result<(), Refusal> {
-        self.core.set_tag(self.span_key(), key, value)
+        match &self.core {
+            None => Ok(()),
+            Some(core) => core.set_tag(self.span_key(), key, value),
+        }
     }
 
     /// The place of the transaction in its trace, with its operation, status, origin and data. That of a span is its
@@ -175,35 +228,50 @@ impl<L: CoreLock, N: HandleKey> Handle<L, N> {
     ///
     /// `Stale`: it isn't held. `OutOfMemory`.
     pub fn get_trace_context(&self) -> Result<TraceContext, Refusal> {
-        self.core.get_trace_context(self.span_key())
+        match &self.core {
+            None => Ok(context_of_zeros(self.alloc)),
+            Some(core) => core.get_trace_context(self.span_key()),
+        }
     }
 
     /// The status, if one is set. It takes no memory.
     ///
     /// `Stale`: it isn't held.
     pub fn get_status(&self) -> Result<Option<SpanStatus>, Refusal> {
-        self.core.get_status(self.span_key())
+        match &self.core {
+            None => Ok(None),
+            Some(core) => core.get_status(self.span_key()),
+        }
     }
 
     /// Sets the status, also once it is finished.
     ///
     /// `Stale`: it isn't held. `OutOfMemory`.
     pub fn set_status(&self, status: SpanStatus) -> Result<(), Refusal> {
-        self.core.set_status(self.span_key(), status)
+        match &self.core {
+            None => Ok(()),
+            Some(core) => core.set_status(self.span_key(), status),
+        }
     }
 
     /// Sets the operation, also once it is finished.
     ///
     /// `Stale`: it isn't held. `OutOfMemory`.
     pub fn set_op(&self, op: &str) -> Result<(), Refusal> {
-        self.core.set_op(self.span_key(), op)
+        match &self.core {
+            None => Ok(()),
+            Some(core) => core.set_op(self.span_key(), op),
+        }
     }
 
     /// Sets the name of a transaction, while it is unfinished, or the description of a span, which may be empty.
     ///
     /// `Stale`: it isn't held. `OutOfMemory`.
     pub fn set_name(&self, name: &str) -> Result<(), Refusal> {
-        self.core.set_name(self.span_key(), name)
+        match &self.core {
+            None => Ok(()),
+            Some(core) => core.set_name(self.span_key(), name),
+        }
     }
 
     /// Sets the request of a transaction, while it is unfinished, or the data that a span has of a request: a body that
@@ -211,21 +279,30 @@ impl<L: CoreLock, N: HandleKey> Handle<L, N> {
     ///
     /// `Stale`: it isn't held. `OutOfMemory`.
     pub fn set_request(&self, request: Request) -> Result<(), Refusal> {
-        self.core.set_request(self.span_key(), request)
+        match &self.core {
+            None => Ok(()),
+            Some(core) => core.set_request(self.span_key(), request),
+        }
     }
 
     /// The headers that pass the trace on to the next service.
     ///
     /// `Stale`: it isn't held. `OutOfMemory`.
     pub fn iter_headers(&self) -> Result<TraceHeadersIter, Refusal> {
-        self.core.iter_headers(self.span_key())
+        match &self.core {
+            None => Ok(no_headers(self.alloc)),
+            Some(core) => core.iter_headers(self.span_key()),
+        }
     }
 
     /// Whether it is sampled: tracing was enabled when the transaction started, and it was sampled. It takes no memory.
     ///
     /// `Stale`: it isn't held.
     pub fn is_sampled(&self) -> Result<bool, Refusal> {
-        self.core.is_sampled(self.span_key())
+        match &self.core {
+            None => Ok(false),
+            Some(core) => core.is_sampled(self.span_key()),
+        }
     }
 
     /// Lends the closure a copy of the data, with its setters. These are called once it has answered, in order, up to
@@ -238,11 +315,26 @@ impl<L: CoreLock, N: HandleKey> Handle<L, N> {
     ) -> Result<A, Refusal>
         requires { F.IsAlwaysCallable edit }
     {
-        let copy = self.core.data(self.span_key())?;
-        let mut data = Data::new(self.core.allocator(), self.span_key(), copy);
+        let copy = self.copy_data()?;
+        let mut data = Data::new(self.alloc, self.span_key(), copy);
         let answer = edit(&mut data)?;
-        calls::make_all(&self.core, data.into_calls())?;
+        self.make_all(data)?;
         Ok(answer)
+    }
+
+    fn copy_data(&self) -> Result<ValueMap, Refusal> {
+        match &self.core {
+            None => Ok(ValueMap::new(self.alloc)),
+            Some(core) => core.data(self.span_key()),
+        }
+    }
+
+    // Makes the calls of setters.
+    fn make_all(&self, data: Data) -> Result<(), Refusal> {
+        match &self.core {
+            None => Ok(()),
+            Some(core) => calls::make_all(core, data.into_calls()),
+        }
     }
 
     /// Starts a child. An empty description is none. A program that forgets to discard the child leaves it in the core
@@ -255,10 +347,11 @@ impl<L: CoreLock, N: HandleKey> Handle<L, N> {
         description: &str,
         fresh: Fresh,
     ) -> Result<Span<L>, Refusal> {
-        let share = self.core.clone()?;
-        let key = self
-            .core
-            .start_child(self.span_key(), op, description, fresh)?;
+        let Some(core) = &self.core else {
+            return Ok(Handle::of_nothing(self.alloc));
+        };
+        let share = core.clone()?;
+        let key = core.start_child(self.span_key(), op, description, fresh)?;
         Ok(Handle::of_key(share, key))
     }
 
@@ -272,11 +365,12 @@ impl<L: CoreLock, N: HandleKey> Handle<L, N> {
         id: SpanId,
         start: u64,
     ) -> Result<Span<L>, Refusal> {
-        let share = self.core.clone()?;
+        let Some(core) = &self.core else {
+            return Ok(Handle::of_nothing(self.alloc));
+        };
+        let share = core.clone()?;
         let span = self.span_key();
-        let key = self
-            .core
-            .start_child_with_details(span, op, description, id, start)?;
+        let key = core.start_child_with_details(span, op, description, id, start)?;
         Ok(Handle::of_key(share, key))
     }
 
@@ -297,7 +391,10 @@ impl<L: CoreLock, N: HandleKey> Handle<L, N> {
 
     // The same at a moment, a transaction on this hub.
     pub(crate) fn finish_on(&self, hub: HubKey, moment: u64) -> Result<(), Refusal> {
-        self.key.finish(&self.core, hub, moment)
+        match &self.core {
+            None => Ok(()),
+            Some(core) => self.key.finish(core, hub, moment),
+        }
     }
 
     /// Finishes it, as `finish` does, and forgets it, as `discard` does, in one hold of the lock. A refusal hands the value
@@ -324,13 +421,28 @@ impl<L: CoreLock, N: HandleKey> Handle<L, N> {
 
     // The same at a moment, a transaction on this hub.
     pub(crate) fn end_on(&self, hub: HubKey, moment: u64) -> Result<(), Refusal> {
-        self.key.end(&self.core, hub, moment)
+        match &self.core {
+            None => Ok(()),
+            Some(core) => self.key.end(core, hub, moment),
+        }
     }
 
     /// Forgets it. It records no loss. It takes no memory.
     ///
     /// `Stale`: it isn't held. `StillNamed`: a layer of a hub names it, or a span of the transaction is held.
     pub fn discard(&self) -> Result<(), Refusal> {
-        self.core.discard(self.span_key())
+        match &self.core {
+            None => Ok(()),
+            Some(core) => core.discard(self.span_key()),
+        }
+    }
+
+    // Forgets it, and the spans that are held of a transaction.
+    pub(crate) fn discard_with_spans(&self) -> Result<(), Refusal> {
+        match (&self.core, self.span_key()) {
+            (None, _) => Ok(()),
+            (Some(core), TransactionOrSpanKey::Transaction(key)) => forget_with_spans(core, key),
+            (Some(core), span) => core.discard(span),
+        }
     }
 }

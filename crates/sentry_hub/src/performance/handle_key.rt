@@ -2,14 +2,16 @@
 ghost use Rattle.std.specs.Prelude.{◌≡◌};
 
 use sentry_base::protocol::{HubKey, Refusal, SpanKey, TransactionKey, TransactionOrSpanKey};
-use sentry_lock::core_lock::CoreLock;
-use sentry_lock::shared_core::SharedCore;
+use sentry_lock::{CoreLock, SharedCore};
 
 /// The key of a transaction, of a span, or of what is either.
 pub trait HandleKey: Copy + Drop {
     ghost use Rattle.sentry_base.specs.declared.protocol.keys.TransactionOrSpanKey.{TransactionOrSpanKey};
 
     ghost span_key: { Self → TransactionOrSpanKey };
+
+    /// The key of nothing: no core gives it.
+    fn of_nothing() -> Self;
 
     /// The key as that of what is either.
     fn span_key(self) -> TransactionOrSpanKey
@@ -42,6 +44,13 @@ impl HandleKey for TransactionKey {
 
     ghost span_key = { key.Transaction };
 
+    fn of_nothing() -> TransactionKey {
+        TransactionKey {
+            tag: u64::MAX,
+            number: u64::MAX,
+        }
+    }
+
     fn span_key(self) -> TransactionOrSpanKey {
         TransactionOrSpanKey::Transaction(self)
     }
@@ -70,6 +79,13 @@ impl HandleKey for SpanKey {
 
     ghost span_key = { key.Span };
 
+    fn of_nothing() -> SpanKey {
+        SpanKey {
+            tag: u64::MAX,
+            number: u64::MAX,
+        }
+    }
+
     fn span_key(self) -> TransactionOrSpanKey {
         TransactionOrSpanKey::Span(self)
     }
@@ -95,6 +111,10 @@ impl HandleKey for SpanKey {
 
 impl HandleKey for TransactionOrSpanKey {
     ghost span_key = { λ key. key };
+
+    fn of_nothing() -> TransactionOrSpanKey {
+        TransactionOrSpanKey::Transaction(TransactionKey::of_nothing())
+    }
 
     fn span_key(self) -> TransactionOrSpanKey {
         self

@@ -2,16 +2,18 @@
 use crate::hub::Hub;
 use crate::performance::{Span, Transaction, TransactionOrSpan};
 use sentry_base::protocol::{Refusal, SpanId};
-use sentry_batches::to_value::ToValue;
-use sentry_lock::core_lock::CoreLock;
-use sentry_thread_hub::thread_hub::ThreadHub;
+use sentry_batches::ToValue;
+use sentry_lock::CoreLock;
+use sentry_thread_hub::ThreadHub;
 
 impl<L: CoreLock> Transaction<L> {
     /// Sets extra data, while it is unfinished. It replaces a value with the same key.
     ///
     /// `Stale`: it isn't held. `OutOfMemory`.
     pub fn set_extra<V: ToValue + Drop>(&self, key: &str, value: V) -> Result<(), Refusal> {
-        let core = self.core();
+        let Some(core) = self.core() else {
+            return Ok(());
+        };
         let value = value.to_value(core.allocator())?;
         core.set_extra(self.key(), key, value)
     }
@@ -20,7 +22,10 @@ impl<L: CoreLock> Transaction<L> {
     ///
     /// `Stale`: it isn't held. `OutOfMemory`.
     pub fn set_origin(&self, origin: &str) -> Result<(), Refusal> {
-        self.core().set_origin(self.key(), origin)
+        match self.core() {
+            None => Ok(()),
+            Some(core) => core.set_origin(self.key(), origin),
+        }
     }
 
     /// The same as `finish`, at a moment in nanoseconds since the epoch.
@@ -40,14 +45,20 @@ impl<L: CoreLock> Span<L> {
     ///
     /// `Stale`: it isn't held.
     pub fn get_span_id(&self) -> Result<SpanId, Refusal> {
-        self.core().get_span_id(self.key())
+        match self.core() {
+            None => Ok(SpanId([0; 8])),
+            Some(core) => core.get_span_id(self.key()),
+        }
     }
 
     /// The same as `finish`, at a moment in nanoseconds since the epoch.
     ///
     /// `Stale`: it isn't held. `OutOfMemory`.
     pub fn finish_with_timestamp(&self, moment: u64) -> Result<(), Refusal> {
-        self.core().finish_span(self.key(), moment)
+        match self.core() {
+            None => Ok(()),
+            Some(core) => core.finish_span(self.key(), moment),
+        }
     }
 }
 

@@ -7,9 +7,9 @@ ghost use Rattle.sentry_lock.specs.Setups.{IsRecorderOf, options_with};
 
 use crate::shared_core::SharedCore;
 use sentry_base::protocol::{Label, Refusal};
-use sentry_client_reports::client_reports::{CountedDrainer, LossWords, Recorder};
-use sentry_options::clientoptions::ClientOptions;
-use sentry_transport::transport::TransportOptions;
+use sentry_client_reports::{CountedDrainer, LossWords, Recorder};
+use sentry_options::ClientOptions;
+use sentry_transport::TransportOptions;
 use std::alloc::Global;
 
 /// What a client is made of: the core that will hold it, its options, its label, and the words of its losses, from

@@ -13,7 +13,7 @@ use crate::locked::Core;
 use sentry_base::callbacks::EventCallback;
 use sentry_base::protocol::Refusal;
 use sentry_engine::call::{Answer, Call, ClientCall, HubCall, Reply, SpanCall};
-use sentry_options::clientoptions::Callbacks;
+use sentry_options::Callbacks;
 use std::alloc::AllocError;
 
 fn client_call_can_hand_out<P, C>(call: &ClientCall<P, C>) -> bool
@@ -75,6 +75,7 @@ impl<P: EventCallback + Drop, C: Callbacks, T: Drop> Core<P, C, T> {
         ensures does { DoesWith (needs call) self.old.engine self.new.engine result (step P.gives C.meanings call) }
         ensures silent { IfOk result (λ out. can_hand_out call ≡ false → out.sent ≡ []) }
         ensures drainers { self.new.drainers ≡ self.old.drainers }
+        ensures labels { self.new.next_label ≡ self.old.next_label }
     {
         self.engine.apply(call)
     }
@@ -89,6 +90,7 @@ impl<P: EventCallback + Drop, C: Callbacks, T: Drop> Core<P, C, T> {
             ForgetsDropped call self.old.engine self.new.engine self.old.drainers self.new.drainers) }
         ensures refused { IfErr result (λ _. (self.new.engine ≡ self.old.engine)
             × (self.new.drainers ≡ self.old.drainers)) }
+        ensures labels { self.new.next_label ≡ self.old.next_label }
     {
         let transports = self.transports_for(&call)?;
         let after = self.transports_after(&call)?;
@@ -104,11 +106,12 @@ impl<P: EventCallback + Drop, C: Callbacks, T: Drop> Core<P, C, T> {
     // Drains the words of all labels, if the call can hand out envelopes.
     #[tactic(auto, unfolding(crate::specs::Locked::DrainsAll))]
     fn drain_for(&mut self, call: &Call<P, C>)
-        ensures { DrainsFor (can_hand_out call.now) self.old.tag self.old.engine self.new.engine
+        ensures drained { DrainsFor (can_hand_out call.now) self.old.tag self.old.engine self.new.engine
             self.old.drainers self.new.drainers }
+        ensures labels { self.new.next_label ≡ self.old.next_label }
     {
         if can_hand_out(call) {
-            self.drain_all();
+            self.drain_each_label();
         }
     }
 
@@ -126,6 +129,7 @@ impl<P: EventCallback + Drop, C: Callbacks, T: Drop> Core<P, C, T> {
         ensures silent { IfOk result (λ handed. can_hand_out call ≡ false → handed.out.sent ≡ []) }
         ensures refused { IfErr result (λ _. DrainsFor (can_hand_out call) self.old.tag
             self.old.engine self.new.engine self.old.drainers self.new.drainers) }
+        ensures labels { self.new.next_label ≡ self.old.next_label }
     {
         self.drain_for(&call);
         let handed = self.apply(call)?;

@@ -4,7 +4,7 @@ ghost use Rattle.std.specs.Prelude.{◌≡◌, ◌+◌, ◌-◌, ◌^◌, ◌⊎
 ghost use Rattle.std.specs.Option.{is_some};
 ghost use Rattle.sentry_base.specs.Losses.{no_losses};
 ghost use Rattle.sentry_calls.specs.Clients as clients;
-ghost use Rattle.sentry_plain.specs.Tables.{value_at, put, replace_at};
+ghost use Rattle.sentry_plain.specs.Tables.{value_at, put, replace_at, without};
 ghost use Rattle.sentry_state.specs.Books.{has_book};
 ghost use Rattle.sentry_state.specs.Outcomes.{Does};
 ghost use Rattle.sentry_state.specs.Worlds.{World, Stands};
@@ -17,10 +17,10 @@ use crate::handed::{Handed, Routes, Transports};
 use crate::locked::Core;
 use sentry_base::callbacks::EventCallback;
 use sentry_base::protocol::{ClientKey, Label, Refusal};
-use sentry_client_reports::client_reports::CountedDrainer;
+use sentry_client_reports::CountedDrainer;
+use sentry_engine::Out;
 use sentry_engine::call::{Call, ClientCall};
-use sentry_engine::engine::Out;
-use sentry_options::clientoptions::{Callbacks, ClientOptions};
+use sentry_options::{Callbacks, ClientOptions};
 use sentry_plain::Shared;
 use std::alloc::{AllocError, Global};
 
@@ -123,12 +123,22 @@ impl<P: EventCallback + Drop, C: Callbacks, T: Drop> Core<P, C, T> {
         ensures place { IfOk result (λ _. value_at self.new.drainers number ≡ Some None) }
         ensures made { OnOk result (self.new.drainers ≡ put self.old.drainers number None) }
         ensures refused { OnErr result (self.new.drainers ≡ self.old.drainers) }
+        ensures labels { self.new.next_label ≡ self.old.next_label }
     {
         self.drainers.insert(number, None)?;
         Ok(())
     }
 
-    // Adds a client, whose drainer has a place. If it is refused, the place stays without one.
+    // Forgets the place of a drainer, whose client was refused.
+    fn forget_place(&mut self, number: u64)
+        ensures engine { self.new.engine ≡ self.old.engine }
+        ensures drainers { self.new.drainers ≡ without self.old.drainers number }
+        ensures labels { self.new.next_label ≡ self.old.next_label }
+    {
+        drop(self.drainers.remove(number));
+    }
+
+    // Adds a client, whose drainer has a place.
     fn add_at_place(
         &mut self,
         options: ClientOptions<C>,
@@ -147,6 +157,7 @@ impl<P: EventCallback + Drop, C: Callbacks, T: Drop> Core<P, C, T> {
         ensures taken { OnOk result (self.new.drainers ≡ replace_at self.old.drainers label.number (Some drainer)) }
         ensures refused { IfErr result (λ _. (self.new.engine ≡ self.old.engine)
             × (self.new.drainers ≡ self.old.drainers)) }
+        ensures labels { self.new.next_label ≡ self.old.next_label }
     {
         match self.engine.add_client(options, transport, label, now) {
             Ok(out) => {
@@ -177,7 +188,8 @@ impl<P: EventCallback + Drop, C: Callbacks, T: Drop> Core<P, C, T> {
         ensures drainer { OnOk result (AddsDrainer self.old.drainers self.new.drainers label.number drainer) }
         ensures refused { IfErr result (λ _. (self.new.engine ≡ self.old.engine)
             × ((self.new.drainers ≡ self.old.drainers)
-            ⊎ (self.new.drainers ≡ put self.old.drainers label.number None))) }
+            ⊎ (self.new.drainers ≡ without (put self.old.drainers label.number None) label.number))) }
+        ensures labels { self.new.next_label ≡ self.old.next_label }
     {
         if label.tag != self.tag || self.engine.has_book(label) {
             return Err(Refusal::ForeignLosses);
@@ -189,9 +201,16 @@ impl<P: EventCallback + Drop, C: Callbacks, T: Drop> Core<P, C, T> {
         }
         let transports = with_transport(self.alloc, &self.routes.transports, number, transport)?;
         self.make_place(label.number)?;
-        let out = self.add_at_place(options, has_transport, label, drainer, now)?;
-        self.routes = Routes::by(transports);
-        Ok(out)
+        match self.add_at_place(options, has_transport, label, drainer, now) {
+            Ok(out) => {
+                self.routes = Routes::by(transports);
+                Ok(out)
+            }
+            Err(refusal) => {
+                self.forget_place(label.number);
+                Err(refusal)
+            }
+        }
     }
 
     /// Adds a client with the options, the label and the transport of another one, and answers its key.
@@ -200,9 +219,16 @@ impl<P: EventCallback + Drop, C: Callbacks, T: Drop> Core<P, C, T> {
             (clients.clone_client client now)) }
         ensures refused { IfErr result (λ _. self.new.engine ≡ self.old.engine) }
         ensures drainers { self.new.drainers ≡ self.old.drainers }
+        ensures labels { self.new.next_label ≡ self.old.next_label }
     {
-        let share = share_at(&self.routes.transports, client.number)?;
+        if self.engine.client_label(client).is_none() {
+            return Err(Refusal::Stale);
+        }
         let number = self.engine.next_client();
+        if number == u64::MAX {
+            return Err(Refusal::Full);
+        }
+        let share = share_at(&self.routes.transports, client.number)?;
         let transports = with_transport(self.alloc, &self.routes.transports, number, share)?;
         let out = self.engine.clone_client(client, now)?;
         self.routes = Routes::by(transports);
@@ -218,6 +244,7 @@ impl<P: EventCallback + Drop, C: Callbacks, T: Drop> Core<P, C, T> {
             self.new.drainers) }
         ensures refused { IfErr result (λ _.
             DrainsAll self.old.tag self.old.engine self.new.engine self.old.drainers self.new.drainers) }
+        ensures labels { self.new.next_label ≡ self.old.next_label }
     {
         let transports = self.drained()?;
         let left = without_transport(self.alloc, &self.routes.transports, client.number)?;

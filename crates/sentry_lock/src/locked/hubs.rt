@@ -1,6 +1,6 @@
 //! Calls on hubs that are made by methods of their own: no value of a call or of a reply is made for them.
 
-ghost use Rattle.std.specs.Prelude.{◌≡◌, Ok, IfOk, IfErr};
+ghost use Rattle.std.specs.Prelude.{◌≡◌, Ok, Err, IfOk, IfErr};
 ghost use Rattle.sentry_calls.specs.Active.{if_active};
 ghost use Rattle.sentry_calls.specs.Hubs as hubs;
 ghost use Rattle.sentry_calls.specs.Layers as layers;
@@ -8,6 +8,7 @@ ghost use Rattle.sentry_calls.specs.Sessions as sessions;
 ghost use Rattle.sentry_calls.specs.Telemetry as telemetry;
 ghost use Rattle.sentry_events.specs.Captures as captures;
 ghost use Rattle.sentry_state.specs.Breadcrumbs.{add_breadcrumbs};
+ghost use Rattle.sentry_state.specs.Outcomes.{Does, DoesWithoutMemory};
 ghost use Rattle.sentry_lock.specs.Locked.{DrainsAll, DrainsAndDoes, Replies, RepliesWithoutMemory};
 
 use crate::handed::Handed;
@@ -17,9 +18,9 @@ use sentry_base::protocol::{
     Breadcrumb, ClientKey, ErrorLink, Event, Fresh, HubKey, Level, Log, MetricDraft, Refusal,
     SessionStatus, Uuid,
 };
-use sentry_options::clientoptions::Callbacks;
+use sentry_options::Callbacks;
 use sentry_plain::Few;
-use sentry_scope::scope::{Scope, ScopeEdit};
+use sentry_scope::{Scope, ScopeEdit};
 
 impl<P: EventCallback + Drop, C: Callbacks, T: Drop> Core<P, C, T> {
     /// Captures an event on a hub.
@@ -33,6 +34,7 @@ impl<P: EventCallback + Drop, C: Callbacks, T: Drop> Core<P, C, T> {
             self.old.drainers self.new.drainers (Ok handed.out) (captures.capture_event P.gives C.meanings hub event fresh)) }
         ensures refused { IfErr result (λ _.
             DrainsAll self.old.tag self.old.engine self.new.engine self.old.drainers self.new.drainers) }
+        ensures labels { self.new.next_label ≡ self.old.next_label }
     {
         let transports = self.drained()?;
         let out = self.engine.capture_event(hub, event, fresh)?;
@@ -54,6 +56,7 @@ impl<P: EventCallback + Drop, C: Callbacks, T: Drop> Core<P, C, T> {
             self.old.drainers self.new.drainers (Ok handed.out) (hubs.capture_message P.gives C.meanings hub message.now level fresh)) }
         ensures refused { IfErr result (λ _.
             DrainsAll self.old.tag self.old.engine self.new.engine self.old.drainers self.new.drainers) }
+        ensures labels { self.new.next_label ≡ self.old.next_label }
     {
         let transports = self.drained()?;
         let out = self.engine.capture_message(hub, message, level, fresh)?;
@@ -74,6 +77,7 @@ impl<P: EventCallback + Drop, C: Callbacks, T: Drop> Core<P, C, T> {
             self.old.drainers self.new.drainers (Ok handed.out) (hubs.capture_error P.gives C.meanings hub links.now fresh)) }
         ensures refused { IfErr result (λ _.
             DrainsAll self.old.tag self.old.engine self.new.engine self.old.drainers self.new.drainers) }
+        ensures labels { self.new.next_label ≡ self.old.next_label }
     {
         let transports = self.drained()?;
         let out = self.engine.capture_error(hub, links, fresh)?;
@@ -89,6 +93,7 @@ impl<P: EventCallback + Drop, C: Callbacks, T: Drop> Core<P, C, T> {
             self.old.drainers self.new.drainers (Ok handed.out) (telemetry.capture_log C.meanings hub log)) }
         ensures refused { IfErr result (λ _.
             DrainsAll self.old.tag self.old.engine self.new.engine self.old.drainers self.new.drainers) }
+        ensures labels { self.new.next_label ≡ self.old.next_label }
     {
         let transports = self.drained()?;
         let out = self.engine.capture_log(hub, log)?;
@@ -109,6 +114,7 @@ impl<P: EventCallback + Drop, C: Callbacks, T: Drop> Core<P, C, T> {
             self.old.drainers self.new.drainers (Ok handed.out) (telemetry.capture_metric C.meanings hub draft now)) }
         ensures refused { IfErr result (λ _.
             DrainsAll self.old.tag self.old.engine self.new.engine self.old.drainers self.new.drainers) }
+        ensures labels { self.new.next_label ≡ self.old.next_label }
     {
         let transports = self.drained()?;
         let out = self.engine.capture_metric(hub, draft, now)?;
@@ -129,6 +135,7 @@ impl<P: EventCallback + Drop, C: Callbacks, T: Drop> Core<P, C, T> {
             self.old.drainers self.new.drainers (Ok handed.out) (hubs.configure hub edits.items now)) }
         ensures refused { IfErr result (λ _.
             DrainsAll self.old.tag self.old.engine self.new.engine self.old.drainers self.new.drainers) }
+        ensures labels { self.new.next_label ≡ self.old.next_label }
     {
         let transports = self.drained()?;
         let out = self.engine.configure(hub, edits, now)?;
@@ -148,6 +155,7 @@ impl<P: EventCallback + Drop, C: Callbacks, T: Drop> Core<P, C, T> {
             self.old.drainers self.new.drainers (Ok handed.out) (sessions.start_session hub fresh)) }
         ensures refused { IfErr result (λ _.
             DrainsAll self.old.tag self.old.engine self.new.engine self.old.drainers self.new.drainers) }
+        ensures labels { self.new.next_label ≡ self.old.next_label }
     {
         self.drain_and_make_ready()?;
         let out = self.engine.start_session(hub, fresh)?;
@@ -165,6 +173,7 @@ impl<P: EventCallback + Drop, C: Callbacks, T: Drop> Core<P, C, T> {
             self.old.drainers self.new.drainers (Ok handed.out) (if_active hub (sessions.start_session hub fresh))) }
         ensures refused { IfErr result (λ _.
             DrainsAll self.old.tag self.old.engine self.new.engine self.old.drainers self.new.drainers) }
+        ensures labels { self.new.next_label ≡ self.old.next_label }
     {
         self.drain_and_make_ready()?;
         let out = self.engine.start_active_session(hub, fresh)?;
@@ -183,6 +192,7 @@ impl<P: EventCallback + Drop, C: Callbacks, T: Drop> Core<P, C, T> {
             self.old.drainers self.new.drainers (Ok handed.out) (sessions.end_session_with_status hub status now)) }
         ensures refused { IfErr result (λ _.
             DrainsAll self.old.tag self.old.engine self.new.engine self.old.drainers self.new.drainers) }
+        ensures labels { self.new.next_label ≡ self.old.next_label }
     {
         self.drain_and_make_ready()?;
         let out = self.engine.end_session_with_status(hub, status, now)?;
@@ -201,6 +211,7 @@ impl<P: EventCallback + Drop, C: Callbacks, T: Drop> Core<P, C, T> {
             self.old.drainers self.new.drainers (Ok handed.out) (if_active hub (sessions.end_session_with_status hub status now))) }
         ensures refused { IfErr result (λ _.
             DrainsAll self.old.tag self.old.engine self.new.engine self.old.drainers self.new.drainers) }
+        ensures labels { self.new.next_label ≡ self.old.next_label }
     {
         self.drain_and_make_ready()?;
         let out = self.engine.end_active_session(hub, status, now)?;
@@ -214,6 +225,7 @@ impl<P: EventCallback + Drop, C: Callbacks, T: Drop> Core<P, C, T> {
             self.old.drainers self.new.drainers (Ok handed.out) (layers.release_hub hub now)) }
         ensures refused { IfErr result (λ _.
             DrainsAll self.old.tag self.old.engine self.new.engine self.old.drainers self.new.drainers) }
+        ensures labels { self.new.next_label ≡ self.old.next_label }
     {
         let transports = self.drained()?;
         let out = self.engine.release_hub(hub, now)?;
@@ -231,8 +243,10 @@ impl<P: EventCallback + Drop, C: Callbacks, T: Drop> Core<P, C, T> {
     ) -> Result<(), Refusal>
         ensures done { IfOk result (λ reply. Replies self.old.engine self.new.engine reply
             (add_breadcrumbs C.meanings hub breadcrumbs)) }
-        ensures refused { IfErr result (λ _. self.new.engine ≡ self.old.engine) }
+        ensures refused { IfErr result (λ refusal. Does self.old.engine self.new.engine
+            (Err refusal) (add_breadcrumbs C.meanings hub breadcrumbs)) }
         ensures drainers { self.new.drainers ≡ self.old.drainers }
+        ensures labels { self.new.next_label ≡ self.old.next_label }
     {
         let out = self.engine.add_breadcrumbs(hub, breadcrumbs)?;
         Ok(out.reply)
@@ -246,8 +260,10 @@ impl<P: EventCallback + Drop, C: Callbacks, T: Drop> Core<P, C, T> {
     ) -> Result<HubKey, Refusal>
         ensures done { IfOk result (λ reply. Replies self.old.engine self.new.engine reply
             (hubs.new_hub client scope)) }
-        ensures refused { IfErr result (λ _. self.new.engine ≡ self.old.engine) }
+        ensures refused { IfErr result (λ refusal. Does self.old.engine self.new.engine
+            (Err refusal) (hubs.new_hub client scope)) }
         ensures drainers { self.new.drainers ≡ self.old.drainers }
+        ensures labels { self.new.next_label ≡ self.old.next_label }
     {
         let out = self.engine.new_hub(client, scope)?;
         Ok(out.reply)
@@ -257,8 +273,10 @@ impl<P: EventCallback + Drop, C: Callbacks, T: Drop> Core<P, C, T> {
     pub(crate) fn new_hub_from_top(&mut self, hub: HubKey) -> Result<HubKey, Refusal>
         ensures done { IfOk result (λ reply. Replies self.old.engine self.new.engine reply
             (layers.new_hub_from_top hub)) }
-        ensures refused { IfErr result (λ _. self.new.engine ≡ self.old.engine) }
+        ensures refused { IfErr result (λ refusal. Does self.old.engine self.new.engine
+            (Err refusal) (layers.new_hub_from_top hub)) }
         ensures drainers { self.new.drainers ≡ self.old.drainers }
+        ensures labels { self.new.next_label ≡ self.old.next_label }
     {
         let out = self.engine.new_hub_from_top(hub)?;
         Ok(out.reply)
@@ -272,8 +290,10 @@ impl<P: EventCallback + Drop, C: Callbacks, T: Drop> Core<P, C, T> {
     ) -> Result<(), Refusal>
         ensures done { IfOk result (λ reply. RepliesWithoutMemory self.old.engine self.new.engine reply
             (layers.bind_client hub client)) }
-        ensures refused { IfErr result (λ _. self.new.engine ≡ self.old.engine) }
+        ensures refused { IfErr result (λ refusal. DoesWithoutMemory self.old.engine self.new.engine
+            (Err refusal) (layers.bind_client hub client)) }
         ensures drainers { self.new.drainers ≡ self.old.drainers }
+        ensures labels { self.new.next_label ≡ self.old.next_label }
     {
         let out = self.engine.bind_client(hub, client)?;
         Ok(out.reply)

@@ -14,8 +14,8 @@ use crate::locked::Core;
 use crate::words::{StillHeld, drain_words, drain_words_into, end_words};
 use sentry_base::callbacks::EventCallback;
 use sentry_base::protocol::{ClientReport, LOSS_QUANTITIES, Label, Losses, Refusal};
-use sentry_engine::engine::Engine;
-use sentry_options::clientoptions::Callbacks;
+use sentry_engine::Engine;
+use sentry_options::Callbacks;
 use std::alloc::AllocError;
 
 // Whether nothing is lost. It looks at each quantity without a branch, which is the fastest way.
@@ -46,7 +46,7 @@ impl<P: EventCallback + Drop, C: Callbacks, T: Drop> Core<P, C, T> {
     /// no memory.
     ///
     /// `ForeignLosses`: no client that is held names the label.
-    pub fn drain_and_absorb(&mut self, label: Label) -> Result<Option<Losses>, Refusal>
+    pub(crate) fn drain_and_absorb(&mut self, label: Label) -> Result<Option<Losses>, Refusal>
         ensures done { IfOk result (λ drained. IsHeld true label self.old.engine × MatchOption drained
             (FindsNoWords label self.old.engine self.new.engine self.old.drainers self.new.drainers)
             (λ losses. DrainsAndAbsorbs label losses.quantities self.old.engine self.new.engine
@@ -71,6 +71,7 @@ impl<P: EventCallback + Drop, C: Callbacks, T: Drop> Core<P, C, T> {
     fn drain_label(&mut self, label: Label)
         ensures drained { DrainsIfOpen label self.old.engine self.new.engine self.old.drainers self.new.drainers }
         ensures tag { self.new.tag ≡ self.old.tag }
+        ensures labels { self.new.next_label ≡ self.old.next_label }
     {
         if !self.engine.has_book(label) {
             return;
@@ -92,6 +93,7 @@ impl<P: EventCallback + Drop, C: Callbacks, T: Drop> Core<P, C, T> {
             × (self.new.engine ≡ self.old.engine) × (self.new.drainers ≡ self.old.drainers))
             (λ number. DrainsNext self.old.tag last number self.old.engine self.new.engine
             self.old.drainers self.new.drainers) }
+        ensures labels { self.new.next_label ≡ self.old.next_label }
     {
         let Some(number) = self.drainers.next_number(last) else {
             return None;
@@ -104,9 +106,10 @@ impl<P: EventCallback + Drop, C: Callbacks, T: Drop> Core<P, C, T> {
     }
 
     /// Drains and absorbs for each label that a held client names, in the order of their numbers.
-    pub(super) fn drain_all(&mut self)
-        ensures { DrainsEach self.old.tag self.old.drainers self.old.engine self.new.engine
+    pub(super) fn drain_each_label(&mut self)
+        ensures drained { DrainsEach self.old.tag self.old.drainers self.old.engine self.new.engine
             self.old.drainers self.new.drainers }
+        ensures labels { self.new.next_label ≡ self.old.next_label }
     {
         let mut last = None;
         for _ in 0..self.drainers.len() {
@@ -121,15 +124,17 @@ impl<P: EventCallback + Drop, C: Callbacks, T: Drop> Core<P, C, T> {
     /// out envelopes does before the engine's call, after which nothing may fail.
     #[tactic(auto, unfolding(crate::specs::Locked::DrainsAll))]
     pub(super) fn drain_and_make_ready(&mut self) -> Result<(), AllocError>
-        ensures { DrainsAll self.old.tag self.old.engine self.new.engine self.old.drainers self.new.drainers }
+        ensures drained { DrainsAll self.old.tag self.old.engine self.new.engine self.old.drainers self.new.drainers }
+        ensures labels { self.new.next_label ≡ self.old.next_label }
     {
-        self.drain_all();
+        self.drain_each_label();
         self.routes.make_ready()
     }
 
     /// The same, with a share of the transports for a call that mostly hands out envelopes.
     pub(super) fn drained(&mut self) -> Result<Transports<T>, AllocError>
-        ensures { DrainsAll self.old.tag self.old.engine self.new.engine self.old.drainers self.new.drainers }
+        ensures drained { DrainsAll self.old.tag self.old.engine self.new.engine self.old.drainers self.new.drainers }
+        ensures labels { self.new.next_label ≡ self.old.next_label }
     {
         self.drain_and_make_ready()?;
         let transports = self.routes.transports.clone()?;
@@ -140,7 +145,7 @@ impl<P: EventCallback + Drop, C: Callbacks, T: Drop> Core<P, C, T> {
     /// are none. What its words hold is not in it: drain them first.
     ///
     /// `ForeignLosses`: no client that is held names the label. `OutOfMemory`.
-    pub fn take_report(&mut self, label: Label) -> Result<Option<ClientReport>, Refusal>
+    pub(crate) fn take_report(&mut self, label: Label) -> Result<Option<ClientReport>, Refusal>
         ensures done { IfOk result (λ report. (sent : List (ClientKey × Envelope))
             × Does self.old.engine self.new.engine (Ok (record { reply = report; sent = sent })) (take_report label)) }
         ensures refused { IfErr result (λ refusal. Does self.old.engine self.new.engine (Err refusal) (take_report label)) }
@@ -156,7 +161,7 @@ impl<P: EventCallback + Drop, C: Callbacks, T: Drop> Core<P, C, T> {
     /// nothing while a recorder of them is held. True also if they were ended before. It takes no memory.
     ///
     /// `ForeignLosses`: no client that is held names the label.
-    pub fn close_losses(&mut self, label: Label) -> Result<bool, Refusal>
+    pub(crate) fn close_losses(&mut self, label: Label) -> Result<bool, Refusal>
         ensures named { IfOk result (λ _. IsHeld true label self.old.engine) }
         ensures ended { IfOk result (λ ended. ended ≡ true →
             FindsNoWords label self.old.engine self.new.engine self.old.drainers self.new.drainers
@@ -186,6 +191,7 @@ impl<P: EventCallback + Drop, C: Callbacks, T: Drop> Core<P, C, T> {
         ensures engine { self.new.engine ≡ self.old.engine }
         ensures drainers { (IsHeld true label self.new.engine × (self.new.drainers ≡ self.old.drainers))
             ⊎ (IsHeld false label self.new.engine × (self.new.drainers ≡ without self.old.drainers label.number)) }
+        ensures labels { self.new.next_label ≡ self.old.next_label }
     {
         if !self.engine.has_book(label) {
             drop(self.drainers.remove(label.number));
@@ -196,6 +202,7 @@ impl<P: EventCallback + Drop, C: Callbacks, T: Drop> Core<P, C, T> {
     pub(super) fn forget_dropped(&mut self, label: Option<Label>)
         ensures engine { self.new.engine ≡ self.old.engine }
         ensures drainers { ForgetsUnused label self.new.engine self.old.drainers self.new.drainers }
+        ensures labels { self.new.next_label ≡ self.old.next_label }
     {
         if let Some(label) = label {
             self.forget_unused(label);

@@ -1,10 +1,11 @@
 //! Calls on clients that are made by methods of their own, and those with guards of layers: each is the engine's, beside a
 //! share of the transports.
 
-ghost use Rattle.std.specs.Prelude.{◌≡◌, Ok, IfOk, IfErr, option_copied};
+ghost use Rattle.std.specs.Prelude.{◌≡◌, Ok, Err, IfOk, IfErr, option_copied};
 ghost use Rattle.sentry_calls.specs.Clients as clients;
 ghost use Rattle.sentry_calls.specs.Layers as layers;
 ghost use Rattle.sentry_calls.specs.Telemetry as telemetry;
+ghost use Rattle.sentry_state.specs.Outcomes.{Does};
 ghost use Rattle.sentry_lock.specs.Locked.{DrainsAll, DrainsAndDoes, Replies};
 
 use crate::handed::Handed;
@@ -13,10 +14,10 @@ use sentry_base::callbacks::EventCallback;
 use sentry_base::protocol::{
     ClientKey, Envelope, Event, Fresh, HubKey, Log, MetricDraft, Refusal, Uuid,
 };
-use sentry_engine::engine::ScopeGuard;
-use sentry_options::clientoptions::Callbacks;
+use sentry_engine::ScopeGuard;
+use sentry_options::Callbacks;
 use sentry_plain::Boxed;
-use sentry_scope::scope::Scope;
+use sentry_scope::Scope;
 
 impl<P: EventCallback + Drop, C: Callbacks, T: Drop> Core<P, C, T> {
     /// The event as a client would send it.
@@ -29,8 +30,10 @@ impl<P: EventCallback + Drop, C: Callbacks, T: Drop> Core<P, C, T> {
     ) -> Result<Option<Boxed<Event>>, Refusal>
         ensures done { IfOk result (λ reply. Replies self.old.engine self.new.engine reply
             (clients.prepare_event P.gives C.meanings client event (option_copied scope.entry) fresh)) }
-        ensures refused { IfErr result (λ _. self.new.engine ≡ self.old.engine) }
+        ensures refused { IfErr result (λ refusal. Does self.old.engine self.new.engine
+            (Err refusal) (clients.prepare_event P.gives C.meanings client event (option_copied scope.entry) fresh)) }
         ensures drainers { self.new.drainers ≡ self.old.drainers }
+        ensures labels { self.new.next_label ≡ self.old.next_label }
     {
         let out = self.engine.prepare_event(client, event, scope, fresh)?;
         Ok(out.reply)
@@ -48,6 +51,7 @@ impl<P: EventCallback + Drop, C: Callbacks, T: Drop> Core<P, C, T> {
             self.old.drainers self.new.drainers (Ok handed.out) (clients.client_capture_event P.gives C.meanings client event (option_copied scope.entry) fresh)) }
         ensures refused { IfErr result (λ _.
             DrainsAll self.old.tag self.old.engine self.new.engine self.old.drainers self.new.drainers) }
+        ensures labels { self.new.next_label ≡ self.old.next_label }
     {
         let transports = self.drained()?;
         let out = self
@@ -70,6 +74,7 @@ impl<P: EventCallback + Drop, C: Callbacks, T: Drop> Core<P, C, T> {
             self.old.drainers self.new.drainers (Ok handed.out) (telemetry.client_capture_log C.meanings client log scope.now)) }
         ensures refused { IfErr result (λ _.
             DrainsAll self.old.tag self.old.engine self.new.engine self.old.drainers self.new.drainers) }
+        ensures labels { self.new.next_label ≡ self.old.next_label }
     {
         let transports = self.drained()?;
         let out = self.engine.client_capture_log(client, log, scope)?;
@@ -91,6 +96,7 @@ impl<P: EventCallback + Drop, C: Callbacks, T: Drop> Core<P, C, T> {
             self.old.drainers self.new.drainers (Ok handed.out) (telemetry.client_capture_metric C.meanings client draft scope.now now)) }
         ensures refused { IfErr result (λ _.
             DrainsAll self.old.tag self.old.engine self.new.engine self.old.drainers self.new.drainers) }
+        ensures labels { self.new.next_label ≡ self.old.next_label }
     {
         let transports = self.drained()?;
         let out = self
@@ -112,6 +118,7 @@ impl<P: EventCallback + Drop, C: Callbacks, T: Drop> Core<P, C, T> {
             self.old.drainers self.new.drainers (Ok handed.out) (clients.send_envelope client envelope)) }
         ensures refused { IfErr result (λ _.
             DrainsAll self.old.tag self.old.engine self.new.engine self.old.drainers self.new.drainers) }
+        ensures labels { self.new.next_label ≡ self.old.next_label }
     {
         let transports = self.drained()?;
         let out = self.engine.send_envelope(client, envelope)?;
@@ -127,6 +134,7 @@ impl<P: EventCallback + Drop, C: Callbacks, T: Drop> Core<P, C, T> {
             self.old.drainers self.new.drainers (Ok handed.out) (clients.flush client)) }
         ensures refused { IfErr result (λ _.
             DrainsAll self.old.tag self.old.engine self.new.engine self.old.drainers self.new.drainers) }
+        ensures labels { self.new.next_label ≡ self.old.next_label }
     {
         let transports = self.drained()?;
         let out = self.engine.flush(client)?;
@@ -142,6 +150,7 @@ impl<P: EventCallback + Drop, C: Callbacks, T: Drop> Core<P, C, T> {
             self.old.drainers self.new.drainers (Ok handed.out) (clients.tick client now)) }
         ensures refused { IfErr result (λ _.
             DrainsAll self.old.tag self.old.engine self.new.engine self.old.drainers self.new.drainers) }
+        ensures labels { self.new.next_label ≡ self.old.next_label }
     {
         let transports = self.drained()?;
         let out = self.engine.tick(client, now)?;
@@ -157,6 +166,7 @@ impl<P: EventCallback + Drop, C: Callbacks, T: Drop> Core<P, C, T> {
             self.old.drainers self.new.drainers (Ok handed.out) (clients.close client)) }
         ensures refused { IfErr result (λ _.
             DrainsAll self.old.tag self.old.engine self.new.engine self.old.drainers self.new.drainers) }
+        ensures labels { self.new.next_label ≡ self.old.next_label }
     {
         let transports = self.drained()?;
         let out = self.engine.close(client)?;
@@ -170,8 +180,10 @@ impl<P: EventCallback + Drop, C: Callbacks, T: Drop> Core<P, C, T> {
     pub(crate) fn push_scope(&mut self, hub: HubKey) -> Result<ScopeGuard, Refusal>
         ensures done { IfOk result (λ reply. Replies self.old.engine self.new.engine reply
             (layers.push_scope hub)) }
-        ensures refused { IfErr result (λ _. self.new.engine ≡ self.old.engine) }
+        ensures refused { IfErr result (λ refusal. Does self.old.engine self.new.engine
+            (Err refusal) (layers.push_scope hub)) }
         ensures drainers { self.new.drainers ≡ self.old.drainers }
+        ensures labels { self.new.next_label ≡ self.old.next_label }
     {
         let out = self.engine.push_scope(hub)?;
         Ok(out.reply)
@@ -187,6 +199,7 @@ impl<P: EventCallback + Drop, C: Callbacks, T: Drop> Core<P, C, T> {
             self.old.drainers self.new.drainers (Ok handed.out) (layers.pop_scope guard.0 guard.1 now)) }
         ensures refused { IfErr result (λ refused.
             DrainsAll self.old.tag self.old.engine self.new.engine self.old.drainers self.new.drainers × (refused.1 ≡ guard)) }
+        ensures labels { self.new.next_label ≡ self.old.next_label }
     {
         let Ok(transports) = self.drained() else {
             return Err((Refusal::OutOfMemory, guard));

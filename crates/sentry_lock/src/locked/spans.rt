@@ -1,10 +1,11 @@
 //! Calls on transactions and spans that are made by methods of their own.
 
-ghost use Rattle.std.specs.Prelude.{◌≡◌, Ok, IfOk, IfErr};
-ghost use Rattle.sentry_span_edits.specs.Discards as discards;
+ghost use Rattle.std.specs.Prelude.{◌≡◌, Ok, Err, IfOk, IfErr};
+ghost use Rattle.sentry_spans.specs.Discards as discards;
 ghost use Rattle.sentry_span_edits.specs.Setters as setters;
 ghost use Rattle.sentry_spans.specs.Ends as ends;
 ghost use Rattle.sentry_spans.specs.Spans as spans;
+ghost use Rattle.sentry_state.specs.Outcomes.{Does, DoesWithoutMemory};
 ghost use Rattle.sentry_lock.specs.Locked.{DrainsAll, DrainsAndDoes, Replies, RepliesWithoutMemory};
 
 use crate::handed::Handed;
@@ -14,7 +15,7 @@ use sentry_base::protocol::{
     Fresh, HubKey, Refusal, Request, SpanId, SpanKey, SpanStatus, TransactionKey,
     TransactionOrSpanKey,
 };
-use sentry_options::clientoptions::Callbacks;
+use sentry_options::Callbacks;
 use sentry_plain::Value;
 use sentry_trace::performance::TransactionContext;
 
@@ -28,8 +29,10 @@ impl<P: EventCallback + Drop, C: Callbacks, T: Drop> Core<P, C, T> {
     ) -> Result<TransactionKey, Refusal>
         ensures done { IfOk result (λ reply. Replies self.old.engine self.new.engine reply
             (spans.start_transaction C.meanings hub context fresh)) }
-        ensures refused { IfErr result (λ _. self.new.engine ≡ self.old.engine) }
+        ensures refused { IfErr result (λ refusal. Does self.old.engine self.new.engine
+            (Err refusal) (spans.start_transaction C.meanings hub context fresh)) }
         ensures drainers { self.new.drainers ≡ self.old.drainers }
+        ensures labels { self.new.next_label ≡ self.old.next_label }
     {
         let out = self.engine.start_transaction(hub, context, fresh)?;
         Ok(out.reply)
@@ -45,8 +48,10 @@ impl<P: EventCallback + Drop, C: Callbacks, T: Drop> Core<P, C, T> {
     ) -> Result<TransactionKey, Refusal>
         ensures done { IfOk result (λ reply. Replies self.old.engine self.new.engine reply
             (spans.start_transaction_with_timestamp C.meanings hub context start fresh)) }
-        ensures refused { IfErr result (λ _. self.new.engine ≡ self.old.engine) }
+        ensures refused { IfErr result (λ refusal. Does self.old.engine self.new.engine
+            (Err refusal) (spans.start_transaction_with_timestamp C.meanings hub context start fresh)) }
         ensures drainers { self.new.drainers ≡ self.old.drainers }
+        ensures labels { self.new.next_label ≡ self.old.next_label }
     {
         let out = self
             .engine
@@ -64,8 +69,10 @@ impl<P: EventCallback + Drop, C: Callbacks, T: Drop> Core<P, C, T> {
     ) -> Result<SpanKey, Refusal>
         ensures done { IfOk result (λ reply. Replies self.old.engine self.new.engine reply
             (spans.start_child parent op.now description.now fresh)) }
-        ensures refused { IfErr result (λ _. self.new.engine ≡ self.old.engine) }
+        ensures refused { IfErr result (λ refusal. Does self.old.engine self.new.engine
+            (Err refusal) (spans.start_child parent op.now description.now fresh)) }
         ensures drainers { self.new.drainers ≡ self.old.drainers }
+        ensures labels { self.new.next_label ≡ self.old.next_label }
     {
         let out = self.engine.start_child(parent, op, description, fresh)?;
         Ok(out.reply)
@@ -82,8 +89,10 @@ impl<P: EventCallback + Drop, C: Callbacks, T: Drop> Core<P, C, T> {
     ) -> Result<SpanKey, Refusal>
         ensures done { IfOk result (λ reply. Replies self.old.engine self.new.engine reply
             (spans.start_child_with_details parent op.now description.now id start)) }
-        ensures refused { IfErr result (λ _. self.new.engine ≡ self.old.engine) }
+        ensures refused { IfErr result (λ refusal. Does self.old.engine self.new.engine
+            (Err refusal) (spans.start_child_with_details parent op.now description.now id start)) }
         ensures drainers { self.new.drainers ≡ self.old.drainers }
+        ensures labels { self.new.next_label ≡ self.old.next_label }
     {
         let out = self
             .engine
@@ -95,8 +104,10 @@ impl<P: EventCallback + Drop, C: Callbacks, T: Drop> Core<P, C, T> {
     pub(crate) fn finish_span(&mut self, span: SpanKey, moment: u64) -> Result<(), Refusal>
         ensures done { IfOk result (λ reply. Replies self.old.engine self.new.engine reply
             (spans.finish_span span moment)) }
-        ensures refused { IfErr result (λ _. self.new.engine ≡ self.old.engine) }
+        ensures refused { IfErr result (λ refusal. Does self.old.engine self.new.engine
+            (Err refusal) (spans.finish_span span moment)) }
         ensures drainers { self.new.drainers ≡ self.old.drainers }
+        ensures labels { self.new.next_label ≡ self.old.next_label }
     {
         let out = self.engine.finish_span(span, moment)?;
         Ok(out.reply)
@@ -113,6 +124,7 @@ impl<P: EventCallback + Drop, C: Callbacks, T: Drop> Core<P, C, T> {
             self.old.drainers self.new.drainers (Ok handed.out) (spans.finish_transaction transaction hub moment)) }
         ensures refused { IfErr result (λ _.
             DrainsAll self.old.tag self.old.engine self.new.engine self.old.drainers self.new.drainers) }
+        ensures labels { self.new.next_label ≡ self.old.next_label }
     {
         let transports = self.drained()?;
         let out = self.engine.finish_transaction(transaction, hub, moment)?;
@@ -126,8 +138,10 @@ impl<P: EventCallback + Drop, C: Callbacks, T: Drop> Core<P, C, T> {
     pub(crate) fn discard(&mut self, span: TransactionOrSpanKey) -> Result<(), Refusal>
         ensures done { IfOk result (λ reply. RepliesWithoutMemory self.old.engine self.new.engine reply
             (discards.discard span)) }
-        ensures refused { IfErr result (λ _. self.new.engine ≡ self.old.engine) }
+        ensures refused { IfErr result (λ refusal. DoesWithoutMemory self.old.engine self.new.engine
+            (Err refusal) (discards.discard span)) }
         ensures drainers { self.new.drainers ≡ self.old.drainers }
+        ensures labels { self.new.next_label ≡ self.old.next_label }
     {
         let out = self.engine.discard(span)?;
         Ok(out.reply)
@@ -141,8 +155,10 @@ impl<P: EventCallback + Drop, C: Callbacks, T: Drop> Core<P, C, T> {
     ) -> Result<Result<(), Refusal>, Refusal>
         ensures done { IfOk result (λ reply. Replies self.old.engine self.new.engine reply
             (ends.end_span span moment)) }
-        ensures refused { IfErr result (λ _. self.new.engine ≡ self.old.engine) }
+        ensures refused { IfErr result (λ refusal. Does self.old.engine self.new.engine
+            (Err refusal) (ends.end_span span moment)) }
         ensures drainers { self.new.drainers ≡ self.old.drainers }
+        ensures labels { self.new.next_label ≡ self.old.next_label }
     {
         let out = self.engine.end_span(span, moment)?;
         Ok(out.reply)
@@ -159,6 +175,7 @@ impl<P: EventCallback + Drop, C: Callbacks, T: Drop> Core<P, C, T> {
             self.old.drainers self.new.drainers (Ok handed.out) (ends.end_transaction transaction hub moment)) }
         ensures refused { IfErr result (λ _.
             DrainsAll self.old.tag self.old.engine self.new.engine self.old.drainers self.new.drainers) }
+        ensures labels { self.new.next_label ≡ self.old.next_label }
     {
         let transports = self.drained()?;
         let out = self.engine.end_transaction(transaction, hub, moment)?;
@@ -177,8 +194,10 @@ impl<P: EventCallback + Drop, C: Callbacks, T: Drop> Core<P, C, T> {
     ) -> Result<(), Refusal>
         ensures done { IfOk result (λ reply. Replies self.old.engine self.new.engine reply
             (setters.set_data span key.now value)) }
-        ensures refused { IfErr result (λ _. self.new.engine ≡ self.old.engine) }
+        ensures refused { IfErr result (λ refusal. Does self.old.engine self.new.engine
+            (Err refusal) (setters.set_data span key.now value)) }
         ensures drainers { self.new.drainers ≡ self.old.drainers }
+        ensures labels { self.new.next_label ≡ self.old.next_label }
     {
         let out = self.engine.set_data(span, key, value)?;
         Ok(out.reply)
@@ -193,8 +212,10 @@ impl<P: EventCallback + Drop, C: Callbacks, T: Drop> Core<P, C, T> {
     ) -> Result<(), Refusal>
         ensures done { IfOk result (λ reply. Replies self.old.engine self.new.engine reply
             (setters.set_tag span key.now value.now)) }
-        ensures refused { IfErr result (λ _. self.new.engine ≡ self.old.engine) }
+        ensures refused { IfErr result (λ refusal. Does self.old.engine self.new.engine
+            (Err refusal) (setters.set_tag span key.now value.now)) }
         ensures drainers { self.new.drainers ≡ self.old.drainers }
+        ensures labels { self.new.next_label ≡ self.old.next_label }
     {
         let out = self.engine.set_tag(span, key, value)?;
         Ok(out.reply)
@@ -209,8 +230,10 @@ impl<P: EventCallback + Drop, C: Callbacks, T: Drop> Core<P, C, T> {
     ) -> Result<(), Refusal>
         ensures done { IfOk result (λ reply. Replies self.old.engine self.new.engine reply
             (setters.set_extra transaction key.now value)) }
-        ensures refused { IfErr result (λ _. self.new.engine ≡ self.old.engine) }
+        ensures refused { IfErr result (λ refusal. Does self.old.engine self.new.engine
+            (Err refusal) (setters.set_extra transaction key.now value)) }
         ensures drainers { self.new.drainers ≡ self.old.drainers }
+        ensures labels { self.new.next_label ≡ self.old.next_label }
     {
         let out = self.engine.set_extra(transaction, key, value)?;
         Ok(out.reply)
@@ -224,8 +247,10 @@ impl<P: EventCallback + Drop, C: Callbacks, T: Drop> Core<P, C, T> {
     ) -> Result<(), Refusal>
         ensures done { IfOk result (λ reply. Replies self.old.engine self.new.engine reply
             (setters.set_status span status)) }
-        ensures refused { IfErr result (λ _. self.new.engine ≡ self.old.engine) }
+        ensures refused { IfErr result (λ refusal. Does self.old.engine self.new.engine
+            (Err refusal) (setters.set_status span status)) }
         ensures drainers { self.new.drainers ≡ self.old.drainers }
+        ensures labels { self.new.next_label ≡ self.old.next_label }
     {
         let out = self.engine.set_status(span, status)?;
         Ok(out.reply)
@@ -235,8 +260,10 @@ impl<P: EventCallback + Drop, C: Callbacks, T: Drop> Core<P, C, T> {
     pub(crate) fn set_op(&mut self, span: TransactionOrSpanKey, op: &str) -> Result<(), Refusal>
         ensures done { IfOk result (λ reply. Replies self.old.engine self.new.engine reply
             (setters.set_op span op.now)) }
-        ensures refused { IfErr result (λ _. self.new.engine ≡ self.old.engine) }
+        ensures refused { IfErr result (λ refusal. Does self.old.engine self.new.engine
+            (Err refusal) (setters.set_op span op.now)) }
         ensures drainers { self.new.drainers ≡ self.old.drainers }
+        ensures labels { self.new.next_label ≡ self.old.next_label }
     {
         let out = self.engine.set_op(span, op)?;
         Ok(out.reply)
@@ -246,8 +273,10 @@ impl<P: EventCallback + Drop, C: Callbacks, T: Drop> Core<P, C, T> {
     pub(crate) fn set_name(&mut self, span: TransactionOrSpanKey, name: &str) -> Result<(), Refusal>
         ensures done { IfOk result (λ reply. Replies self.old.engine self.new.engine reply
             (setters.set_name span name.now)) }
-        ensures refused { IfErr result (λ _. self.new.engine ≡ self.old.engine) }
+        ensures refused { IfErr result (λ refusal. Does self.old.engine self.new.engine
+            (Err refusal) (setters.set_name span name.now)) }
         ensures drainers { self.new.drainers ≡ self.old.drainers }
+        ensures labels { self.new.next_label ≡ self.old.next_label }
     {
         let out = self.engine.set_name(span, name)?;
         Ok(out.reply)
@@ -261,8 +290,10 @@ impl<P: EventCallback + Drop, C: Callbacks, T: Drop> Core<P, C, T> {
     ) -> Result<(), Refusal>
         ensures done { IfOk result (λ reply. Replies self.old.engine self.new.engine reply
             (setters.set_request span request)) }
-        ensures refused { IfErr result (λ _. self.new.engine ≡ self.old.engine) }
+        ensures refused { IfErr result (λ refusal. Does self.old.engine self.new.engine
+            (Err refusal) (setters.set_request span request)) }
         ensures drainers { self.new.drainers ≡ self.old.drainers }
+        ensures labels { self.new.next_label ≡ self.old.next_label }
     {
         let out = self.engine.set_request(span, request)?;
         Ok(out.reply)
@@ -276,8 +307,10 @@ impl<P: EventCallback + Drop, C: Callbacks, T: Drop> Core<P, C, T> {
     ) -> Result<(), Refusal>
         ensures done { IfOk result (λ reply. Replies self.old.engine self.new.engine reply
             (setters.set_origin transaction origin.now)) }
-        ensures refused { IfErr result (λ _. self.new.engine ≡ self.old.engine) }
+        ensures refused { IfErr result (λ refusal. Does self.old.engine self.new.engine
+            (Err refusal) (setters.set_origin transaction origin.now)) }
         ensures drainers { self.new.drainers ≡ self.old.drainers }
+        ensures labels { self.new.next_label ≡ self.old.next_label }
     {
         let out = self.engine.set_origin(transaction, origin)?;
         Ok(out.reply)

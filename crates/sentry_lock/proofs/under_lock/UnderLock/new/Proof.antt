@@ -74,4 +74,4 @@ new_spec 𝓤 𝓛 𝓜 𝓡 wired P C T LP LC LT =
     nothing ! $ move ! (1 ∷ 0 ∷ []) $ fjoin ! $ nothing ! $ move ! (1 ∷ 0 ∷ []) $ fjoin ! $
     fpack ! _ (λ h. fsep (F.own_val h.0 (v ∷ [])) ftrue) (record { core = x }, (refl, tt)) $
     use0 𝓛 (raw (emp 𝓤)) (id⊢ 𝓤 (emp 𝓤)) $ nothing ! $ nothing ! $ fjoin ! $ keep ! (3 ∷ 0 ∷ 2 ∷ 1 ∷ []) $
-    by ! (leaves 𝓛 En hs c z v tt (rest (I.exit En.kept.0) x, tt) (tt, tt))))
+    by ! (leaves 𝓛 En hs c z v x (rest (I.exit En.kept.0) x, tt) (tt, tt))))

@@ -1,0 +1,5 @@
+use Rattle.sentry_hub.proofs.scoped.run_nothing_here.Goals as goal
+
+-- the work ran
+pub returns-clause-answer : goal.returns-clause-answer
+returns-clause-answer g c = record { lent = _; span = _; left = _; met = c.work-answer.ensures }

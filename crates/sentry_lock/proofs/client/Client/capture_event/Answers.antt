@@ -1,0 +1,7 @@
+use Rattle.sentry_lock.proofs.LockAnswers.{lock_drains}
+use Rattle.sentry_lock.proofs.client.Client.capture_event.Goals as goal
+
+pub returns : goal.returns
+returns g c =
+    rw (← c.self.view_is) (lock_drains c.behind-guard.inside.core c.client_capture_event.new.self.engine c.client_capture_event.new.self.drainers _ c.in_ok-handed.handed.out
+    c.deliver.result c.deliver.ensures c.in_ok-handed.ensures.done)

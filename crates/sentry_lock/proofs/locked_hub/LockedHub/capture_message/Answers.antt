@@ -1,0 +1,10 @@
+use Rattle.sentry_lock.proofs.LockAnswers.{drains}
+use Rattle.std.proofs.Common.{◌∙◌}
+use Rattle.std.specs.Sync.Mutex.{mutex_guard_value}
+use Rattle.sentry_lock.proofs.locked_hub.LockedHub.capture_message.Goals as goal
+
+pub returns : goal.returns
+returns g c =
+    drains c.behind-guard.inside.core (mutex_guard_value c.args.self.guard.under) (c.behind-guard.view_is ∙ c.deref_mut.ensures.value)
+    c.capture_message.new.self.engine c.capture_message.new.self.drainers _ c.in_ok-handed.handed.out
+    c.deliver.result c.deliver.ensures c.in_ok-handed.ensures.done

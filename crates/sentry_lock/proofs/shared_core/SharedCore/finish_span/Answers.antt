@@ -1,0 +1,11 @@
+use Rattle.sentry_lock.proofs.LockAnswers.{lock_answers, lock_refuses}
+use Rattle.sentry_state.specs.Outcomes.{memory}
+use Rattle.sentry_lock.proofs.shared_core.SharedCore.finish_span.Goals as goal
+
+pub returns-clause-done : goal.returns-clause-done
+returns-clause-done g c =
+    lock_answers c.behind-lock.inside.core memory c.finish_span.new.self.engine _ c.finish_span.result c.finish_span.ensures.done
+
+pub returns-clause-refused : goal.returns-clause-refused
+returns-clause-refused g c =
+    lock_refuses c.behind-lock.inside.core memory c.finish_span.new.self.engine _ c.finish_span.result c.finish_span.ensures.done c.finish_span.ensures.refused
