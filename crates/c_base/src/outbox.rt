@@ -1,16 +1,20 @@
 //! Envelopes that wait until they are fetched.
 ghost use Rattle.std.specs.Prelude.{◌≡◌, ◌<◌, ◌≤◌, ◌++◌, ◌∷◌, ◌↔◌, IsTrue, [], length, OnOk, OnErr, IfOk, vec_len, vec_capacity};
 ghost use Rattle.c_base.specs.Outboxes.{waiting, Asks, Copies};
+ghost use Rattle.c_base.specs.Queues.{noted};
 
 use crate::queue::Queue;
 use sentry_base::protocol::{ClientKey, Envelope};
-use sentry_envelope::to_vec;
-use sentry_plain::Items;
+use sentry_envelope::to_vec_with_stacktraces;
+use sentry_plain::{Items, Value};
 use std::alloc::{AllocError, Global};
 
-/// The envelopes that calls handed out, in order.
+/// Stack traces: of each exception of an event, or of the event if it has none.
+pub type Stacktraces = Items<Option<Value>>;
+
+/// The envelopes that calls handed out, in order, each with the stack traces of its event.
 pub struct Outbox {
-    queue: Queue<(ClientKey, Envelope)>,
+    queue: Queue<(ClientKey, Envelope), Stacktraces>,
 }
 
 impl Drop for Outbox {
@@ -53,9 +57,18 @@ impl Outbox {
     /// Keeps what a call handed out.
     pub fn keep(&mut self, sent: Items<(ClientKey, Envelope)>)
         requires { vec_len self.old.queue.later < vec_capacity self.old.queue.later }
-        ensures { waiting self.new ≡ waiting self.old ++ sent }
+        ensures { waiting self.new ≡ waiting self.old ++ noted [] sent }
     {
-        self.queue.keep(sent);
+        let none = Items::new(self.queue.allocator());
+        self.queue.keep(sent, none);
+    }
+
+    /// Keeps what a call handed out that sends an event, with the stack traces of that.
+    pub fn keep_with(&mut self, sent: Items<(ClientKey, Envelope)>, stacktraces: Stacktraces)
+        requires { vec_len self.old.queue.later < vec_capacity self.old.queue.later }
+        ensures { waiting self.new ≡ waiting self.old ++ noted stacktraces sent }
+    {
+        self.queue.keep(sent, stacktraces);
     }
 
     /// Forgets all that waits.
@@ -75,10 +88,14 @@ impl Outbox {
         ensures err { OnErr result (waiting self.new ≡ waiting self.old) }
     {
         self.queue.turn();
-        let Some(next) = self.queue.first() else {
+        let Some((next, stacktraces)) = self.queue.first() else {
             return Ok(0);
         };
-        let text = to_vec(self.queue.allocator(), &next.1)?;
+        let text = to_vec_with_stacktraces(
+            self.queue.allocator(),
+            &next.1,
+            stacktraces.as_slice(),
+        )?;
         *client = next.0.number;
         let length = text.len();
         if copy_text(text.as_slice(), room) {

@@ -1,34 +1,40 @@
 //! Items that come in batches and are taken one by one.
-ghost use Rattle.std.specs.Prelude.{◌≡◌, ◌<◌, ◌++◌, ◌∷◌, [], None, drop, OnOk, IfNone, IfSome, vec_len, vec_capacity};
-ghost use Rattle.c_base.specs.Queues.{waiting, IsTurned};
+ghost use Rattle.std.specs.Prelude.{◌≡◌, ◌<◌, ◌++◌, ◌∷◌, [], None, true, drop, OnOk, IfNone, IfSome, vec_len, vec_capacity};
+ghost use Rattle.c_base.specs.Queues.{noted, waiting, IsTurned};
 
 use sentry_plain::Items;
 use std::alloc::{AllocError, Global};
 use std::mem;
 
-/// The items of one batch that are still to be taken: the first, and those after it, of which the next is the last.
-pub struct Batch<T> {
+/// The items of one batch that are still to be taken: the first, and those after it, of which the next is the last; and
+/// the note that goes with each of them.
+pub struct Batch<T, N> {
     first: T,
     rest: Vec<T>,
+    note: N,
 }
 
-impl<T: Drop> Drop for Batch<T> {
+impl<T: Drop, N: Drop> Drop for Batch<T, N> {
     fn drop(self) {
-        let Batch { first: _, rest: _ } = self;
+        let Batch {
+            first: _,
+            rest: _,
+            note: _,
+        } = self;
     }
 }
 
 /// Items in the order in which they came. A batch is kept without taking memory once there is room for one.
-pub struct Queue<T> {
+pub struct Queue<T, N> {
     // The batch of which items are taken.
-    begun: Option<Batch<T>>,
+    begun: Option<Batch<T, N>>,
     // The batches after it. The next is the last of these.
-    next: Vec<Batch<T>>,
+    next: Vec<Batch<T, N>>,
     // The batches after these, in order.
-    later: Vec<Batch<T>>,
+    later: Vec<Batch<T, N>>,
 }
 
-impl<T: Drop> Drop for Queue<T> {
+impl<T: Drop, N: Drop> Drop for Queue<T, N> {
     fn drop(self) {
         let Queue {
             begun: _,
@@ -38,9 +44,9 @@ impl<T: Drop> Drop for Queue<T> {
     }
 }
 
-impl<T: Drop> Queue<T> {
+impl<T: Drop, N: Drop> Queue<T, N> {
     /// An empty queue. It takes no memory.
-    pub fn new(alloc: Global) -> Queue<T>
+    pub fn new(alloc: Global) -> Queue<T, N>
         ensures { waiting result ≡ [] }
     {
         Queue {
@@ -63,23 +69,33 @@ impl<T: Drop> Queue<T> {
         self.later.reserve(1)
     }
 
-    /// Appends the items of a batch.
-    pub fn keep(&mut self, items: Items<T>)
+    /// Appends the items of a batch, each with this note.
+    pub fn keep(&mut self, items: Items<T>, note: N)
         requires { vec_len self.old.later < vec_capacity self.old.later }
-        ensures { waiting self.new ≡ waiting self.old ++ items }
+        ensures { waiting self.new ≡ waiting self.old ++ noted note items }
     {
         let mut rest = items.into_vec();
         rest.reverse();
         let Some(first) = rest.pop() else {
             return;
         };
-        self.later.push_reserved(Batch { first, rest });
+        self.later.push_reserved(Batch { first, rest, note });
+    }
+
+    // Whether there is none, by a look at three lengths.
+    fn is_empty(&self) -> bool
+        ensures { result ≡ true → waiting self.now ≡ [] }
+    {
+        self.begun.is_none() && self.next.is_empty() && self.later.is_empty()
     }
 
     /// Forgets all items.
     pub fn clear(&mut self)
         ensures { waiting self.new ≡ [] }
     {
+        if self.is_empty() {
+            return;
+        }
         self.begun = None;
         self.next.clear();
         self.later.clear();
@@ -110,14 +126,14 @@ impl<T: Drop> Queue<T> {
         self.begun = self.next.pop();
     }
 
-    /// The first item, of the batch that is begun.
-    pub fn first(&self) -> Option<&T>
+    /// The first item, of the batch that is begun, with its note.
+    pub fn first(&self) -> Option<(&T, &N)>
         ensures none { IfNone result (self.now.begun ≡ None) }
-        ensures some { IfSome result (λ item. waiting self.now ≡ item.now ∷ drop 1 (waiting self.now)) }
+        ensures some { IfSome result (λ it. waiting self.now ≡ (it.0.now, it.1.now) ∷ drop 1 (waiting self.now)) }
     {
         match &self.begun {
             None => None,
-            Some(batch) => Some(&batch.first),
+            Some(batch) => Some((&batch.first, &batch.note)),
         }
     }
 

@@ -3,3 +3,4 @@ pub mod Engines
 pub mod Keys
 pub mod Moments
 pub mod Named
+pub mod Rates

@@ -2,6 +2,7 @@
 mod captures;
 mod clients;
 mod envelopes;
+mod headers;
 mod hubs;
 mod layers;
 mod losses;

@@ -10,7 +10,7 @@ use c_records::filters::Filters;
 use sentry_base::protocol::{
     ClientKey, HubKey, Label, SpanKey, TransactionKey, TransactionOrSpanKey,
 };
-use sentry_engine::engine::Engine;
+use sentry_engine::Engine;
 use std::alloc::{AllocError, Global};
 
 /// An engine, and the envelopes that its calls handed out. Keys are numbers: the tag is always 0, since other

@@ -1,6 +1,7 @@
 //! Breadcrumbs: an object with `type`, `category`, `level`, `message` and `data`.
-ghost use Rattle.std.specs.Prelude.{◌≡◌, None, IfErr};
+ghost use Rattle.std.specs.Prelude.{◌≡◌, None, IfErr, IfOk, codes};
 ghost use Rattle.c_base.specs.Faults.{refusal_of};
+ghost use Rattle.c_records.specs.Members.{text_under};
 
 use crate::members::{level_member, list_of, map_member, map_of, member, text_member};
 use c_base::fault::CallFault;
@@ -13,7 +14,9 @@ use std::alloc::Global;
 ///
 /// `Unknown`: a member is of another kind, or the level has no such name; `OutOfMemory`.
 pub fn breadcrumb_of(alloc: Global, members: &ValueMap, now: u64) -> Result<Breadcrumb, CallFault>
-    ensures { IfErr result (λ fault. refusal_of fault ≡ None) }
+    ensures category { IfOk result (λ crumb. crumb.category ≡ text_under members.now (codes "category")) }
+    ensures message { IfOk result (λ crumb. crumb.message ≡ text_under members.now (codes "message")) }
+    ensures err { IfErr result (λ fault. refusal_of fault ≡ None) }
 {
     let mut breadcrumb = Breadcrumb::new(alloc, now)?;
     if let Some(ty) = text_member(members, "type")? {

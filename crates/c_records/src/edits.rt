@@ -8,7 +8,7 @@ use crate::users::user_of;
 use c_base::fault::CallFault;
 use sentry_base::protocol::Context;
 use sentry_plain::{Text, Value, ValueMap};
-use sentry_scope::scope::ScopeEdit;
+use sentry_scope::ScopeEdit;
 use std::alloc::Global;
 
 // What becomes of a tag.

@@ -1,7 +1,9 @@
-//! Events, as Sentry writes them: an object with `level`, `message`, `transaction`, `fingerprint`, `server_name`,
-//! `release`, `environment`, `user`, `request`, `contexts`, `breadcrumbs`, `exception`, `tags` and `extra`.
-ghost use Rattle.std.specs.Prelude.{◌≡◌, None, IfErr};
+//! Events, as Sentry writes them: an object with `level`, `message`, `transaction`, `platform`, `fingerprint`,
+//! `server_name`, `release`, `environment`, `user`, `request`, `contexts`, `breadcrumbs`, `exception`, `tags`, `extra` and
+//! `sdk`.
+ghost use Rattle.std.specs.Prelude.{◌≡◌, None, IfErr, OnOk, codes};
 ghost use Rattle.c_base.specs.Faults.{refusal_of};
+ghost use Rattle.c_records.specs.Members.{text_under};
 
 use crate::breadcrumbs::breadcrumbs_member;
 use crate::members::{
@@ -11,8 +13,10 @@ use crate::members::{
 use crate::requests::request_of;
 use crate::users::user_of;
 use c_base::fault::CallFault;
-use sentry_base::protocol::{Context, Event, Exception, Level, Mechanism, Request, User, Uuid};
-use sentry_plain::{Items, Text, TextMap, Value, ValueMap};
+use sentry_base::protocol::{
+    ClientSdkInfo, Context, Event, Exception, Level, Mechanism, Request, User, Uuid,
+};
+use sentry_plain::{Items, Shared, Text, TextMap, Value, ValueMap};
 use std::alloc::Global;
 
 // Whether an error was handled, if that is said.
@@ -139,13 +143,50 @@ fn request_member(alloc: Global, members: &ValueMap) -> Result<Option<Request>, 
     }
 }
 
+// The SDK that calls the library: an object with `name` and `version`.
+fn sdk_of(alloc: Global, members: &ValueMap) -> Result<ClientSdkInfo, CallFault>
+    ensures { IfErr result (λ fault. refusal_of fault ≡ None) }
+{
+    let (Some(name), Some(version)) = (member(members, "name"), member(members, "version")) else {
+        return Err(CallFault::Unknown);
+    };
+    let name = text_of(name)?;
+    let version = text_of(version)?;
+    Ok(ClientSdkInfo {
+        name,
+        version,
+        packages: Items::new(alloc),
+        integrations: Items::new(alloc),
+    })
+}
+
+fn sdk_member(alloc: Global, members: &ValueMap) -> Result<Option<Shared<ClientSdkInfo>>, CallFault>
+    ensures { IfErr result (λ fault. refusal_of fault ≡ None) }
+{
+    match member(members, "sdk") {
+        None => Ok(None),
+        Some(value) => {
+            let sdk = sdk_of(alloc, map_of(value)?)?;
+            Ok(Some(Shared::new(alloc, sdk)?))
+        }
+    }
+}
+
 // Sets what is text.
 fn set_texts(alloc: Global, event: &mut Event, members: &ValueMap) -> Result<(), CallFault>
-    ensures { IfErr result (λ fault. refusal_of fault ≡ None) }
+    ensures message { OnOk result (event.new.message ≡ text_under members.now (codes "message")) }
+    ensures transaction { OnOk result (event.new.transaction ≡ text_under members.now (codes "transaction")) }
+    ensures server { OnOk result (event.new.server_name ≡ text_under members.now (codes "server_name")) }
+    ensures release { OnOk result (event.new.release ≡ text_under members.now (codes "release")) }
+    ensures environment { OnOk result (event.new.environment ≡ text_under members.now (codes "environment")) }
+    ensures err { IfErr result (λ fault. refusal_of fault ≡ None) }
 {
     event.level = level_member(members, "level", Level::Info)?;
     event.message = text_member(members, "message")?;
     event.transaction = text_member(members, "transaction")?;
+    if let Some(platform) = text_member(members, "platform")? {
+        event.platform = platform;
+    }
     event.server_name = text_member(members, "server_name")?;
     event.release = text_member(members, "release")?;
     event.environment = text_member(members, "environment")?;
@@ -171,13 +212,15 @@ fn set_records(
     event.exception = exceptions_member(alloc, members)?;
     event.tags = texts_member(alloc, members, "tags")?;
     event.extra = map_member(alloc, members, "extra")?;
+    event.sdk = sdk_member(alloc, members)?;
     Ok(())
 }
 
 /// The event that an object describes, of this moment (nanoseconds since the epoch), with the nil id. Other members are
 /// passed over.
 ///
-/// `Unknown`: a member is of another kind, an exception has no `type`, or a level has no such name; `OutOfMemory`.
+/// `Unknown`: a member is of another kind, an exception has no `type`, an SDK no `name` or no `version`, or a level has no
+/// such name; `OutOfMemory`.
 pub fn event_of(alloc: Global, members: &ValueMap, now: u64) -> Result<Event, CallFault>
     ensures { IfErr result (λ fault. refusal_of fault ≡ None) }
 {

@@ -1,18 +1,25 @@
-//! What a client drops. An export takes no callback, so an option says by which text what is dropped begins.
-ghost use Rattle.std.specs.Prelude.{◌≡◌, ◌++◌, List, None, IfOk, OnOk};
+//! What a client drops and changes, and at which rate it samples. An export takes no callback, so options say by which text
+//! what is dropped begins, and which platform events are of.
+ghost use Rattle.std.specs.Prelude.{◌≡◌, ◌++◌, List, None, IfOk, OnOk, option_map};
 ghost use Rattle.std.specs.List.{cons_option, filter_map};
 ghost use Rattle.std.specs.Option.{option_and_then, option_to_list};
 ghost use Rattle.sentry_base.specs.declared.protocol.breadcrumb.Breadcrumb.{Breadcrumb};
 ghost use Rattle.c_records.specs.Filters.{begins_with, text_or_empty, filter_meanings};
 ghost use Rattle.c_records.specs.Filters.{filtered_event, filtered_breadcrumb, filtered_log, filtered_metric};
+ghost use Rattle.c_records.specs.Filters.{kept_event, with_platform, given_rate, rate_after};
 
-use sentry_base::protocol::{Breadcrumb, Event, Log, Metric};
-use sentry_options::clientoptions::{Callbacks, PlainOptions};
-use sentry_plain::{Boxed, Few, Items, Text};
+use sentry_base::protocol::{Breadcrumb, Event, Log, Metric, SampleRate};
+use sentry_options::decimals::parse_rate;
+use sentry_options::{Callbacks, PlainOptions};
+use sentry_plain::{Boxed, Few, Items, Text, Value};
 use sentry_trace::performance::TransactionContext;
 use std::alloc::{AllocError, Global};
 
-/// The texts by which what a client drops begins. Where there is no text, nothing is dropped.
+/// The name under which a transaction is started with a rate of its own, a text, in what is passed to the sampler.
+pub const RATE: &str = "rate";
+
+/// The texts by which what a client drops begins, and what else its options say in place of callbacks. Where there is no
+/// text, nothing is dropped or changed.
 pub struct Filters {
     /// Of the messages of events.
     pub events: Option<Text>,
@@ -22,6 +29,10 @@ pub struct Filters {
     pub logs: Option<Text>,
     /// Of the names of metrics.
     pub metrics: Option<Text>,
+    /// The platform of events that name none.
+    pub platform: Option<Text>,
+    /// In millionths, the rate of transactions that are started without one, and with no decision.
+    pub traces: u32,
 }
 
 impl Drop for Filters {
@@ -31,23 +42,29 @@ impl Drop for Filters {
             breadcrumbs: _,
             logs: _,
             metrics: _,
+            platform: _,
+            traces: _,
         } = self;
     }
 }
 
 impl Filters {
-    /// Those of a client that drops nothing.
+    /// Those of a client that drops and changes nothing, and samples none.
     pub fn none() -> Filters
         ensures events { result.events ≡ None }
         ensures breadcrumbs { result.breadcrumbs ≡ None }
         ensures logs { result.logs ≡ None }
         ensures metrics { result.metrics ≡ None }
+        ensures platform { result.platform ≡ None }
+        ensures traces { result.traces ≡ 0 }
     {
         Filters {
             events: None,
             breadcrumbs: None,
             logs: None,
             metrics: None,
+            platform: None,
+            traces: 0,
         }
     }
 }
@@ -77,14 +94,41 @@ fn filtered_event(prefix: &str, event: Boxed<Event>) -> Option<Boxed<Event>>
     Some(event)
 }
 
-// Takes the event away, if it is to be dropped.
-fn filter_event(prefix: &str, event: &mut Option<Boxed<Event>>)
-    ensures { event.new ≡ option_and_then (filtered_event prefix.now) event.old }
+// The event, unless it is to be dropped.
+fn kept_event(prefix: &Option<Text>, event: Boxed<Event>) -> Option<Boxed<Event>>
+    ensures { result ≡ kept_event prefix.now event }
 {
-    let Some(given) = event.take() else {
-        return;
+    match prefix {
+        None => Some(event),
+        Some(prefix) => filtered_event(prefix.as_str(), event),
+    }
+}
+
+// Names the platform of an event that is said to be native, as one is that names none.
+fn name_platform(platform: &Option<Text>, event: &mut Event) -> Result<(), AllocError>
+    ensures { OnOk result (event.new ≡ with_platform platform.now event.old) }
+{
+    let Some(platform) = platform else {
+        return Ok(());
     };
-    *event = filtered_event(prefix, given);
+    if event.platform.as_str() == "native" {
+        event.platform = platform.clone()?;
+    }
+    Ok(())
+}
+
+// Names the platform of an event that is kept.
+fn name_kept(
+    platform: &Option<Text>,
+    event: Option<Boxed<Event>>,
+) -> Result<Option<Boxed<Event>>, AllocError>
+    ensures { IfOk result (λ named. named ≡ option_map (with_platform platform.now) event) }
+{
+    let Some(mut event) = event else {
+        return Ok(None);
+    };
+    name_platform(platform, event.get_mut())?;
+    Ok(Some(event))
 }
 
 fn filtered_breadcrumb(prefix: &str, breadcrumb: Breadcrumb) -> Option<Breadcrumb>
@@ -160,6 +204,30 @@ fn filtered_metric(prefix: &str, metric: Metric) -> Option<Metric>
     Some(metric)
 }
 
+// The rate that a transaction is started with, if it is with one.
+fn given_rate(context: &TransactionContext) -> Option<u32>
+    ensures { result ≡ given_rate context.now }
+{
+    let Some(custom) = &context.custom else {
+        return None;
+    };
+    match custom.get(RATE) {
+        Some(Value::Text(rate)) => parse_rate(rate.as_str()),
+        _ => None,
+    }
+}
+
+// A decision that was made before stands, as the rate of all or of none.
+fn rate_after(decision: Option<bool>, rate: u32) -> u32
+    ensures { result ≡ rate_after decision rate }
+{
+    match decision {
+        None => rate,
+        Some(true) => SampleRate::ALL,
+        Some(false) => 0,
+    }
+}
+
 impl Callbacks for Filters {
     ghost meanings = { filter_meanings };
 
@@ -184,13 +252,11 @@ impl Callbacks for Filters {
     }
 
     fn before_send(&self, event: &mut Option<Boxed<Event>>) -> Result<(), AllocError> {
-        match &self.events {
-            None => Ok(()),
-            Some(prefix) => {
-                filter_event(prefix.as_str(), event);
-                Ok(())
-            }
-        }
+        let Some(given) = event.take() else {
+            return Ok(());
+        };
+        *event = name_kept(&self.platform, kept_event(&self.events, given))?;
+        Ok(())
     }
 
     fn before_breadcrumb(
@@ -217,7 +283,10 @@ impl Callbacks for Filters {
         }
     }
 
-    fn traces_rate(&self, _context: &TransactionContext) -> Result<u32, AllocError> {
-        Ok(0)
+    fn traces_rate(&self, context: &TransactionContext) -> Result<u32, AllocError> {
+        match given_rate(context) {
+            Some(rate) => Ok(rate),
+            None => Ok(rate_after(context.sampled, self.traces)),
+        }
     }
 }

@@ -5,7 +5,7 @@ ghost use Rattle.c_base.specs.Faults.{refusal_of};
 use c_base::fault::CallFault;
 use c_base::numbers::text;
 use sentry_plain::{Value, ValueMap};
-use sentry_span_edits::json::read_json;
+use sentry_texts::json::read_json;
 use std::alloc::Global;
 use std::mem;
 

@@ -14,5 +14,6 @@ mod members;
 pub mod metrics;
 pub mod options;
 pub mod requests;
+pub mod stacktraces;
 pub mod statuses;
 mod users;

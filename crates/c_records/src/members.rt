@@ -3,6 +3,7 @@
 ghost use Rattle.std.specs.Prelude.{◌≡◌, None, IfOk, IfErr, IfSome};
 ghost use Rattle.sentry_base.specs.Names.{level_name};
 ghost use Rattle.c_base.specs.Faults.{refusal_of};
+ghost use Rattle.c_records.specs.Members.{text_under};
 
 use c_base::fault::CallFault;
 use sentry_base::protocol::Level;
@@ -53,14 +54,13 @@ pub fn member<'a>(members: &'a ValueMap, key: &str) -> Option<&'a Value> {
 
 /// A member that is a text; none where it is absent.
 pub fn text_member(members: &ValueMap, key: &str) -> Result<Option<Text>, CallFault>
-    ensures { IfErr result (λ fault. refusal_of fault ≡ None) }
+    ensures text { IfOk result (λ text. text ≡ text_under members.now key.now) }
+    ensures err { IfErr result (λ fault. refusal_of fault ≡ None) }
 {
-    match member(members, key) {
-        None => Ok(None),
-        Some(value) => {
-            let text = text_of(value)?;
-            Ok(Some(text))
-        }
+    match members.get(key) {
+        None | Some(Value::Null) => Ok(None),
+        Some(Value::Text(text)) => Ok(Some(text.clone()?)),
+        Some(_) => Err(CallFault::Unknown),
     }
 }
 

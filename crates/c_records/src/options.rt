@@ -1,11 +1,14 @@
 //! The options of a client, a line `NAME=VALUE` each.
-ghost use Rattle.std.specs.Prelude.{◌≡◌, None, IfErr};
+ghost use Rattle.std.specs.Prelude.{◌≡◌, Some, None, IfOk, IfErr};
 ghost use Rattle.c_base.specs.Faults.{refusal_of};
+ghost use Rattle.sentry_options.specs.Decimals.{rate_of};
+ghost use Rattle.sentry_options.specs.declared.clientoptions.choices.TracesSamplingStrategy.TheVariants.{Function};
 
 use crate::filters::Filters;
 use c_base::fault::CallFault;
-use sentry_base::protocol::{OrganizationId, Refusal, SampleRate};
-use sentry_options::clientoptions::{ClientOptions, SessionMode};
+use sentry_base::protocol::{OrganizationId, Refusal};
+use sentry_options::decimals::parse_rate;
+use sentry_options::{ClientOptions, SessionMode, TracesSamplingStrategy};
 use sentry_plain::Text;
 use std::alloc::{AllocError, Global};
 
@@ -24,8 +27,6 @@ fn option_fault(refusal: Refusal) -> CallFault
 /// An option with a number or a flag.
 #[derive(Clone, Copy)]
 enum Setting {
-    SampleRate(u32),
-    TracesSampleRate(u32),
     StrictTraceContinuation(bool),
     SendDefaultPii(bool),
     Organization(u64),
@@ -43,15 +44,6 @@ fn number(value: &str) -> Option<u64> {
         return None;
     }
     value.parse().ok()
-}
-
-// A rate in millionths, where `1` stands for all. One that is no `u32` is as invalid as the largest of them.
-fn rate(value: &str) -> Option<u32> {
-    if value == "1" {
-        return Some(SampleRate::ALL);
-    }
-    let rate = number(value)?;
-    Some(u32::try_from(rate).unwrap_or(u32::MAX))
 }
 
 fn flag(value: &str) -> Option<bool> {
@@ -73,8 +65,6 @@ fn mode(value: &str) -> Option<SessionMode> {
 impl Setting {
     fn read(name: &str, value: &str) -> Option<Setting> {
         match name {
-            "rate" => rate(value).map(Setting::SampleRate),
-            "traces" => rate(value).map(Setting::TracesSampleRate),
             "strict" => flag(value).map(Setting::StrictTraceContinuation),
             "pii" => flag(value).map(Setting::SendDefaultPii),
             "org" => number(value).map(Setting::Organization),
@@ -89,23 +79,38 @@ impl Setting {
     }
 }
 
-fn set(
-    options: ClientOptions<Filters>,
-    setting: Setting,
-) -> Result<ClientOptions<Filters>, Refusal> {
+fn set(options: ClientOptions<Filters>, setting: Setting) -> ClientOptions<Filters> {
     match setting {
-        Setting::SampleRate(rate) => options.sample_rate(rate),
-        Setting::TracesSampleRate(rate) => options.traces_sample_rate(rate),
-        Setting::StrictTraceContinuation(strict) => Ok(options.strict_trace_continuation(strict)),
-        Setting::SendDefaultPii(pii) => Ok(options.send_default_pii(pii)),
-        Setting::Organization(number) => Ok(options.org_id(OrganizationId(number))),
-        Setting::SessionMode(mode) => Ok(options.session_mode(mode)),
-        Setting::MaxBreadcrumbs(count) => Ok(options.max_breadcrumbs(count as usize)),
-        Setting::MaxSpans(count) => Ok(options.max_spans(count as usize)),
-        Setting::MaxBatchItems(count) => Ok(options.max_batch_items(count as usize)),
-        Setting::EnableLogs(enabled) => Ok(options.enable_logs(enabled)),
-        Setting::EnableMetrics(enabled) => Ok(options.enable_metrics(enabled)),
+        Setting::StrictTraceContinuation(strict) => options.strict_trace_continuation(strict),
+        Setting::SendDefaultPii(pii) => options.send_default_pii(pii),
+        Setting::Organization(number) => options.org_id(OrganizationId(number)),
+        Setting::SessionMode(mode) => options.session_mode(mode),
+        Setting::MaxBreadcrumbs(count) => options.max_breadcrumbs(count as usize),
+        Setting::MaxSpans(count) => options.max_spans(count as usize),
+        Setting::MaxBatchItems(count) => options.max_batch_items(count as usize),
+        Setting::EnableLogs(enabled) => options.enable_logs(enabled),
+        Setting::EnableMetrics(enabled) => options.enable_metrics(enabled),
     }
+}
+
+// The rate that a fraction from 0 to 1 writes, in millionths.
+fn rate(value: &str) -> Result<u32, Refusal>
+    ensures { IfOk result (λ rate. rate_of value.now ≡ Some rate) }
+{
+    match parse_rate(value) {
+        Some(rate) => Ok(rate),
+        None => Err(Refusal::InvalidRate),
+    }
+}
+
+// The options with a rate of transactions, at which the sampler of the filters gives each that no rate was given with.
+fn set_traces(mut options: ClientOptions<Filters>, rate: u32) -> ClientOptions<Filters>
+    ensures strategy { result.traces_sampling_strategy ≡ Function }
+    ensures rate { result.callbacks.traces ≡ rate }
+{
+    options.traces_sampling_strategy = TracesSamplingStrategy::Function;
+    options.callbacks.traces = rate;
+    options
 }
 
 /// An option that is a text.
@@ -115,6 +120,9 @@ enum TextOption {
     Release,
     Environment,
     ServerName,
+    Platform,
+    SampleRate,
+    TracesSampleRate,
     Filter(Filter),
 }
 
@@ -134,6 +142,9 @@ impl TextOption {
             "release" => Some(TextOption::Release),
             "environment" => Some(TextOption::Environment),
             "server" => Some(TextOption::ServerName),
+            "platform" => Some(TextOption::Platform),
+            "rate" => Some(TextOption::SampleRate),
+            "traces" => Some(TextOption::TracesSampleRate),
             "drop_events" => Some(TextOption::Filter(Filter::Events)),
             "drop_breadcrumbs" => Some(TextOption::Filter(Filter::Breadcrumbs)),
             "drop_logs" => Some(TextOption::Filter(Filter::Logs)),
@@ -143,8 +154,8 @@ impl TextOption {
     }
 }
 
-// The text by which what is dropped begins: none where it is empty, since everything begins with the empty text.
-fn prefix(alloc: Global, value: &str) -> Result<Option<Text>, AllocError> {
+// A text, or none where it is empty: everything begins with the empty text, and no platform has no name.
+fn text_unless_empty(alloc: Global, value: &str) -> Result<Option<Text>, AllocError> {
     if value.is_empty() {
         return Ok(None);
     }
@@ -167,7 +178,7 @@ fn set_filter(
 
 fn set_text(
     alloc: Global,
-    options: ClientOptions<Filters>,
+    mut options: ClientOptions<Filters>,
     option: TextOption,
     value: &str,
 ) -> Result<ClientOptions<Filters>, Refusal> {
@@ -176,7 +187,16 @@ fn set_text(
         TextOption::Release => options.release(value),
         TextOption::Environment => options.environment(value),
         TextOption::ServerName => options.server_name(value),
-        TextOption::Filter(filter) => Ok(set_filter(options, filter, prefix(alloc, value)?)),
+        TextOption::Platform => {
+            options.callbacks.platform = text_unless_empty(alloc, value)?;
+            Ok(options)
+        }
+        TextOption::SampleRate => options.sample_rate(rate(value)?),
+        TextOption::TracesSampleRate => Ok(set_traces(options, rate(value)?)),
+        TextOption::Filter(filter) => {
+            let prefix = text_unless_empty(alloc, value)?;
+            Ok(set_filter(options, filter, prefix))
+        }
     }
 }
 
@@ -192,7 +212,7 @@ fn set_option(
     let done = match TextOption::read(name) {
         Some(option) => set_text(alloc, options, option, value),
         None => match Setting::read(name, value) {
-            Some(setting) => set(options, setting),
+            Some(setting) => Ok(set(options, setting)),
             None => return Err(CallFault::Unknown),
         },
     };
@@ -204,15 +224,15 @@ fn set_option(
 
 /// The options that a text sets; later lines stand over earlier ones, and empty lines say nothing.
 ///
-/// - `dsn`, `release`, `environment` and `server` are texts.
-/// - `rate` and `traces` are rates in millionths, where `1` stands for all.
+/// - `dsn`, `release`, `environment` and `server` are texts, and so is `platform`, that of events which name none.
+/// - `rate` and `traces` are fractions from 0 to 1, such as `0.25`, with at most six digits after the point.
 /// - `strict`, `pii`, `logs` and `metrics` are `0` or `1`.
 /// - `mode` is `application` or `request`.
 /// - `org`, `crumbs`, `maxspans` and `maxbatch` are numbers.
 /// - What begins with the text of `drop_events`, `drop_breadcrumbs`, `drop_logs` or `drop_metrics` is dropped, unless
 ///   that text is empty: events and breadcrumbs by their message, logs by their body, metrics by their name.
 ///
-/// `InvalidDsn`; `InvalidRate`: a rate above 1000000; `Unknown`: a line without `=`, a name that is none of these, or a
+/// `InvalidDsn`; `InvalidRate`: a rate that is no such fraction; `Unknown`: a line without `=`, a name that is none of these, or a
 /// value that isn't of its kind, such as `+5`; `OutOfMemory`.
 pub fn read_options(alloc: Global, text: &str) -> Result<ClientOptions<Filters>, CallFault>
     ensures { IfErr result (λ fault. refusal_of fault ≡ None) }

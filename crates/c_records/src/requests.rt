@@ -1,6 +1,7 @@
 //! Requests: an object with `method`, `url`, `data`, `query_string`, `cookies`, `headers` and `env`.
-ghost use Rattle.std.specs.Prelude.{◌≡◌, None, IfErr};
+ghost use Rattle.std.specs.Prelude.{◌≡◌, None, IfErr, IfOk, codes};
 ghost use Rattle.c_base.specs.Faults.{refusal_of};
+ghost use Rattle.c_records.specs.Members.{text_under};
 
 use crate::members::{text_member, texts_member};
 use c_base::fault::CallFault;
@@ -12,7 +13,12 @@ use std::alloc::Global;
 ///
 /// `Unknown`: a member is of another kind; `OutOfMemory`.
 pub fn request_of(alloc: Global, members: &ValueMap) -> Result<Request, CallFault>
-    ensures { IfErr result (λ fault. refusal_of fault ≡ None) }
+    ensures method { IfOk result (λ request. request.method ≡ text_under members.now (codes "method")) }
+    ensures url { IfOk result (λ request. request.url ≡ text_under members.now (codes "url")) }
+    ensures body { IfOk result (λ request. request.data_ ≡ text_under members.now (codes "data")) }
+    ensures query { IfOk result (λ request. request.query_string ≡ text_under members.now (codes "query_string")) }
+    ensures cookies { IfOk result (λ request. request.cookies ≡ text_under members.now (codes "cookies")) }
+    ensures err { IfErr result (λ fault. refusal_of fault ≡ None) }
 {
     let method = text_member(members, "method")?;
     let url = text_member(members, "url")?;

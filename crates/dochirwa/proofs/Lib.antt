@@ -1,4 +1,5 @@
 pub mod AsBox
+pub mod Posted
 pub mod RawBox
 mod Sent
 pub mod Told

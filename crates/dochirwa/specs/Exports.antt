@@ -7,7 +7,7 @@ use Rattle.c_base.specs.Outboxes.{waiting}
 use Rattle.c_engine.specs.declared.callbacks.NoProcessor.{NoProcessor}
 use Rattle.c_records.specs.declared.filters.Filters.{Filters}
 use Rattle.c_engine.specs.declared.outbox_engine.OutboxEngine.{OutboxEngine}
-use Rattle.c_engine.specs.Calls.{Calls, SomeCalls, IsUnchanged}
+use Rattle.c_engine.specs.Calls.{Calls, SomeCalls, SomeCallsWith, IsUnchanged}
 
 -- a closed seat stays closed, and answers 12; an open one has its engine make the call, whose answer is the number's
 abbrev pub IsCalled : {T : Type 0} → Option OutboxEngine → Option OutboxEngine → ℕ → (T → Type 0)
@@ -23,6 +23,14 @@ IsSomeCall None new number IsReply outcome = (number ≡ 12) × (new ≡ None)
 IsSomeCall (Some old) None number IsReply outcome = ⊥
 IsSomeCall (Some old) (Some new) number IsReply outcome =
     (number < 12) × SomeCalls old new (answer_of number) IsReply outcome
+
+-- the same, with stack traces that are read too
+abbrev pub IsSomeCallWith : {A T : Type 0} → Option OutboxEngine → Option OutboxEngine → ℕ → (T → Type 0)
+    → (A → World NoProcessor Filters → Outcome NoProcessor Filters T) → Type 0
+IsSomeCallWith None new number IsReply outcome = (number ≡ 12) × (new ≡ None)
+IsSomeCallWith (Some old) None number IsReply outcome = ⊥
+IsSomeCallWith (Some old) (Some new) number IsReply outcome =
+    (number < 12) × SomeCallsWith old new (answer_of number) IsReply outcome
 
 -- a call that reads changes nothing
 abbrev pub IsRead : Option OutboxEngine → Option OutboxEngine → ℕ → Type 0

@@ -10,7 +10,7 @@ ghost use Rattle.c_engine.specs.Engines.{same_event};
 ghost use Rattle.c_records.specs.Filters.{filter_meanings};
 ghost use Rattle.c_engine.specs.Keys.{hub_key};
 ghost use Rattle.c_engine.specs.Moments.{fresh_of};
-ghost use Rattle.dochirwa.specs.Exports.{IsCalled, IsSomeCall};
+ghost use Rattle.dochirwa.specs.Exports.{IsCalled, IsSomeCall, IsSomeCallWith};
 
 use crate::CLOSED;
 use crate::seat::Seat;
@@ -73,7 +73,8 @@ pub extern "C" fn dochirwa_end_session(seat: &mut Seat, hub: u64, status: u32, n
     code(seat.lend().end_session(hub, status, now))
 }
 
-/// Captures the event of a JSON object, and sets its id, which is nil where none was sent.
+/// Captures the event of a JSON object, with the stack traces that it has, and sets its id, which is nil where none was
+/// sent.
 #[unsafe(no_mangle)]
 pub extern "C" fn dochirwa_capture_event(
     seat: &mut Seat,
@@ -82,7 +83,7 @@ pub extern "C" fn dochirwa_capture_event(
     fresh: &FreshNumbers,
     id: &mut Id,
 ) -> u32
-    ensures { IsSomeCall seat.old.engine seat.new.engine result (λ reply. id.new ≡ id_of reply)
+    ensures { IsSomeCallWith seat.old.engine seat.new.engine result (λ reply. id.new ≡ id_of reply)
         (λ event. capture_event same_event filter_meanings (hub_key hub) event (fresh_of fresh.entry.now)) }
 {
     if seat.is_closed() {

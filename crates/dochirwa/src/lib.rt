@@ -8,10 +8,14 @@ mod clients;
 mod envelopes;
 mod hubs;
 mod opening;
+mod posting;
 mod scopes;
 mod seat;
 mod spans;
 mod unboxed;
+
+/// The version of the library: 10000 times the first number, 100 times the second, and the third.
+pub const VERSION: u32 = 200;
 
 /// The answer where no memory is left for an engine, as `CallFault::OutOfMemory` is numbered.
 pub const OUT_OF_MEMORY: u32 = 1;

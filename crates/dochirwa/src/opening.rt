@@ -3,9 +3,17 @@ ghost use Rattle.std.specs.Prelude.{◌≡◌, None};
 ghost use Rattle.dochirwa.specs.Exports.{IsOpened};
 
 use crate::seat::Seat;
-use crate::{ALREADY_OPEN, OUT_OF_MEMORY};
+use crate::{ALREADY_OPEN, OUT_OF_MEMORY, VERSION};
 use c_engine::OutboxEngine;
 use std::alloc::Global;
+
+/// The version of the library, as the header of the same one has it.
+#[unsafe(no_mangle)]
+pub extern "C" fn dochirwa_version() -> u32
+    ensures { result ≡ 200 }
+{
+    VERSION
+}
 
 /// Makes an engine that holds nothing where there is none; one that is open stays as it is.
 #[unsafe(no_mangle)]

@@ -1,7 +1,9 @@
 //! Transactions and spans.
-ghost use Rattle.std.specs.Prelude.{◌≡◌};
-ghost use Rattle.sentry_span_edits.specs.Discards as discards;
+ghost use Rattle.std.specs.Prelude.{◌≡◌, if◌then◌else◌};
+ghost use Rattle.std.specs.Result.{is_err};
+ghost use Rattle.sentry_spans.specs.Discards as discards;
 ghost use Rattle.sentry_span_edits.specs.Setters as setters;
+ghost use Rattle.sentry_spans.specs.Ends as ends;
 ghost use Rattle.sentry_spans.specs.Spans as spans;
 ghost use Rattle.sentry_trace.specs.Contexts.{new_context};
 ghost use Rattle.c_engine.specs.Calls.{anything};
@@ -9,6 +11,7 @@ ghost use Rattle.c_records.specs.Filters.{filter_meanings};
 ghost use Rattle.c_engine.specs.Keys.{hub_key, span_key, transaction_key, either_key};
 ghost use Rattle.c_engine.specs.Moments.{fresh_of};
 ghost use Rattle.c_engine.specs.Named.{StatusNamed};
+ghost use Rattle.c_engine.specs.Rates.{with_rate};
 ghost use Rattle.dochirwa.specs.Exports.{IsCalled, IsSomeCall, IsRead};
 
 use crate::CLOSED;
@@ -92,6 +95,38 @@ pub extern "C" fn dochirwa_finish_transaction(
     code(seat.lend().finish_transaction(transaction, hub, now))
 }
 
+/// Finishes a span and gives it back. Sets 0, or 1 where it is still held, since a scope has it.
+#[unsafe(no_mangle)]
+pub extern "C" fn dochirwa_end_span(seat: &mut Seat, span: u64, now: u64, held: &mut u32) -> u32
+    ensures { IsCalled seat.old.engine seat.new.engine result
+        (λ discarded. held.new ≡ (if is_err discarded then 1 else 0)) (ends.end_span (span_key span) now) }
+{
+    if seat.is_closed() {
+        return CLOSED;
+    }
+    code(seat.lend().end_span(span, now, held))
+}
+
+/// Finishes a transaction under the top scope of a hub, and gives it back. Sets 0, or 1 where it is still held, since a
+/// scope has it, or a span of it is held.
+#[unsafe(no_mangle)]
+pub extern "C" fn dochirwa_end_transaction(
+    seat: &mut Seat,
+    transaction: u64,
+    hub: u64,
+    now: u64,
+    held: &mut u32,
+) -> u32
+    ensures { IsCalled seat.old.engine seat.new.engine result
+        (λ discarded. held.new ≡ (if is_err discarded then 1 else 0))
+        (ends.end_transaction (transaction_key transaction) (hub_key hub) now) }
+{
+    if seat.is_closed() {
+        return CLOSED;
+    }
+    code(seat.lend().end_transaction(transaction, hub, now, held))
+}
+
 /// Gives a transaction or a span back.
 #[unsafe(no_mangle)]
 pub extern "C" fn dochirwa_discard(seat: &mut Seat, is_span: bool, number: u64) -> u32
@@ -125,6 +160,40 @@ pub extern "C" fn dochirwa_continue_transaction(
     code(
         seat.lend()
             .continue_transaction(hub, name, op, sentry_trace, baggage, fresh, transaction),
+    )
+}
+
+/// The same, at this rate in place of the client's.
+#[unsafe(no_mangle)]
+pub extern "C" fn dochirwa_sample_transaction(
+    seat: &mut Seat,
+    hub: u64,
+    name: &[u8],
+    op: &[u8],
+    sentry_trace: &[u8],
+    baggage: &[u8],
+    rate: &[u8],
+    fresh: &FreshNumbers,
+    transaction: &mut u64,
+) -> u32
+    ensures { IsSomeCall seat.old.engine seat.new.engine result (λ key. transaction.new ≡ key.number)
+        (λ context. spans.start_transaction filter_meanings (hub_key hub) (with_rate rate.now context)
+        (fresh_of fresh.entry.now)) }
+{
+    if seat.is_closed() {
+        return CLOSED;
+    }
+    code(
+        seat.lend().sample_transaction(
+            hub,
+            name,
+            op,
+            sentry_trace,
+            baggage,
+            rate,
+            fresh,
+            transaction,
+        ),
     )
 }
 
@@ -248,4 +317,21 @@ pub extern "C" fn dochirwa_trace_header(
         return CLOSED;
     }
     code(seat.lend().trace_header(is_span, number, room, length))
+}
+
+/// Sets how long the value of the header `baggage` is that goes with it, and copies it where the room holds it.
+#[unsafe(no_mangle)]
+pub extern "C" fn dochirwa_baggage(
+    seat: &mut Seat,
+    is_span: bool,
+    number: u64,
+    room: &mut [u8],
+    length: &mut usize,
+) -> u32
+    ensures { IsRead seat.old.engine seat.new.engine result }
+{
+    if seat.is_closed() {
+        return CLOSED;
+    }
+    code(seat.lend().baggage(is_span, number, room, length))
 }

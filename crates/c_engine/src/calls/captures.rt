@@ -3,7 +3,7 @@ ghost use Rattle.std.specs.Prelude.{◌≡◌};
 ghost use Rattle.sentry_calls.specs.Hubs as call;
 ghost use Rattle.sentry_events.specs.Captures.{capture_event};
 ghost use Rattle.c_base.specs.Numbers.{id_of, id_or_nil, level_of};
-ghost use Rattle.c_engine.specs.Calls.{Calls, anything};
+ghost use Rattle.c_engine.specs.Calls.{Calls, CallsWith};
 ghost use Rattle.c_engine.specs.Engines.{same_event};
 ghost use Rattle.c_records.specs.Filters.{filter_meanings};
 ghost use Rattle.c_engine.specs.Keys.{hub_key};
@@ -14,25 +14,27 @@ use crate::outbox_engine::{OutboxEngine, hub_key};
 use c_base::fault::CallFault;
 use c_base::ids::{FreshNumbers, Id};
 use c_base::numbers::{level, text};
+use c_base::outbox::Stacktraces;
 use sentry_base::protocol::Event;
 
 impl OutboxEngine {
-    /// Captures an event, and sets its id, which is nil where none was sent.
+    /// Captures an event with its stack traces, and sets its id, which is nil where none was sent.
     #[tactic(auto, using(crate::proofs::Calling::called, crate::proofs::Calling::refused, crate::proofs::Calling::unasked))]
     pub(crate) fn send_event(
         &mut self,
         hub: u64,
         event: Event,
+        stacktraces: Stacktraces,
         fresh: &FreshNumbers,
         id: &mut Id,
     ) -> Result<(), CallFault>
-        ensures { Calls self.old self.new result (λ reply. id.new ≡ id_of reply)
+        ensures { CallsWith stacktraces self.old self.new result (λ reply. id.new ≡ id_of reply)
             (capture_event same_event filter_meanings (hub_key hub) event (fresh_of fresh.entry.now)) }
     {
         let fresh = fresh_of(fresh)?;
         self.outbox.make_room()?;
         let out = self.engine.capture_event(hub_key(hub), event, fresh)?;
-        self.outbox.keep(out.sent);
+        self.outbox.keep_with(out.sent, stacktraces);
         *id = Id::of_uuid(out.reply);
         Ok(())
     }

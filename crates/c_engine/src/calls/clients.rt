@@ -8,7 +8,7 @@ ghost use Rattle.c_engine.specs.Keys.{client_key, label};
 use crate::outbox_engine::{OutboxEngine, client_key, label};
 use c_base::fault::CallFault;
 use c_records::filters::Filters;
-use sentry_options::clientoptions::ClientOptions;
+use sentry_options::ClientOptions;
 
 impl OutboxEngine {
     /// Adds a client with these options, under the label of this number.

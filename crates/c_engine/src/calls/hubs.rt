@@ -11,7 +11,7 @@ use crate::moments::fresh_of;
 use crate::outbox_engine::{OutboxEngine, client_key, hub_key};
 use c_base::fault::CallFault;
 use c_base::ids::FreshNumbers;
-use sentry_scope::scope::Scope;
+use sentry_scope::Scope;
 
 impl OutboxEngine {
     /// Adds a hub on a client, with a new scope.

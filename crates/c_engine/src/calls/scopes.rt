@@ -16,7 +16,7 @@ use c_base::ids::FreshNumbers;
 use c_base::numbers::text;
 use sentry_base::protocol::{Attachment, Breadcrumb};
 use sentry_plain::{Few, Items, Text};
-use sentry_scope::scope::ScopeEdit;
+use sentry_scope::ScopeEdit;
 use std::alloc::Global;
 
 // An attachment of a name, a media type (empty: none) and content.

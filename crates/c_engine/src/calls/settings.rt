@@ -1,13 +1,12 @@
 //! The calls that set what a transaction or a span has.
 ghost use Rattle.sentry_span_edits.specs.Setters as setters;
-ghost use Rattle.c_engine.specs.Calls.{Calls, SomeCalls, IsUnchanged, anything};
+ghost use Rattle.c_engine.specs.Calls.{Calls, SomeCalls, anything};
 ghost use Rattle.c_engine.specs.Keys.{either_key};
 ghost use Rattle.c_engine.specs.Named.{StatusNamed};
 
 use crate::outbox_engine::{OutboxEngine, either_key};
 use c_base::fault::CallFault;
 use c_base::numbers::text;
-use c_base::outbox::copy_text;
 use c_records::json::{object, value};
 use c_records::requests::request_of;
 use c_records::statuses::status_named;
@@ -164,27 +163,5 @@ impl OutboxEngine {
         let members = object(self.alloc, request)?;
         let request = request_of(self.alloc, &members)?;
         self.put_span_request(is_span, number, request)
-    }
-
-    /// Sets how long the value of the header `sentry-trace` is by which another program continues the trace, and copies
-    /// it where the room holds it.
-    pub fn trace_header(
-        &mut self,
-        is_span: bool,
-        number: u64,
-        room: &mut [u8],
-        length: &mut usize,
-    ) -> Result<(), CallFault>
-        ensures { IsUnchanged self.old self.new }
-    {
-        let out = self.engine.iter_headers(either_key(is_span, number))?;
-        let mut headers = out.reply;
-        if let Some((_, value)) = headers.next() {
-            *length = value.len();
-            let _ = copy_text(value.as_bytes(), room);
-            return Ok(());
-        }
-        *length = 0;
-        Ok(())
     }
 }

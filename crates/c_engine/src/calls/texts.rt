@@ -6,7 +6,7 @@ ghost use Rattle.sentry_calls.specs.Telemetry as telemetry;
 ghost use Rattle.sentry_events.specs.Captures.{capture_event};
 ghost use Rattle.sentry_state.specs.Breadcrumbs.{add_breadcrumbs};
 ghost use Rattle.c_base.specs.Numbers.{id_of};
-ghost use Rattle.c_engine.specs.Calls.{SomeCalls, anything};
+ghost use Rattle.c_engine.specs.Calls.{SomeCalls, SomeCallsWith, anything};
 ghost use Rattle.c_engine.specs.Engines.{same_event};
 ghost use Rattle.c_records.specs.Filters.{filter_meanings};
 ghost use Rattle.c_engine.specs.Keys.{hub_key, label};
@@ -23,7 +23,8 @@ use c_records::events::event_of;
 use c_records::json::object;
 use c_records::metrics::{metric_type, unit_named};
 use c_records::options::read_options;
-use sentry_base::protocol::{Breadcrumb, Event, Log, MetricDraft};
+use c_records::stacktraces::stacktraces_of;
+use sentry_base::protocol::{Breadcrumb, Log, MetricDraft};
 use sentry_plain::Few;
 use std::alloc::Global;
 
@@ -57,12 +58,6 @@ fn draft_of(
     Ok(draft)
 }
 
-// The event of an object.
-fn event_of_text(alloc: Global, event: &[u8], now: u64) -> Result<Event, CallFault> {
-    let members = object(alloc, event)?;
-    event_of(alloc, &members, now)
-}
-
 // The breadcrumb of an object.
 fn breadcrumb_of_text(
     alloc: Global,
@@ -91,8 +86,8 @@ impl OutboxEngine {
         self.add(options, number, now, client)
     }
 
-    /// Captures the event of a JSON object.
-    #[tactic(auto, using(crate::proofs::Calling::some))]
+    /// Captures the event of a JSON object, with the stack traces that it has.
+    #[tactic(auto, using(crate::proofs::Calling::some_with))]
     pub fn capture_event(
         &mut self,
         hub: u64,
@@ -100,11 +95,13 @@ impl OutboxEngine {
         fresh: &FreshNumbers,
         id: &mut Id,
     ) -> Result<(), CallFault>
-        ensures { SomeCalls self.old self.new result (λ reply. id.new ≡ id_of reply)
+        ensures { SomeCallsWith self.old self.new result (λ reply. id.new ≡ id_of reply)
             (λ event. capture_event same_event filter_meanings (hub_key hub) event (fresh_of fresh.entry.now)) }
     {
-        let event = event_of_text(self.alloc, event, fresh.now)?;
-        self.send_event(hub, event, fresh, id)
+        let members = object(self.alloc, event)?;
+        let stacktraces = stacktraces_of(self.alloc, &members, event.len())?;
+        let event = event_of(self.alloc, &members, fresh.now)?;
+        self.send_event(hub, event, stacktraces, fresh, id)
     }
 
     /// Does the edits of a JSON object to the top scope.
