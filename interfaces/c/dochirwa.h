@@ -1,7 +1,8 @@
 /* dochirwa.h: the engine of Dochirwa for C. Link what interfaces/c/install installs, or libdochirwa.a, and liblibc_c.a
- * and libos_c.a of the toolchain (docs/INTERFACES.md).
+ * and libos_c.a of the toolchain (docs/INTERFACES.md). dochirwa_curl.h posts the envelopes.
  *
- * Every function but dochirwa_free answers 0, or the number of a fault (DOCHIRWA_FAULT_STALE and the like):
+ * Every function but dochirwa_free and dochirwa_version answers 0, or the number of a fault (DOCHIRWA_FAULT_STALE and the
+ * like), whose text dochirwa_fault_text has:
  *
  *    1 out of memory      5 scopes open     9 full                        13 the engine is open already
  *    2 stale              6 invalid DSN    10 a text isn't UTF-8
@@ -13,13 +14,15 @@
  * below. Clients, hubs, transactions and spans are numbers, each kind counted on its own; one that is not there, or not
  * there any more, is stale (2), and harmless.
  *
- * Texts and rooms are a pointer and a length in bytes, with no zero byte at the end. JSON has whole numbers of 64 bits
- * and no others (otherwise 11); an empty text stands for the empty object. `now` is nanoseconds since the epoch.
+ * Texts and rooms are a pointer and a length in bytes, with no zero byte at the end; where the length is 0, the pointer may
+ * be null. What is copied into room is copied where the room holds it; else the room is as it was, and the length that is
+ * set says how much room it needs. JSON has whole numbers of 64 bits and no others (otherwise 11); an empty text stands
+ * for the empty object. `now` is nanoseconds since the epoch.
  *
  * What the caller owes, which nothing checks:
  * - an engine's first bytes are zero, as in `dochirwa engine = DOCHIRWA_CLOSED;`, and only these functions write it; it
  *   isn't copied; one call at a time is made on it (under a lock of yours, where several threads use it);
- * - a pointer is not null, also with a length of 0, and what it names is initialized, aligned and not written meanwhile;
+ * - a pointer is not null, except with a length of 0, and what it names is initialized, aligned and not written meanwhile;
  *   what is written through (the engine, room, and the results) overlaps nothing else;
  * - malloc, realloc and free are those of one allocator, with blocks aligned to 16;
  * - no call from a signal handler, and no fork while another thread is in a call, unless the child makes none. A child
@@ -30,10 +33,19 @@
 #include <stdbool.h>
 #include <stddef.h>
 #include <stdint.h>
+#include <string.h>
 #ifdef __cplusplus
 extern "C" {
 #endif
 
+/* The version that this header is of: 10000 times the first number, 100 times the second, and the third. */
+#define DOCHIRWA_VERSION 200
+#define DOCHIRWA_VERSION_TEXT "0.2.0"
+/* The DOCHIRWA_VERSION of the library, which may be another one than the header's. */
+uint32_t dochirwa_version(void);
+
+/* A text that ends in a zero byte, as two arguments: DOCHIRWA_TEXT("till"). */
+#define DOCHIRWA_TEXT(text) (const uint8_t *)(text), strlen(text)
 /* An engine, with the envelopes that wait in it; closed while it is null. */
 typedef struct { void *at; } dochirwa;
 #define DOCHIRWA_CLOSED {0}
@@ -51,6 +63,12 @@ enum { DOCHIRWA_SESSION_OK, DOCHIRWA_SESSION_EXITED, DOCHIRWA_SESSION_CRASHED, D
 enum { DOCHIRWA_LOST_ERROR, DOCHIRWA_LOST_TRANSACTION, DOCHIRWA_LOST_SPAN, DOCHIRWA_LOST_SESSION, DOCHIRWA_LOST_ATTACHMENT, DOCHIRWA_LOST_LOG_ITEM, DOCHIRWA_LOST_METRIC };
 enum { DOCHIRWA_BY_EVENT_PROCESSOR, DOCHIRWA_BY_BEFORE_SEND, DOCHIRWA_BY_SAMPLE_RATE, DOCHIRWA_BY_BUFFER_OVERFLOW, DOCHIRWA_BY_SEND_ERROR, DOCHIRWA_BY_INTERNAL_SDK_ERROR, DOCHIRWA_BY_NETWORK_ERROR, DOCHIRWA_BY_RATELIMIT_BACKOFF, DOCHIRWA_BY_QUEUE_OVERFLOW };
 
+/* What a fault says, and "another number" of what is no fault; 0 is "no fault". */
+static inline const char *dochirwa_fault_text(uint32_t fault) {
+    static const char *const texts[] = {"no fault", "out of memory", "stale", "out of order", "still named", "scopes open", "invalid DSN", "invalid rate", "foreign losses", "full", "not UTF-8", "a number or a word stands for nothing", "the engine is closed", "the engine is open already"};
+    return fault < sizeof texts / sizeof *texts ? texts[fault] : "another number";
+}
+
 /* Makes an engine that holds nothing where there is none. Faults: 1, 13 (the engine stays as it is). */
 uint32_t dochirwa_open(dochirwa *engine);
 /* Frees an engine, and forgets what it holds and the envelopes that wait. It is closed then; if it was, nothing happens. */
@@ -58,13 +76,14 @@ void dochirwa_free(dochirwa *engine);
 
 /* Clients */
 
-/* Adds a client of the options in a text, a line NAME=VALUE each: dsn, release, environment and server are texts; rate
- * (of events, by default all) and traces (of transactions, by default none) are in millionths, but 1 is all; strict, pii,
- * logs and metrics are 0 or 1 (the last two change nothing here: what is captured is sent); mode is application or
- * request; org, crumbs, maxspans and maxbatch are numbers. In place of callbacks, drop_events and drop_breadcrumbs (by
- * their message), drop_logs (by their body) and drop_metrics (by their name) drop what begins with their text, and
- * nothing where it is empty; what is dropped, but for breadcrumbs, is reported as lost. Clients of one label count their
- * losses together. Faults: 6, 7 (a rate above 1000000), 9, 11. */
+/* Adds a client of the options in a text, a line NAME=VALUE each: dsn, release, environment and server are texts, and so is
+ * platform, which events have that name none (else native); rate (of events, by default all) and traces (of transactions,
+ * by default none) are fractions such as 0.25 or 1, with at most six digits after the point; strict, pii, logs and
+ * metrics are 0 or 1 (the last two change nothing here: what is captured is sent); mode is application or request; org,
+ * crumbs, maxspans and maxbatch are numbers. In place of callbacks, drop_events and drop_breadcrumbs (by their message),
+ * drop_logs (by their body) and drop_metrics (by their name) drop what begins with their text, and nothing where it is
+ * empty; what is dropped, but for breadcrumbs, is reported as lost. Clients of one label count their losses together.
+ * Faults: 6, 7 (no such rate), 9, 11. */
 uint32_t dochirwa_add_client(dochirwa *engine, const uint8_t *options, size_t options_length, uint64_t label, uint64_t now, uint64_t *client);
 /* Adds a client with the options and the label of another, and queues of its own. Faults: 2, 9. */
 uint32_t dochirwa_clone_client(dochirwa *engine, uint64_t client, uint64_t now, uint64_t *clone);
@@ -127,11 +146,12 @@ uint32_t dochirwa_clear_attachments(dochirwa *engine, uint64_t hub, uint64_t now
 /* Captures a message of a level (DOCHIRWA_DEBUG and the like), and sets the id of its event: 0 where none was sent.
  * Faults: 2, 11. */
 uint32_t dochirwa_capture_message(dochirwa *engine, uint64_t hub, uint32_t level, const uint8_t *message, size_t message_length, const dochirwa_fresh *fresh, dochirwa_id *id);
-/* Captures the event of a JSON object, as Sentry writes events: level (a name), message, transaction, fingerprint,
- * server_name, release, environment, user (as in dochirwa_edit_scope), request (method, url, data, query_string, cookies,
- * headers and env), contexts, breadcrumbs, exception, tags and extra. `exception` and `breadcrumbs` are lists, or objects
- * with a list `values`; an exception has type, value and mechanism (type and handled), the innermost error first. Other
- * members are passed over. Sets the id: 0 where none was sent. Faults: 2, 11. */
+/* Captures the event of a JSON object, as Sentry writes events: level (a name), message, transaction, platform,
+ * fingerprint, server_name, release, environment, user (as in dochirwa_edit_scope), request (method, url, data,
+ * query_string, cookies, headers and env), contexts, breadcrumbs, exception, tags, extra and sdk (name and version, of what
+ * calls the library). `exception` and `breadcrumbs` are lists, or objects with a list `values`; an exception has type,
+ * value, mechanism (type and handled) and stacktrace (an object such as {"frames": [..]}, which is sent as it is), the
+ * innermost error first. Other members are passed over. Sets the id: 0 where none was sent. Faults: 2, 11. */
 uint32_t dochirwa_capture_event(dochirwa *engine, uint64_t hub, const uint8_t *event, size_t event_length, const dochirwa_fresh *fresh, dochirwa_id *id);
 /* Sets the id that the last capture on a hub answered: 0 where there was none. Faults: 2. */
 uint32_t dochirwa_last_event_id(dochirwa *engine, uint64_t hub, dochirwa_id *id);
@@ -154,6 +174,9 @@ uint32_t dochirwa_start_transaction(dochirwa *engine, uint64_t hub, const uint8_
 /* The same in the trace that the headers `sentry-trace` and `baggage` of a request say (empty: none), if it may be
  * continued. Faults: 2, 9, 11. */
 uint32_t dochirwa_continue_transaction(dochirwa *engine, uint64_t hub, const uint8_t *name, size_t name_length, const uint8_t *op, size_t op_length, const uint8_t *sentry_trace, size_t sentry_trace_length, const uint8_t *baggage, size_t baggage_length, const dochirwa_fresh *fresh, uint64_t *transaction);
+/* The same at a rate, a fraction such as 0.25, which your sampler gave in place of the client's: 0 is not sampled, 1 is. The
+ * client's option traces must be set, if only to 0. Faults: 2, 7 (no such rate), 9, 11. */
+uint32_t dochirwa_sample_transaction(dochirwa *engine, uint64_t hub, const uint8_t *name, size_t name_length, const uint8_t *op, size_t op_length, const uint8_t *sentry_trace, size_t sentry_trace_length, const uint8_t *baggage, size_t baggage_length, const uint8_t *rate, size_t rate_length, const dochirwa_fresh *fresh, uint64_t *transaction);
 /* Starts a span with an operation and a description (empty: none). Faults: 2, 9, 11. */
 uint32_t dochirwa_start_child(dochirwa *engine, bool is_span, uint64_t parent, const uint8_t *op, size_t op_length, const uint8_t *description, size_t description_length, const dochirwa_fresh *fresh, uint64_t *span);
 /* Sets a piece of data to the value of a JSON text. Faults: 2, 11. */
@@ -171,6 +194,9 @@ uint32_t dochirwa_set_span_request(dochirwa *engine, bool is_span, uint64_t numb
 /* Sets how long the value of the header `sentry-trace` is, for a request of yours that goes on with the trace, and copies
  * it where the room holds it. Faults: 2. */
 uint32_t dochirwa_trace_header(dochirwa *engine, bool is_span, uint64_t number, uint8_t *room, size_t room_length, size_t *length);
+/* Sets how long the value of the header `baggage` is that goes with it, and copies it where the room holds it: the trace's
+ * id, the public key of the client, the rate at which it was sampled, and whether it was. Faults: 2. */
+uint32_t dochirwa_baggage(dochirwa *engine, bool is_span, uint64_t number, uint8_t *room, size_t room_length, size_t *length);
 /* Finishes a span, for the first time. Faults: 2. */
 uint32_t dochirwa_finish_span(dochirwa *engine, uint64_t span, uint64_t now);
 /* Finishes a transaction, under the top scope of a hub, and sends it if it was sampled. Faults: 2. */
@@ -178,6 +204,12 @@ uint32_t dochirwa_finish_transaction(dochirwa *engine, uint64_t transaction, uin
 /* Forgets a transaction or a span. Give all back, also what is finished. Faults: 2, 4 (a span of the transaction is held,
  * or a scope has it). */
 uint32_t dochirwa_discard(dochirwa *engine, bool is_span, uint64_t number);
+/* Finishes a span, and then forgets it. Sets `held` to 1 where it is still held, finished, since a scope has it, and else to
+ * 0. Faults: 2. */
+uint32_t dochirwa_end_span(dochirwa *engine, uint64_t span, uint64_t now, uint32_t *held);
+/* Finishes a transaction, under the top scope of a hub, sends it if it was sampled, and then forgets it. Sets `held` to 1
+ * where it is still held, finished, since a scope has it or a span of it is held, and else to 0. Faults: 2. */
+uint32_t dochirwa_end_transaction(dochirwa *engine, uint64_t transaction, uint64_t hub, uint64_t now, uint32_t *held);
 
 /* What calls handed out. Any call may hand out envelopes; they wait in order. */
 
@@ -187,6 +219,14 @@ uint32_t dochirwa_discard(dochirwa *engine, bool is_span, uint64_t number);
 uint32_t dochirwa_next_envelope(dochirwa *engine, uint64_t *client, uint8_t *room, size_t room_length, size_t *length);
 /* Forgets the envelopes that wait. */
 uint32_t dochirwa_drop_envelopes(dochirwa *engine);
+
+/* Where and how envelopes are posted, by the DSN alone. */
+
+/* Sets how long the URL is to which the envelopes of a DSN are posted, and copies it where the room holds it. Faults: 6. */
+uint32_t dochirwa_envelope_api_url(const uint8_t *dsn, size_t dsn_length, uint8_t *room, size_t room_length, size_t *length);
+/* The same of the value of the header `X-Sentry-Auth`, in which your program calls itself by a name and version such as
+ * shop/1.0 (empty: not at all). Faults: 6. */
+uint32_t dochirwa_to_auth(const uint8_t *dsn, size_t dsn_length, const uint8_t *client_agent, size_t client_agent_length, uint8_t *room, size_t room_length, size_t *length);
 
 #ifdef __cplusplus
 }

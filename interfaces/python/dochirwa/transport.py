@@ -1,238 +1,329 @@
-"""Posting envelopes, in a thread of its own, and the rate limits of the server."""
+"""The thread that posts envelopes, and counts what is lost on the way."""
+from __future__ import annotations
+
 import collections
 import contextlib
-import json
-import logging
 import queue
 import threading
 import time
-import urllib.error
-import urllib.parse
-import urllib.request
+from typing import Any, Callable, Deque, Iterable, Iterator, List, Optional, Set
 
 from . import native
+from .envelopes import CATEGORIES, ITEMS, REASONS, REPORT, WANTED, Item, Loss, Losses
+from .envelopes import joined, losses, payload, python_of, reported, split
+from .limits import Limits
+from .notes import LOGGER, tell
+from .posting import Address, Answer, Poster
+from .spool import Spool
 
-CATEGORIES = ("error", "transaction", "span", "session", "attachment", "log_item", "metric")
-REASONS = (
-    "event_processor before_send sample_rate buffer_overflow send_error internal_sdk_error network_error "
-    "ratelimit_backoff queue_overflow"
-).split()
+__all__ = ["Address", "CATEGORIES", "Limits", "MOST_WAITING", "REASONS", "Sender", "payload", "split"]
+
+# At most so many envelopes wait for the server.
 MOST_WAITING = 1000
-LOGGER = logging.getLogger("dochirwa")
-ITEMS = {
-    "event": "error",
-    "transaction": "transaction",
-    "session": "session",
-    "sessions": "session",
-    "attachment": "attachment",
-    "log": "log_item",
-    "trace_metric": "metric",
-}
-# Categories that the server's limits call otherwise than reports of losses do.
-LIMITED = {"trace_metric": "metric"}
+# The threads that post. Nothing that they do is itself reported.
+POSTING: Set[int] = set()
+
+Post = Callable[[bytes], Answer]
 
 
-class Address:
-    """Where a DSN says that envelopes go."""
-
-    def __init__(self, dsn):
-        parts = urllib.parse.urlsplit(dsn.strip())
-        path, _, project = parts.path.rstrip("/").rpartition("/")
-        host = parts.hostname or ""
-        host = f"[{host}]" if ":" in host else host
-        port = f":{parts.port}" if parts.port else ""
-        self.url = f"{parts.scheme}://{host}{port}{path}/api/{project}/envelope/"
-        self.headers = {
-            "Content-Type": "application/x-sentry-envelope",
-            "X-Sentry-Auth": f"Sentry sentry_version=7, sentry_client=dochirwa.python/0.1.0, sentry_key={parts.username}",
-        }
-
-
-def split(envelope):
-    """The header line of an envelope, and its items: each its header, read, and all of its bytes."""
-    header, _, rest = envelope.partition(b"\n")
-    items = []
-    while rest:
-        line = rest.partition(b"\n")[0]
-        read = json.loads(line)
-        size = len(line) + 1 + read["length"]
-        items.append((read, rest[:size]))
-        rest = rest[size:].lstrip(b"\n")
-    return header, items
-
-
-def losses(item, reason):
-    """What is lost with an item: categories, reasons and quantities. A transaction is also a span, beside its own; what a
-    report says would otherwise never be reported."""
-    header, whole = item
-    kind = header.get("type")
-    if kind in ITEMS:
-        yield ITEMS[kind], reason, header.get("item_count", 1)
-    if kind == "transaction":
-        yield "span", reason, 1 + len(payload(whole).get("spans", ()))
-    if kind == "client_report":
-        for it in payload(whole)["discarded_events"]:
-            yield it["category"], it["reason"], it["quantity"]
-
-
-def payload(whole):
-    return json.loads(whole.partition(b"\n")[2])
-
-
-class Limits:
-    """What the server doesn't want for a while, by category; `None` is all."""
-
-    def __init__(self, clock=time.monotonic):
-        self.clock, self.until = clock, {}
-
-    def read(self, status, headers):
-        """Keeps what the answer to a request says, with its headers in any case."""
-        headers = {name.lower(): it for name, it in headers.items()}
-        limits = headers.get("x-sentry-rate-limits")
-        if limits is not None:
-            for limit in limits.split(","):
-                seconds, _, rest = limit.strip().partition(":")
-                for category in rest.split(":")[0].split(";"):
-                    self.keep(LIMITED.get(category, category) or None, seconds)
-        elif status == 429:
-            self.keep(None, headers.get("retry-after", "60"))
-
-    def keep(self, category, seconds):
-        try:
-            until = self.clock() + float(seconds)
-        except ValueError:
-            until = self.clock() + 60
-        self.until[category] = max(until, self.until.get(category, 0))
-
-    def holds(self, category):
-        now = self.clock()
-        return any(self.until.get(it, 0) > now for it in (None, category))
-
-
-class NoRedirects(urllib.request.HTTPRedirectHandler):
-    """Leaves a redirection as the answer: urllib would follow it by a GET, without the envelope."""
-
-    def redirect_request(self, *words):
-        return None
+def unsent(envelope: bytes) -> Answer:
+    """In place of a post, where there is no DSN."""
+    return 200, {}
 
 
 class Sender:
-    """Ticks the client, and posts what waits."""
+    """Ticks the client, and posts what waits.
 
-    def __init__(self, engine, client, label, dsn, post=None, interval=1.0):
-        self.engine, self.client, self.label = engine, client, label
-        self.address = Address(dsn) if dsn else None
-        self.post, self.opener = post or self.post_by_urllib, None if post else urllib.request.build_opener(NoRedirects)
-        self.interval, self.limits = interval, Limits()
-        self.wakes, self.idle, self.is_over = queue.SimpleQueue(), threading.Condition(), False
-        self.waiting = collections.deque()
+    An envelope is in one place: in the engine, among those that wait, in flight, in the spool folder, or counted as lost.
+    The lock of the engine is held while one comes out of it, and `turn` while one is moved between the others, so that
+    `stop` finds each of them at its deadline.
+    """
+
+    def __init__(
+        self,
+        engine: Any,
+        client: int,
+        post: Optional[Post],
+        spool: Optional[Spool] = None,
+        interval: float = 1.0,
+        losses: Optional[Losses] = None,
+    ) -> None:
+        self.engine, self.client, self.spool, self.interval = engine, client, spool, interval
+        self.post: Post = post or unsent
+        self.limits, self.losses = Limits(), Losses() if losses is None else losses
+        self.turn = threading.RLock()
+        # How many losses there were that the program didn't want, and of how many `flush` has told.
+        self.failures = self.told = 0
+        self.wakes: queue.SimpleQueue[None] = queue.SimpleQueue()
+        self.idle = threading.Condition()
+        self.waiting: Deque[bytes] = collections.deque()
+        self.in_flight: Optional[bytes] = None
+        # `is_over`: the thread is at its end. `has_left`: what waits is no longer the thread's.
+        self.is_closing = self.is_over = self.has_left = False
         self.asked = self.done = 0
-        self.thread = None
+        self.thread: Optional[threading.Thread] = None
 
-    def start(self):
+    def start(self) -> None:
         self.thread = threading.Thread(target=self.run, name="dochirwa", daemon=True)
         self.thread.start()
 
-    def restart(self):
-        """In a process that was forked off: the other threads are gone, and may have held these locks."""
-        self.wakes, self.idle = queue.SimpleQueue(), threading.Condition()
+    def restart(self) -> None:
+        """In a process that was forked off: the other threads are gone, and may have held these locks. What waits, and what
+        was lost, is the parent's to send, by the parent's connection."""
+        self.wakes, self.idle, self.turn = queue.SimpleQueue(), threading.Condition(), threading.RLock()
+        POSTING.clear()
         self.waiting.clear()
+        self.losses.clear()
+        self.in_flight, self.failures, self.told = None, 0, 0
+        if isinstance(self.post, Poster):
+            self.post.close()
+        self.is_closing = self.is_over = self.has_left = False
         self.start()
 
-    def wake(self):
+    def wake(self) -> None:
         """Has the thread look at once. A signal handler may interrupt this by another call of it, which `put` of this
         queue allows, and `set` of an Event doesn't."""
         if self.wakes.empty():
             self.wakes.put(None)
 
-    def sleep(self):
+    def sleep(self) -> None:
         with contextlib.suppress(queue.Empty):
             self.wakes.get(timeout=self.interval)
             while True:
                 self.wakes.get_nowait()
 
-    def run(self):
-        while not self.is_over:
-            self.sleep()
-            asked = self.asked
-            try:
-                self.engine.call("tick", self.client, time.time_ns())
-                self.send_all()
-            except native.Fault as fault:
-                if fault.number == native.CLOSED:
-                    break
-            except Exception:
-                LOGGER.debug("an envelope is lost", exc_info=True)
+    def run(self) -> None:
+        POSTING.add(threading.get_ident())
+        try:
+            self.send_until_closed()
+        finally:
+            if isinstance(self.post, Poster):
+                self.post.close()
+            POSTING.discard(threading.get_ident())
+            with self.idle:
+                self.is_over = True
+                self.idle.notify_all()
+
+    def send_until_closed(self) -> None:
+        spooled = self.send_spooled()
+        has_spooled = self.spool is not None
+        while True:
+            closing, asked = self.is_closing, self.asked
+            is_open = self.send_round(closing)
             with self.idle:
                 self.done = max(self.done, asked)
                 self.idle.notify_all()
-        with self.idle:
-            self.is_over = True
-            self.idle.notify_all()
+            # One of these between what is new, which comes first.
+            has_spooled = has_spooled and not self.has_left and next(spooled, False)
+            if not is_open or closing and not has_spooled:
+                return
+            if not has_spooled:
+                self.sleep()
 
-    def send_all(self):
+    def send_round(self, closing: bool) -> bool:
+        """Posts what waits, and answers whether the thread goes on."""
+        try:
+            self.engine.call("tick", self.client, time.time_ns())
+            self.send_all()
+            if closing:
+                self.send_report()
+        except native.Fault as fault:
+            return fault.number != native.CLOSED and not self.has_left
+        except Exception as error:
+            tell("an envelope is lost: %r", error)
+            self.failures += 1
+        return not self.has_left
+
+    def send_all(self) -> None:
         self.fetch()
-        while self.waiting:
-            self.send(self.waiting.popleft())
+        while self.send_next():
             self.fetch()
 
-    def fetch(self):
-        """Takes what waits in the engine. Beyond the limit, as where the server is slow, the latest envelopes are lost."""
-        while (found := self.engine.next_envelope()) is not None:
-            if len(self.waiting) < MOST_WAITING:
-                self.waiting.append(found[1])
-            else:
-                self.lose(split(found[1])[1], "queue_overflow")
+    def taken(self) -> Optional[bytes]:
+        """The envelope that has waited longest."""
+        try:
+            return self.waiting.popleft()
+        except IndexError:
+            return None
 
-    def lose(self, items, reason):
+    def fetch(self) -> None:
+        """Takes what waits in the engine."""
+        with self.engine.lock:
+            while (found := self.engine.next_envelope()) is not None:
+                self.queue(python_of(found[1]))
+
+    def queue(self, envelope: bytes) -> None:
+        """Has an envelope wait. Beyond the limit, as where the server is slow, the latest ones are lost."""
+        if len(self.waiting) < MOST_WAITING:
+            self.waiting.append(envelope)
+        else:
+            self.lose(split(envelope)[1], "queue_overflow")
+
+    def put(self, envelope: bytes) -> None:
+        """The same of one that a hook has seen, which may have held it up until after the end."""
+        self.queue(envelope)
+        if self.has_left:
+            self.leave()
+
+    def lose(self, items: Iterable[Item], reason: str) -> None:
+        """Counts items as lost, and what the reports among them count as not reported."""
         for item in items:
-            for category, why, quantity in losses(item, reason):
-                self.engine.call("record_loss", self.label, CATEGORIES.index(category), REASONS.index(why), quantity)
+            self.losses.add(losses(item, reason))
+            if reason not in WANTED and item.header.get("type") != REPORT:
+                self.failures += 1
 
-    def send(self, envelope):
-        header, items = split(envelope)
-        limited = [it for it in items if self.limits.holds(ITEMS.get(it[0].get("type")))]
+    def count_refused(self, category: str) -> None:
+        """Counts a record that the engine can't read."""
+        self.losses.add([Loss(category, "internal_sdk_error", 1)])
+        self.failures += 1
+
+    def allowed(self, items: List[Item]) -> List[Item]:
+        """The items that the server wants now. The others are lost; reports that would be alone wait."""
+        limited = [it for it in items if self.limits.holds(ITEMS.get(it.header.get("type", "")))]
+        kept = [it for it in items if it not in limited]
+        if all(it.header.get("type") == REPORT for it in kept):
+            limited, kept = limited + kept, []
         if limited:
             self.lose(limited, "ratelimit_backoff")
-            items = [it for it in items if it not in limited]
-            envelope = header + b"\n" + b"\n".join(it[1] for it in items) + b"\n"
-        if not items:
-            return
-        try:
-            status, headers = self.post(envelope)
-        except Exception:  # also one of http.client, or of the program's `post`
-            LOGGER.debug("an envelope is lost", exc_info=True)
-            self.lose(items, "network_error")
-            return
-        self.limits.read(status, headers)
-        if not 200 <= status < 300 and status != 429:
+        return kept
+
+    def with_report(self, items: List[Item]) -> List[Item]:
+        """The items, and one report of all that is to be reported."""
+        reports = [it for it in items if it.header.get("type") == REPORT]
+        if not self.losses.new and not self.losses.counts:
+            return items
+        for it in reports:
+            self.losses.add(reported(it))
+        report = self.losses.report()
+        return [it for it in items if it not in reports] + ([report] if report else [])
+
+    def send_next(self) -> bool:
+        """Posts the envelope that has waited longest, and answers whether there was one."""
+        with self.turn:
+            envelope = None if self.has_left else self.taken()
+            if envelope is None:
+                return False
+            header, items = split(envelope)
+            items = self.allowed(items)
+            if items:
+                items = self.with_report(items)
+                self.in_flight = joined(header, items)
+        if items:
+            self.post_in_flight(items)
+        return True
+
+    def send_report(self) -> None:
+        """Posts what is to be reported, with nothing else, unless the server wants nothing at all."""
+        with self.turn:
+            report = None if self.has_left or self.limits.holds(None) else self.losses.report()
+            if report is None:
+                return
+            self.in_flight = joined(b"{}", [report])
+        self.post_in_flight([report])
+
+    def post_in_flight(self, items: List[Item]) -> None:
+        """Posts the envelope in flight, which has these items, and sees to what has not come of it."""
+        envelope = self.in_flight
+        status = None if envelope is None else self.posted(envelope)
+        with self.turn:
+            # At its deadline `stop` has taken over what is in flight, whatever is answered later.
+            if self.in_flight is not None and self.in_flight is envelope:
+                self.settle(envelope, items, status)
+                self.in_flight = None
+
+    def settle(self, envelope: bytes, items: List[Item], status: Optional[int]) -> None:
+        """Keeps, or counts as lost, what has not come of an envelope that had this answer."""
+        if status is None:
+            if self.spool is not None and self.spool.keep(envelope):
+                self.failures += 1  # it isn't lost, but neither has it come
+            else:
+                self.lose(items, "network_error")
+        elif status == 429:
+            # The server counts what it limits, but not what a report counts.
+            self.lose([it for it in items if it.header.get("type") == REPORT], "ratelimit_backoff")
+            self.failures += 1
+        elif not 200 <= status < 300:
             self.lose(items, "send_error")
 
-    def post_by_urllib(self, envelope):
-        if self.address is None:
-            return 200, {}
-        request = urllib.request.Request(self.address.url, envelope, self.address.headers, method="POST")
+    def posted(self, envelope: bytes) -> Optional[int]:
+        """Posts an envelope, and answers the status, or none where there was no answer."""
         try:
-            with self.opener.open(request, timeout=10) as answer:
-                return answer.status, answer.headers
-        except urllib.error.HTTPError as answer:
-            with answer:
-                return answer.code, answer.headers
+            status, headers = self.post(envelope)
+            self.limits.read(status, headers)
+            return int(status)
+        except Exception as error:  # also one of http.client, or of the program's `post`
+            LOGGER.debug("an envelope could not be posted: %r", error)
+            return None
 
-    def flush(self, timeout):
-        """Waits until what waits now is posted, and answers whether it was in time."""
+    def send_spooled(self) -> Iterator[bool]:
+        """Posts what earlier runs could not, one at each step, until the server doesn't answer or wants no more."""
+        if self.spool is None:
+            return
+        names = self.spool.names()
+        with self.spool.taken() as is_mine:
+            for name in names if is_mine else ():
+                if self.limits.holds(None) or not self.post_spooled(self.spool, name):
+                    return
+                yield True
+
+    def post_spooled(self, spool: Spool, name: str) -> bool:
+        """Posts an envelope of the folder, and answers whether it is done with."""
+        envelope = spool.read(name)
+        if envelope is None:
+            return True
+        status = self.posted(envelope)
+        if status is None or status == 429 or status >= 500:
+            return False
+        spool.remove(name)
+        if not 200 <= status < 300:
+            self.lose(split(envelope)[1], "send_error")
+        return True
+
+    def flush(self, timeout: float, closing: bool = False) -> bool:
+        """Waits until what waits now is posted, and answers whether it was in time, and nothing was lost since the last
+        call. If it is closing, the thread then ends."""
         with self.idle:
             self.asked += 1
             wanted = self.asked
+            # Set last, as the thread reads it first: its last round is one that was asked for here.
+            self.is_closing = self.is_closing or closing
             self.wake()
             self.idle.wait_for(lambda: self.done >= wanted or self.is_over, timeout)
-            return self.done >= wanted
+            is_done = self.done >= wanted
+        before, self.told = self.told, self.failures
+        return is_done and self.told == before
 
-    def stop(self, timeout):
-        """A flush after which the thread ends, in this time in all."""
+    def stop(self, timeout: float) -> bool:
+        """A flush after which the thread ends, in this time in all. What can't be sent in this time goes into the spool
+        folder, or else is told as lost. Answers as `flush`, and False if anything was left."""
         start = time.monotonic()
-        is_well = self.flush(timeout)
-        self.is_over = True
-        self.wake()
-        self.thread.join(max(0, start + timeout - time.monotonic()))
-        return is_well
+        is_well = self.flush(timeout, closing=True)
+        if self.thread is not None and self.thread is not threading.current_thread():
+            self.thread.join(max(0, start + timeout - time.monotonic()))
+        with self.turn:
+            self.has_left = True
+            if self.in_flight is not None:
+                self.waiting.appendleft(self.in_flight)
+                self.in_flight = None
+        self.fetch()
+        return self.leave() and is_well
+
+    def leave(self) -> bool:
+        """Puts what is left into the spool folder, with a report of what was lost, or else counts and tells it. What isn't
+        reported stays counted. Answers whether nothing was left that the program wanted sent."""
+        with self.turn:
+            left = [*iter(self.taken, None)]
+            for envelope in self.not_kept(left):
+                self.lose(split(envelope)[1], "network_error")
+            report = None if self.spool is None else self.losses.report()
+            if report is not None and self.not_kept([joined(b"{}", [report])]):
+                self.losses.add(reported(report))
+            lost = self.losses.untold()
+        if lost:
+            quantities = ", ".join(f"{quantity} {category}" for category, quantity in sorted(lost.items()))
+            LOGGER.warning("lost by the end, and not reported: %s", quantities)
+        return not left and not lost
+
+    def not_kept(self, envelopes: List[bytes]) -> List[bytes]:
+        """Those of the envelopes that the spool folder doesn't take."""
+        return envelopes if self.spool is None else self.spool.keep_all(envelopes)

@@ -8,9 +8,9 @@
 use std::hint::black_box;
 use std::sync::atomic::{AtomicU64, Ordering};
 use std::sync::{Arc, Mutex};
-use std::time::{Duration, Instant, SystemTime, UNIX_EPOCH};
+use std::time::{Duration, Instant, SystemTime};
 
-use dochirwa::{Engine, Fresh, Id, MetricKind, SessionStatus};
+use dochirwa::{Beginning, ClientId, Engine, Fresh, HubId, Label, Metric, Moment, SessionStatus};
 use sentry_core::protocol::{Log, LogLevel, Map};
 use sentry_core::{metrics, Client, ClientOptions, Envelope, Hub, Level, Scope, TransactionContext, Transport, TransportFactory, TransportOptions};
 
@@ -38,31 +38,32 @@ fn crate_hub(options: ClientOptions) -> Hub {
 
 /// How the library gets moments and ids.
 trait Source: Copy {
-    fn now(self) -> u64;
+    fn now(self) -> Moment;
     fn fresh(self) -> Fresh;
 }
 #[derive(Clone, Copy)]
 struct Real;
 impl Source for Real {
-    fn now(self) -> u64 {
-        SystemTime::now().duration_since(UNIX_EPOCH).map_or(0, |d| d.as_nanos() as u64)
+    fn now(self) -> Moment {
+        Moment::now()
     }
     fn fresh(self) -> Fresh {
-        Fresh { now: self.now(), id: Id::from(rand::random::<u128>()), trace: Id::from(rand::random::<u128>()), span: rand::random(), draw: rand::random::<u32>() % 1_000_000 }
+        Fresh { now: self.now(), id: rand::random::<u128>().into(), trace: rand::random::<u128>().into(), span: rand::random(), draw: rand::random::<u32>() % 1_000_000 }
     }
 }
 #[derive(Clone, Copy)]
 struct Counted;
 static COUNT: AtomicU64 = AtomicU64::new(1);
 impl Source for Counted {
-    fn now(self) -> u64 {
+    fn now(self) -> Moment {
         let n = COUNT.load(Ordering::Relaxed) + 1;
         COUNT.store(n, Ordering::Relaxed);
-        n
+        Moment(n)
     }
     fn fresh(self) -> Fresh {
-        let n = self.now();
-        Fresh { now: n, id: Id { high: n, low: n }, trace: Id { high: n, low: n }, span: n, draw: 0 }
+        let now = self.now();
+        let id = u128::from(now.0);
+        Fresh { now, id: id.into(), trace: id.into(), span: now.0, draw: 0 }
     }
 }
 
@@ -70,14 +71,14 @@ impl Source for Counted {
 /// envelopes that it handed out are dropped under it.
 struct Locked {
     engine: Mutex<Engine>,
-    hub: u64,
-    client: u64,
+    hub: HubId,
+    client: ClientId,
 }
-fn locked(release: &str, rate: u32, tags: usize) -> Locked {
+fn locked(release: Option<&str>, rate: f64, tags: usize) -> Locked {
     let mut engine = Engine::new().unwrap();
-    let release = if release.is_empty() { String::new() } else { format!("release={release}\n") };
-    let options = format!("dsn={DSN}\n{release}traces={rate}\nlogs=1\nmetrics=1\n");
-    let client = engine.add_client(&options, 0, Real.now()).unwrap();
+    let options = dochirwa::ClientOptions::new().dsn(DSN).traces_sample_rate(rate);
+    let options = release.into_iter().fold(options, dochirwa::ClientOptions::release);
+    let client = engine.add_client(&options, Label(0), Real.now()).unwrap();
     let hub = engine.new_hub(client, &Real.fresh()).unwrap();
     for i in 0..tags {
         engine.set_tag(hub, &format!("key{i}"), "value", Real.now()).unwrap();
@@ -85,7 +86,7 @@ fn locked(release: &str, rate: u32, tags: usize) -> Locked {
     Locked { engine: Mutex::new(engine), hub, client }
 }
 impl Locked {
-    fn with<T>(&self, call: impl FnOnce(&mut Engine, u64) -> T) -> T {
+    fn with<T>(&self, call: impl FnOnce(&mut Engine, HubId) -> T) -> T {
         let mut engine = self.engine.lock().unwrap();
         let answer = call(&mut engine, self.hub);
         engine.drop_envelopes().unwrap();
@@ -150,7 +151,7 @@ fn log() -> Log {
 
 fn message<S: Source>(to: &Locked, source: S) {
     for _ in 0..N {
-        black_box(to.with(|e, hub| e.capture_message(hub, dochirwa::Level::Info, black_box("hello world"), &source.fresh())).unwrap());
+        black_box(to.with(|e, hub| e.capture_message(hub, black_box("hello world"), dochirwa::Level::Info, &source.fresh())).unwrap());
     }
 }
 fn tag<S: Source>(to: &Locked, source: S) {
@@ -162,12 +163,14 @@ fn tag<S: Source>(to: &Locked, source: S) {
 }
 fn logs<S: Source>(to: &Locked, source: S) {
     for _ in 0..N {
-        to.with(|e, hub| e.capture_log(hub, dochirwa::LogLevel::Info, black_box("hello world"), "", source.now())).unwrap();
+        let log = dochirwa::Log::new(dochirwa::LogLevel::Info, black_box("hello world"));
+        to.with(|e, hub| e.capture_log(hub, &log, source.now())).unwrap();
     }
 }
 fn counters<S: Source>(to: &Locked, source: S) {
     for _ in 0..N {
-        to.with(|e, hub| e.capture_metric(hub, MetricKind::Counter, black_box("name"), 1, "", "", source.now())).unwrap();
+        let metric = Metric::counter(black_box("name"), 1);
+        to.with(|e, hub| e.capture_metric(hub, &metric, source.now())).unwrap();
     }
 }
 fn sessions<S: Source>(to: &Locked, source: S) {
@@ -180,17 +183,19 @@ fn sessions<S: Source>(to: &Locked, source: S) {
 }
 fn transactions<S: Source>(to: &Locked, source: S, children: usize) {
     for _ in 0..N / 10 {
-        let tx = to.with(|e, hub| e.start_transaction(hub, "name", "op", &source.fresh())).unwrap();
-        let mut spans = [0u64; 10];
+        let begins = Beginning { name: "name", op: "op", ..Beginning::default() };
+        let tx = to.with(|e, hub| e.start_transaction(hub, begins, &source.fresh())).unwrap();
+        let mut spans = [None; 10];
         for span in spans.iter_mut().take(children) {
-            *span = to.with(|e, _| e.start_child(false, tx, black_box("op"), "description", &source.fresh())).unwrap();
-            to.with(|e, _| e.finish_span(*span, source.now())).unwrap();
+            let child = to.with(|e, _| e.start_child(tx, black_box("op"), "description", &source.fresh())).unwrap();
+            to.with(|e, _| e.finish_span(child, source.now())).unwrap();
+            *span = Some(child);
         }
         to.with(|e, hub| e.finish_transaction(tx, hub, source.now())).unwrap();
-        for span in spans.iter().take(children) {
-            to.with(|e, _| e.discard(true, *span)).unwrap();
+        for span in spans.into_iter().flatten() {
+            to.with(|e, _| e.discard(span)).unwrap();
         }
-        to.with(|e, _| e.discard(false, tx)).unwrap();
+        to.with(|e, _| e.discard(tx)).unwrap();
     }
 }
 
@@ -208,7 +213,7 @@ fn main() {
     let tagged = crate_hub(ClientOptions::new().release("r1"));
     tagged.configure_scope(|s| (0..10).for_each(|i| s.set_tag(&format!("key{i}"), "value")));
     let traced = crate_hub(ClientOptions::new().traces_sample_rate(1.0));
-    let (ours, ours_tagged, ours_traced) = (locked("r1", 0, 0), locked("r1", 0, 10), locked("", 1_000_000, 0));
+    let (ours, ours_tagged, ours_traced) = (locked(Some("r1"), 0.0, 0), locked(Some("r1"), 0.0, 10), locked(None, 1.0, 0));
 
     let real_message = |hub: &Hub| {
         for _ in 0..N {

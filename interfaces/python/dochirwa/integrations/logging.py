@@ -1,0 +1,121 @@
+"""Log records of the standard library as breadcrumbs, events and logs."""
+from __future__ import annotations
+
+import logging
+from typing import Any, Dict, List, Optional
+
+from .. import client as clients
+from ..capture import capture_event, remember, was_captured
+from ..errors import exceptions_of
+from ..measures import log
+from ..records import LEVELS, LOG_LEVELS, as_text
+from ..scopes import add_breadcrumb
+from . import Integration
+
+# Whose records are never reported: those of the package.
+OWN = "dochirwa"
+# The members that each record has.
+USUAL = {*vars(logging.makeLogRecord({})), "message", "asctime", "dochirwa_seen", "taskName"}
+IGNORED: List[str] = []
+
+
+def ignore_logger(name: str) -> None:
+    """Leaves the records of the logger of this name, and of those below it, out."""
+    IGNORED.append(name)
+
+
+def is_ignored(name: str) -> bool:
+    return name.partition(".")[0] == OWN or any(name == it or name.startswith(it + ".") for it in IGNORED)
+
+
+def text_of(record: logging.LogRecord) -> str:
+    try:
+        return record.getMessage()
+    except Exception:
+        return as_text(record.msg)
+
+
+def level_number(record: logging.LogRecord) -> int:
+    """The place of the record's level among the engine's."""
+    return min(max(record.levelno // 10 - 1, 0), 4)
+
+
+def params_of(record: logging.LogRecord) -> List[str]:
+    args = record.args.values() if isinstance(record.args, dict) else record.args or ()
+    return [as_text(it) for it in args]
+
+
+def event_of_record(record: logging.LogRecord, text: str) -> Dict[str, Any]:
+    """An event. Sentry groups it by its message as that was before its arguments came in."""
+    event: Dict[str, Any] = {"level": LEVELS[level_number(record)], "message": text, "logger": record.name}
+    extra = {key: it for key, it in vars(record).items() if key not in USUAL and not key.startswith("_")}
+    if isinstance(record.msg, str) and record.args:
+        event["logentry"] = {"message": record.msg, "formatted": text, "params": params_of(record)}
+    return {**event, "extra": extra} if extra else event
+
+
+def report(record: logging.LogRecord, level: Optional[int], event_level: Optional[int], logs_level: Optional[int]) -> None:
+    """Sends a record: from these levels on, as a breadcrumb, an event and a log."""
+    client = clients.current
+    if client is None or is_ignored(record.name) or getattr(record, "dochirwa_seen", None) is client:
+        return
+    record.dochirwa_seen = client
+    text = text_of(record)
+    error = record.exc_info[1] if record.exc_info else None
+    if event_level is not None and record.levelno >= event_level and not was_captured(error):
+        event = event_of_record(record, text)
+        hint: Dict[str, Any] = {"log_record": record}
+        if error is not None:
+            event["exception"] = exceptions_of(error, True, "logging", client.frame_options)
+            hint["exc_info"] = record.exc_info
+        capture_event(event, hint)
+        if error is not None:
+            remember(error, "logging")
+    if level is not None and record.levelno >= level:
+        add_breadcrumb(text, record.name, LEVELS[level_number(record)], hint={"log_record": record})
+    if logs_level is not None and record.levelno >= logs_level:
+        log(LOG_LEVELS[level_number(record) + 1], text, logger=record.name)
+
+
+class LoggingHandler(logging.Handler):
+    """Sends log records from `level` on as logs, keeps them as breadcrumbs, and sends those from `event_level` on as
+    events, with their exceptions."""
+
+    def __init__(self, level: int = logging.INFO, event_level: Optional[int] = logging.ERROR) -> None:
+        super().__init__(level)
+        self.event_level = event_level
+
+    def emit(self, record: logging.LogRecord) -> None:
+        report(record, self.level, self.event_level, self.level)
+
+
+class LoggingIntegration(Integration):
+    """Keeps the records of all loggers as breadcrumbs from `level` on, and sends them as events from `event_level` on, and
+    as logs from `sentry_logs_level` on. `None` is never."""
+
+    identifier = "logging"
+
+    def __init__(
+        self,
+        level: Optional[int] = logging.INFO,
+        event_level: Optional[int] = logging.ERROR,
+        sentry_logs_level: Optional[int] = None,
+    ) -> None:
+        self.level, self.event_level, self.logs_level = level, event_level, sentry_logs_level
+
+    @staticmethod
+    def setup_once() -> None:
+        kind: Any = logging.Logger
+        before = kind.callHandlers
+
+        def call_handlers(self: logging.Logger, record: logging.LogRecord) -> None:
+            before(self, record)
+            client = clients.current
+            found = client.integration("logging") if client is not None else None
+            if found is not None:
+                report(record, found.level, found.event_level, found.logs_level)
+
+        kind.callHandlers = call_handlers
+
+
+integration = LoggingIntegration

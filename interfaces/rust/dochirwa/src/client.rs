@@ -1,0 +1,288 @@
+//! Clients: an engine behind a lock, with the system's clock and random ids, and a transport.
+
+use crate::engine::{envelope_api_url, to_auth, Engine, TransactionOrSpanId};
+use crate::http::PlainHttp;
+use crate::hub::{bind_main, unbind_main, Hub};
+use crate::options::{BeforeSend, ClientOptions, OptionError};
+use crate::transport::{Envelope, Transport, TransportThread};
+use crate::types::*;
+use std::fmt;
+use std::fs::File;
+use std::io::Read;
+use std::sync::atomic::{AtomicBool, Ordering};
+use std::sync::mpsc::{channel, RecvTimeoutError, Sender};
+use std::sync::{Arc, Mutex, PoisonError};
+use std::time::Duration;
+
+/// The client's label, of which its engine has one.
+const LABEL: Label = Label(0);
+
+/// How often a client is told the time.
+const INTERVAL: Duration = Duration::from_secs(1);
+
+/// An engine, and where it gets random numbers.
+pub(crate) struct State {
+    pub(crate) engine: Engine,
+    random: File,
+    /// What ended while something still named it.
+    left: Vec<TransactionOrSpanId>,
+}
+
+impl State {
+    fn bits<const COUNT: usize>(&mut self) -> [u8; COUNT] {
+        let mut bytes = [0; COUNT];
+        // Where nothing can be read, they stay 0.
+        let _ = self.random.read_exact(&mut bytes);
+        bytes
+    }
+
+    /// The moment, and random ids.
+    pub(crate) fn fresh(&mut self) -> Fresh {
+        Fresh {
+            now: Moment::now(),
+            id: u128::from_ne_bytes(self.bits()).into(),
+            trace: u128::from_ne_bytes(self.bits()).into(),
+            span: u64::from_ne_bytes(self.bits()),
+            draw: (u64::from_ne_bytes(self.bits()) % 1_000_000) as u32,
+        }
+    }
+
+    /// Forgets what has ended, as soon as nothing names it.
+    pub(crate) fn forget(&mut self, ended: Option<TransactionOrSpanId>) {
+        self.left.extend(ended);
+        // a transaction stands before its spans
+        for place in (0..self.left.len()).rev() {
+            if self.engine.discard(self.left[place]) != Err(Fault::STILL_NAMED) {
+                self.left.remove(place);
+            }
+        }
+    }
+}
+
+/// What a client, its hubs, its spans and its envelopes share.
+pub(crate) struct Shared {
+    state: Mutex<State>,
+    client: ClientId,
+    transport: Arc<dyn Transport>,
+    before_send: Option<BeforeSend>,
+    debug: bool,
+    pub(crate) attach_stacktrace: bool,
+    pub(crate) shutdown_timeout: Duration,
+    is_closed: AtomicBool,
+}
+
+impl Shared {
+    /// Makes a call under the lock, and hands the envelopes that it gave to the transport after that.
+    pub(crate) fn call<R>(self: &Arc<Shared>, call: impl FnOnce(&mut State) -> Result<R, Fault>) -> Result<R, Fault> {
+        let (result, envelopes) = {
+            let mut state = self.state.lock().unwrap_or_else(PoisonError::into_inner);
+            let result = call(&mut state);
+            let waiting = std::iter::from_fn(|| state.engine.next_envelope().ok().flatten());
+            (result, waiting.map(|it| it.1).collect::<Vec<_>>())
+        };
+        envelopes.into_iter().for_each(|it| self.send(it));
+        result
+    }
+
+    /// The same for calls that can't fail in a program without faults: one that does changes nothing.
+    pub(crate) fn tolerated<R: Default>(self: &Arc<Shared>, call: impl FnOnce(&mut State) -> Result<R, Fault>) -> R {
+        self.call(call).unwrap_or_else(|fault| {
+            if self.debug {
+                eprintln!("dochirwa: {fault}");
+            }
+            R::default()
+        })
+    }
+
+    fn send(self: &Arc<Shared>, bytes: Vec<u8>) {
+        let envelope = Envelope::new(bytes, Arc::downgrade(self));
+        match &self.before_send {
+            Some(keeps) if !keeps(&envelope) => envelope.lose(Reason::BeforeSend),
+            _ => self.transport.send_envelope(envelope),
+        }
+    }
+
+    pub(crate) fn record_loss(self: &Arc<Shared>, category: Category, reason: Reason, quantity: u64) {
+        self.tolerated(|state| state.engine.record_loss(LABEL, category, reason, quantity));
+    }
+
+    fn flush(self: &Arc<Shared>, timeout: Duration) -> bool {
+        self.tolerated(|state| state.engine.flush(self.client));
+        self.transport.flush(timeout)
+    }
+
+    fn close(self: &Arc<Shared>, timeout: Duration) -> bool {
+        if self.is_closed.swap(true, Ordering::SeqCst) {
+            return true;
+        }
+        self.tolerated(|state| state.engine.close(self.client));
+        self.transport.shutdown(timeout)
+    }
+}
+
+/// A client, which any threads may share. Its hubs capture.
+pub struct Client {
+    shared: Arc<Shared>,
+    // (its end ends the thread that tells the time)
+    _ticks: Sender<()>,
+}
+
+impl Client {
+    /// A client of some options.
+    pub fn with_options(options: ClientOptions) -> Result<Client, InitError> {
+        let mut engine = Engine::new()?;
+        options.lines()?;
+        let client = engine.add_client(&options, LABEL, Moment::now())?;
+        let random = File::open("/dev/urandom").map_err(InitError::Io)?;
+        let shared = Arc::new(Shared {
+            state: Mutex::new(State { engine, random, left: Vec::new() }),
+            client,
+            transport: transport_of(&options)?,
+            before_send: options.before_send,
+            debug: options.debug,
+            attach_stacktrace: options.attach_stacktrace,
+            shutdown_timeout: options.shutdown_timeout.unwrap_or(Duration::from_secs(2)),
+            is_closed: AtomicBool::new(false),
+        });
+        let ticks = start_ticks(&shared).map_err(InitError::Io)?;
+        Ok(Client { shared, _ticks: ticks })
+    }
+
+    /// Whether it sends: not where it has no DSN, or was closed.
+    pub fn is_enabled(&self) -> bool {
+        self.shared.tolerated(|state| state.engine.is_enabled(self.shared.client))
+    }
+
+    /// Sends what waits, and waits for the transport, by default as long as at the end. Answers whether it was in time.
+    pub fn flush(&self, timeout: Option<Duration>) -> bool {
+        self.shared.flush(timeout.unwrap_or(self.shared.shutdown_timeout))
+    }
+
+    /// A flush, after which it sends nothing.
+    pub fn close(&self, timeout: Option<Duration>) -> bool {
+        self.shared.close(timeout.unwrap_or(self.shared.shutdown_timeout))
+    }
+
+    /// A hub with a scope of its own.
+    pub(crate) fn new_hub(&self) -> Result<Hub, Fault> {
+        let id = self.shared.call(|state| {
+            let fresh = state.fresh();
+            state.engine.new_hub(self.shared.client, &fresh)
+        })?;
+        Ok(Hub::of(self.shared.clone(), id))
+    }
+}
+
+/// Closes the client, and waits for the transport.
+impl Drop for Client {
+    fn drop(&mut self) {
+        self.close(None);
+    }
+}
+
+impl fmt::Debug for Client {
+    fn fmt(&self, f: &mut fmt::Formatter<'_>) -> fmt::Result {
+        f.debug_struct("Client").field("id", &self.shared.client).finish_non_exhaustive()
+    }
+}
+
+/// The transport that options name, or the thread; nothing is sent without a DSN.
+fn transport_of(options: &ClientOptions) -> Result<Arc<dyn Transport>, InitError> {
+    let (Some(dsn), None) = (&options.dsn, &options.transport) else {
+        return Ok(options.transport.clone().unwrap_or_else(|| Arc::new(|it: Envelope| drop(it))));
+    };
+    let agent = options.user_agent.as_deref().unwrap_or(concat!("dochirwa.rust/", env!("CARGO_PKG_VERSION")));
+    let (url, auth) = (envelope_api_url(dsn)?, to_auth(dsn, agent)?);
+    let http = options.http_client.clone().unwrap_or_else(|| Arc::new(PlainHttp));
+    if !http.can_post(&url) {
+        return Err(InitError::NoTransport(url));
+    }
+    Ok(Arc::new(TransportThread::start(http, url, auth).map_err(InitError::Io)?))
+}
+
+/// Starts the thread that tells a client the time, until what is returned, or the client, is gone.
+fn start_ticks(shared: &Arc<Shared>) -> std::io::Result<Sender<()>> {
+    let ((sender, receiver), weak) = (channel::<()>(), Arc::downgrade(shared));
+    std::thread::Builder::new().name("dochirwa-ticks".into()).spawn(move || {
+        while let (Err(RecvTimeoutError::Timeout), Some(shared)) = (receiver.recv_timeout(INTERVAL), weak.upgrade()) {
+            shared.tolerated(|state| state.engine.tick(shared.client, Moment::now()));
+        }
+    })?;
+    Ok(sender)
+}
+
+/// Why there is no client.
+#[derive(Debug)]
+pub enum InitError {
+    /// An option that no client can have.
+    Option(OptionError),
+    /// The engine refused the options.
+    Fault(Fault),
+    /// There are no random numbers, or no thread.
+    Io(std::io::Error),
+    /// Nothing can post to this URL: [`ClientOptions::http_client`] or [`ClientOptions::transport`] sets what can.
+    NoTransport(String),
+}
+
+impl From<OptionError> for InitError {
+    fn from(error: OptionError) -> InitError {
+        InitError::Option(error)
+    }
+}
+
+impl From<Fault> for InitError {
+    fn from(fault: Fault) -> InitError {
+        InitError::Fault(fault)
+    }
+}
+
+impl fmt::Display for InitError {
+    fn fmt(&self, f: &mut fmt::Formatter<'_>) -> fmt::Result {
+        match self {
+            InitError::Option(error) => write!(f, "{error}"),
+            InitError::Fault(fault) => write!(f, "{fault}"),
+            InitError::Io(error) => write!(f, "{error}"),
+            InitError::NoTransport(url) => {
+                write!(f, "nothing can post to {url}: the options need an http_client or a transport")
+            }
+        }
+    }
+}
+
+impl std::error::Error for InitError {
+    fn source(&self) -> Option<&(dyn std::error::Error + 'static)> {
+        match self {
+            InitError::Option(error) => Some(error),
+            InitError::Fault(fault) => Some(fault),
+            InitError::Io(error) => Some(error),
+            InitError::NoTransport(_) => None,
+        }
+    }
+}
+
+/// Keeps the client of the program; its end closes the client, and waits for the transport.
+#[must_use = "its end closes the client"]
+#[derive(Debug)]
+pub struct ClientInitGuard(Client);
+
+impl std::ops::Deref for ClientInitGuard {
+    type Target = Client;
+
+    fn deref(&self) -> &Client {
+        &self.0
+    }
+}
+
+impl Drop for ClientInitGuard {
+    fn drop(&mut self) {
+        unbind_main(&self.0.shared);
+    }
+}
+
+/// Gives the program a client, whose hubs the threads have from now on: this thread the main one, and each other a copy of
+/// it as it is when the thread captures first.
+pub fn init(options: ClientOptions) -> Result<ClientInitGuard, InitError> {
+    let client = Client::with_options(options)?;
+    bind_main(client.new_hub()?);
+    Ok(ClientInitGuard(client))
+}
