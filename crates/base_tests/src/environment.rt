@@ -1,7 +1,7 @@
 //! Options from the environment.
 use sentry_base::protocol::Refusal;
-use sentry_options::clientoptions::{ClientCallbacks, ClientOptions};
 use sentry_options::environment::{Fault, FromEnv, Variable, with_variable};
+use sentry_options::{ClientCallbacks, ClientOptions};
 use std::alloc::Global;
 use std::test::Fail;
 

@@ -1,6 +1,5 @@
 //! Guards of the hubs of a thread, where a hub is a number.
-use sentry_thread_hub::hub_switch_guard::run_under_both;
-use sentry_thread_hub::thread_hub::ThreadHub;
+use sentry_thread_hub::{Refused, ThreadHub, run_under_both};
 use std::test::Fail;
 
 /// The hubs of a thread, with a number in the place of a clock.
@@ -13,6 +12,8 @@ fn the_inner_of_two_guards_has_the_current_hub(rt: HostRuntime) -> Result<(), Fa
         current: 1,
         clock: 0,
         generator: (),
+        request: None,
+        refused: Refused::nothing(),
     };
     run_under_both(
         &mut thread,

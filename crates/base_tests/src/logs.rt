@@ -1,7 +1,7 @@
 //! What can be the value of an attribute of a log, and a log that is filled in part by part.
 use sentry_base::protocol::LogLevel;
+use sentry_batches::ToValue;
 use sentry_batches::log_draft::LogDraft;
-use sentry_batches::to_value::ToValue;
 use sentry_plain::{Text, Value};
 use std::alloc::{AllocError, Global};
 use std::test::Fail;

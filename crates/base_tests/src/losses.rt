@@ -1,9 +1,14 @@
 //! Losses: calls succeed with enough memory, a drain finds what was recorded before it, and threads lose nothing.
-use sentry_base::protocol::{CATEGORIES, Category, Label, LossSource, Losses, Reason, Refusal};
-use sentry_client_reports::client_reports::{
+use crate::items::{event, transaction};
+use sentry_base::protocol::{
+    CATEGORIES, Category, Envelope, EnvelopeItem, Label, Log, LogLevel, LossSource, Losses, Reason,
+    Refusal,
+};
+use sentry_client_reports::{
     CountedDrainer, Drainer, LossBook, LossWords, Recorder, TransportLossReason,
 };
-use std::alloc::Global;
+use sentry_plain::{Boxed, Items};
+use std::alloc::{AllocError, Global};
 use std::test::Fail;
 use std::thread::{join, map_vec};
 
@@ -197,5 +202,52 @@ fn words_close_once_no_other_part_is_left(rt: HostRuntime) -> Result<(), Fail> {
         panic!(rt; "not closed")
     };
     assert!(rt; standing == one.losses(Reason::SendError));
+    Ok(())
+}
+
+/// An event, a transaction with two spans, and a batch of three logs.
+fn envelope(alloc: Global) -> Result<Envelope, AllocError> {
+    let mut logs = Items::new(alloc);
+    for _ in 0..3 {
+        logs.push(Log::new(alloc, LogLevel::Info, "x", 1)?)?;
+    }
+    let mut envelope = Envelope::new(alloc);
+    envelope.add_item(EnvelopeItem::Event(Boxed::new(alloc, event(alloc, 1)?)?))?;
+    envelope.add_item(transaction(alloc)?)?;
+    envelope.add_item(EnvelopeItem::Logs(logs))?;
+    Ok(envelope)
+}
+
+#[test]
+fn each_item_of_a_lost_envelope_counts(rt: HostRuntime) -> Result<(), Fail> {
+    let (mut recorder, mut drainer) = LossWords::new(rt.alloc(), LABEL)?;
+    recorder.record_lost_data(&envelope(rt.alloc())?, TransportLossReason::QueueOverflow);
+    let (_, losses) = drainer.drain().into_parts();
+    let mut expected = [0u64; 63];
+    expected[8] = 1;
+    expected[17] = 1;
+    expected[26] = 3;
+    expected[53] = 3;
+    assert!(rt; losses.quantities == expected);
+    Ok(())
+}
+
+/// What a book reports of the greatest quantity and of so many errors more.
+fn reported_past_the_greatest(alloc: Global, more: u64) -> Result<Option<u64>, Refusal> {
+    let mut book = LossBook::new();
+    book.record(&Losses::of(Category::Error, Reason::EventProcessor, u64::MAX));
+    book.record(&Losses::of(Category::Error, Reason::EventProcessor, more));
+    let report = book.take_report(alloc)?;
+    Ok(report.map(|report| report
+        .items
+        .as_slice()
+        .iter()
+        .fold(0, |sum, item| { item.quantity.wrapping_add(sum) })))
+}
+
+#[test]
+fn a_quantity_begins_anew_after_the_greatest(rt: HostRuntime) -> Result<(), Fail> {
+    assert!(rt; reported_past_the_greatest(rt.alloc(), 1)?.is_none());
+    assert!(rt; reported_past_the_greatest(rt.alloc(), 2)? == Some(1));
     Ok(())
 }

@@ -1,6 +1,6 @@
 //! Options that no text shows, and their builders.
 use sentry_base::protocol::{Draw, ParseDsnError, Refusal};
-use sentry_options::clientoptions::{ClientOptions, MaxRequestBodySize, PlainOptions};
+use sentry_options::{ClientOptions, MaxRequestBodySize, PlainOptions};
 use sentry_plain::Text;
 use std::alloc::Global;
 use std::test::Fail;

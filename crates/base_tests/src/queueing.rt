@@ -1,7 +1,7 @@
 //! A queue of envelopes: what is queued, what is taken out and what is recorded, in one run of calls.
 use crate::items::{alone, attachment, event_alone, id, report, transaction};
 use sentry_base::protocol::{Category, Envelope, Label, Losses, Refusal};
-use sentry_client_reports::client_reports::{Drainer, LossWords};
+use sentry_client_reports::{Drainer, LossWords};
 use sentry_transport::queueing::QueueCore;
 use std::alloc::{AllocError, Global};
 use std::test::Fail;

@@ -1,8 +1,8 @@
 //! A session and a queue of sessions by themselves: an engine makes the calls of a queue in halves.
 use sentry_base::protocol::{ClientKey, SessionAttributes, SessionStatus, Uuid};
-use sentry_options::clientoptions::SessionMode;
+use sentry_options::SessionMode;
 use sentry_plain::{Shared, Text};
-use sentry_sessions::session::{Session, SessionQueue};
+use sentry_sessions::{Session, SessionQueue};
 use std::alloc::{AllocError, Global};
 use std::test::Fail;
 

@@ -3,9 +3,9 @@ use crate::texts::Texts;
 use crate::turns::{HubTurn, make_turns, prepare};
 use sentry_core::protocol::Refusal;
 use sentry_core::{ClientOptions, Clock, Generator};
-use sentry_hub::hub::Hub;
-use sentry_lock::core_lock::CoreLock;
-use sentry_thread_hub::thread_hub::ThreadHub;
+use sentry_hub::Hub;
+use sentry_lock::CoreLock;
+use sentry_thread_hub::ThreadHub;
 use std::alloc::Global;
 
 /// The hubs of a thread over any lock. What acts on them is generic in the lock: that is proved faster than over boxes.

@@ -1,12 +1,11 @@
 //! Messages by an engine alone, and by a client of one under its lock. Each is an event under a scope with a tag. The
-//! transport drops the envelopes.
+//! transport drops the envelopes. Then clients that come and go.
 use crate::hub::options;
-use sentry_core::Text;
 use sentry_core::engine::Engine;
 use sentry_core::protocol::{Draw, Event, Fresh, Label, Refusal, SpanId, TraceId, Uuid};
-use sentry_lock::client::Client;
-use sentry_lock::core_lock::CoreLock;
-use sentry_scope::scope::Scope;
+use sentry_core::{BoxedGate, BoxedTransport, NoOpTransport, SharedCore, Text};
+use sentry_lock::{Client, CoreLock};
+use sentry_scope::Scope;
 use std::alloc::{AllocError, Global};
 
 fn scope<P: Drop>(alloc: Global) -> Result<Scope<P>, AllocError> {
@@ -64,4 +63,23 @@ pub fn send_by_client<L: CoreLock>(client: &Client<L>, messages: u64) -> Result<
         sent = count_sent(sent, id);
     }
     Ok(sent)
+}
+
+fn boxed_transport(alloc: Global) -> Result<BoxedTransport, AllocError> {
+    Ok(Box::new(alloc, NoOpTransport)?)
+}
+
+/// Adds so many clients to a core under its lock, and drops each and its clone before the next. Answers how many came, or 0
+/// if the core still holds one.
+pub fn add_and_drop(wait: BoxedGate, alloc: Global, turns: u64) -> Result<u64, Refusal> {
+    let core: SharedCore = SharedCore::new(wait, alloc, 0)?;
+    for now in 0..turns {
+        let setup = core.client_setup(options(alloc)?)?;
+        let client = Client::with_options(setup, Some(boxed_transport(alloc)?), now)?;
+        let clone = client.clone_client(now)?;
+        client.drop_client()?;
+        clone.drop_client()?;
+    }
+    let holds_none = core.held().clients == 0;
+    Ok(if holds_none { turns } else { 0 })
 }

@@ -21,6 +21,8 @@ pub enum Loop {
     Lock(LockLoop),
     /// Messages by an engine alone.
     Engine,
+    /// A client is added to a core under its lock, and it and its clone are dropped.
+    Clients,
     /// An envelope is taken out of a queue and offered again.
     Queue,
     /// An envelope is sent to a queueing transport, and passed on.
@@ -44,7 +46,7 @@ pub enum Loop {
 }
 
 /// Each loop, by the word that names it.
-pub const LOOPS: [(&str, Loop); 22] = [
+pub const LOOPS: [(&str, Loop); 23] = [
     ("scopes", Loop::Lock(LockLoop::Hub(HubTurn::Scope))),
     (
         "messages",
@@ -63,6 +65,7 @@ pub const LOOPS: [(&str, Loop); 22] = [
     ),
     ("threads", Loop::Lock(LockLoop::HubThreads)),
     ("engine", Loop::Engine),
+    ("clients", Loop::Clients),
     ("client", Loop::Lock(LockLoop::Client)),
     ("client_threads", Loop::Lock(LockLoop::ClientThreads)),
     ("queue", Loop::Queue),

@@ -27,8 +27,7 @@ use hub::Thread;
 use loops::{Asked, LOOPS, LockLoop, Loop, Size};
 use sentry_core::protocol::Refusal;
 use sentry_core::{BoxedClock, BoxedGate, BoxedTransport, Clock, NoOpTransport, Waiting, start};
-use sentry_lock::client::Client;
-use sentry_lock::core_lock::CoreLock;
+use sentry_lock::{Client, CoreLock};
 use std::alloc::Global;
 use std::process::ExitCode;
 use std::sync::Wait;
@@ -104,6 +103,7 @@ fn count<R: Threads + Wait + Sync + Copy + Drop>(
     match named {
         Loop::Lock(named) => open_and_count(rt, alloc, wait, named, size),
         Loop::Engine => lock::send_by_engine(alloc, turns),
+        Loop::Clients => lock::add_and_drop(wait, alloc, turns),
         Loop::Queue => queue::take_and_offer(alloc, turns),
         Loop::Pass => transport::pass(*rt, alloc, turns),
         Loop::TurnAway => transport::turn_away(*rt, alloc, turns),

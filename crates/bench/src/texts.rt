@@ -2,7 +2,7 @@
 use crate::hub::Thread;
 use sentry_core::protocol::Refusal;
 use sentry_core::{Clock, logger_info};
-use sentry_lock::core_lock::CoreLock;
+use sentry_lock::CoreLock;
 
 /// What turns write, known where they are compiled.
 pub trait Texts {

@@ -5,10 +5,9 @@ use crate::lock::send_by_client;
 use crate::texts::{Long, Short};
 use crate::turns::{HubTurn, make_turns};
 use sentry_core::protocol::Refusal;
-use sentry_hub::hub::Hub;
-use sentry_lock::client::Client;
-use sentry_lock::core_lock::CoreLock;
-use sentry_thread_hub::thread_hub::ThreadHub;
+use sentry_hub::Hub;
+use sentry_lock::{Client, CoreLock};
+use sentry_thread_hub::ThreadHub;
 use std::alloc::AllocError;
 use std::thread::{Threads, map_vec};
 

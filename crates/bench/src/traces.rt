@@ -4,7 +4,7 @@ use crate::texts::Texts;
 use sentry_core::protocol::Refusal;
 use sentry_core::{Clock, start_transaction, transaction_context};
 use sentry_hub::performance::Transaction;
-use sentry_lock::core_lock::CoreLock;
+use sentry_lock::CoreLock;
 
 // A child that is finished, and then given back. Its transaction keeps what it was.
 fn add_child<T: Texts, L: CoreLock, K: Clock + Drop>(
@@ -14,7 +14,7 @@ fn add_child<T: Texts, L: CoreLock, K: Clock + Drop>(
     let child = transaction.start_child(
         T::span_operation(),
         T::span_description(),
-        thread.fresh(),
+        thread.fresh_span(),
     )?;
     child.end(thread)?;
     Ok(())

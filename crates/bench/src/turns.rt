@@ -8,7 +8,7 @@ use sentry_core::{
     Breadcrumb, Clock, Level, Text, add_breadcrumb, capture_message, configure_scope, end_session,
     start_session, with_scope,
 };
-use sentry_lock::core_lock::CoreLock;
+use sentry_lock::CoreLock;
 use std::alloc::{AllocError, Global};
 
 /// What a turn does.

@@ -1,13 +1,12 @@
 //! A service whose worker threads run jobs: each thread has hubs of its own, which are made from the main one, and each
 //! job runs in a transaction that continues the trace of whoever asked for it. The envelopes go through a queue.
-use crate::pumping::Pumping;
 use crate::setup::{DSN, fresh};
 use crate::tally::Tally;
 use crate::threads::{Task, Thread, make_tasks, run_tasks, start_task};
 use anyhow::{Result, bail};
 use sentry_core::metrics::{CaptureMetric, counter, distribution};
 use sentry_core::protocol::{Event, Refusal, SpanStatus, Unit};
-use sentry_core::queueing::QueueTransport;
+use sentry_core::queueing::{Pump, QueueTransport};
 use sentry_core::{
     BoxedBreadcrumbCallback, BoxedEventCallback, BoxedIntegration, BoxedLogCallback,
     BoxedMetricCallback, BoxedTracesSampler, EventCallback, Level, Scope, SessionMode, SystemClock,
@@ -15,12 +14,10 @@ use sentry_core::{
     configure_scope, continue_from_headers, end_session, in_new_hub, in_scope, in_span,
     in_transaction, logger_error, logger_info, start_session,
 };
-use sentry_hub::hub::Hub;
+use sentry_hub::Hub;
 use sentry_hub::performance::Transaction;
-use sentry_lock::client::Client;
-use sentry_lock::core_lock::{CoreLock, Locked};
-use sentry_lock::shared_core::SharedCore;
-use sentry_options::clientoptions::{ClientCallbacks, ClientOptions};
+use sentry_lock::{Client, CoreLock, Locked, SharedCore};
+use sentry_options::{ClientCallbacks, ClientOptions};
 use std::alloc::{AllocError, Global};
 use std::sync::{Arc, Wait};
 use std::thread::Threads;
@@ -190,9 +187,9 @@ fn work_beside_pump<
     R: Threads + Wait + Clock + Copy + Drop + Send + Sync + 'static,
     T: Transport + Drop + Send + Sync + 'static,
 >(rt: R, queue: &Arc<Queue<R>>, main: &Hub<Lock<R, T>>) -> Result<()> {
-    let pumping = Pumping::start(rt, main.allocator(), queue.clone()?)?;
+    let pump = Pump::start(rt, main.allocator(), queue.clone()?)?;
     let worked = work_in_threads(&rt, main);
-    pumping.stop(&rt);
+    pump.stop(&rt);
     worked
 }
 

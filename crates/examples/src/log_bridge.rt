@@ -1,11 +1,12 @@
-//! The crate `log` over a hub: what a program logs becomes logs and breadcrumbs, and its errors become events.
+//! The crate `log` over a hub: what a program logs becomes logs and breadcrumbs, and its errors become events too.
 use crate::printing::Printer;
 use crate::setup::options;
 use anyhow::Result;
 use log::{Level, Log, Logged, debug, error, info, warn};
-use sentry_core::{BoxedClock, BoxedGate, BoxedTransport, SystemClock, Text, draw_seed, start};
-use sentry_log::filter::{Levels, LogFilter, Within};
-use sentry_log::logger::SentryLogger;
+use sentry_core::{
+    BoxedClock, BoxedGate, BoxedTransport, Levels, LogFilter, SentryLogger, SystemClock, Text,
+    Within, draw_seed, start,
+};
 use std::alloc::{AllocError, Global};
 
 /// Runs the example, by the clock of the system and with random ids.
@@ -21,15 +22,23 @@ pub fn run(rt: HostRuntime, wait: BoxedGate) -> Result<()> {
     Ok(())
 }
 
-// Of the printer's driver no info is told.
+// Of the printer's driver no info is told, and an error leads to the next one.
 fn filter(alloc: Global) -> Result<Within<Levels, Levels>, AllocError> {
+    let error = LogFilter {
+        breadcrumb: true,
+        event: true,
+        log: true,
+    };
     Ok(Within {
         target: Text::new(alloc, "driver")?,
         inside: Levels {
             info: LogFilter::ignore(),
             ..Levels::new()
         },
-        outside: Levels::new(),
+        outside: Levels {
+            error,
+            ..Levels::new()
+        },
     })
 }
 
@@ -39,5 +48,6 @@ fn print_orders<L: Log>(rt: &L) {
     debug!(rt; target: "orders", "the printer is warm");
     info!(rt; target: "driver::usb", "12 bytes are sent");
     warn!(rt; target: "paper", sheets = 3, tray = "left"; "{} sheets are left", 3);
-    error!(rt; target: "paper", "no paper");
+    error!(rt; target: "paper", tray = "left"; "no paper");
+    error!(rt; target: "orders", "an order is lost");
 }

@@ -4,22 +4,27 @@
 
 mod clocks;
 mod engine_start;
+mod environment;
 mod job_service;
 mod log_bridge;
 mod middleware;
+mod order_service;
+mod orders;
 mod printing;
-mod pumping;
 mod rate_limits;
 mod refused_ticks;
 mod release_health;
 mod setup;
 mod spool;
+mod steadfast_work;
+mod stock_bridge;
 mod tally;
 mod threads;
 mod ticking_worker;
 mod web_shop;
 
 use anyhow::Result;
+use sentry_core::client_report::LossWords;
 use sentry_core::envelope::{FileFolder, SpoolTransport, WriterTransport};
 use sentry_core::{BoxedGate, BoxedTransport, Waiting};
 use spool::Morning;
@@ -32,6 +37,7 @@ use std::{env, io};
 #[derive(Clone, Copy)]
 enum Example {
     EngineStart,
+    Environment,
     WebShop,
     LogBridge,
     Middleware,
@@ -41,10 +47,14 @@ enum Example {
     RefusedTicks,
     JobService,
     Spool,
+    SteadfastWork,
+    OrderService,
+    StockBridge,
 }
 
-const EXAMPLES: [(&str, Example); 10] = [
+const EXAMPLES: [(&str, Example); 14] = [
     ("engine_start", Example::EngineStart),
+    ("environment", Example::Environment),
     ("web_shop", Example::WebShop),
     ("log_bridge", Example::LogBridge),
     ("middleware", Example::Middleware),
@@ -54,6 +64,9 @@ const EXAMPLES: [(&str, Example); 10] = [
     ("refused_ticks", Example::RefusedTicks),
     ("job_service", Example::JobService),
     ("spool", Example::Spool),
+    ("steadfast_work", Example::SteadfastWork),
+    ("order_service", Example::OrderService),
+    ("stock_bridge", Example::StockBridge),
 ];
 
 fn is_known(word: &str) -> bool {
@@ -102,6 +115,7 @@ fn run<R: Threads + Wait + Clock + Print + Copy + Drop + Send + Sync + 'static>(
     let alloc = host.alloc();
     match example {
         Example::EngineStart => engine_start::run(&rt, alloc),
+        Example::Environment => environment::run(host),
         Example::WebShop => web_shop::run(&rt, alloc),
         Example::LogBridge => log_bridge::run(host, wait),
         Example::Middleware => middleware::run(host, wait),
@@ -110,6 +124,9 @@ fn run<R: Threads + Wait + Clock + Print + Copy + Drop + Send + Sync + 'static>(
         Example::RateLimits => rate_limits::run(rt, host),
         Example::RefusedTicks => refused_ticks::run(rt, host, wait),
         Example::JobService => job_service::run(rt, alloc),
+        Example::SteadfastWork => steadfast_work::run(host, wait),
+        Example::OrderService => order_service::run(rt, host, wait),
+        Example::StockBridge => stock_bridge::run(host, wait),
         Example::Spool => Ok(()),
     }
 }
@@ -133,20 +150,26 @@ fn main(rt: HostRuntime) -> Result<ExitCode> {
         }
         let wait: BoxedGate = Box::new(alloc, Waiting(rt))?;
         match example {
-            Example::Spool => match &folder {
-                None => {
-                    let writer = WriterTransport::new(rt, alloc, None, rt.stdout());
-                    let transport: BoxedTransport = Box::new(alloc, writer)?;
-                    spool::run(alloc, wait, transport)?;
+            Example::Spool => {
+                let (recorder, drainer) = LossWords::new(alloc, spool::LABEL)?;
+                let recorder = Some(recorder);
+                match &folder {
+                    None => {
+                        let writer = WriterTransport::new(rt, alloc, recorder, rt.stdout());
+                        let transport: BoxedTransport = Box::new(alloc, writer)?;
+                        spool::run(alloc, wait, transport, drainer)?;
+                    }
+                    Some(path) => {
+                        let folder = FileFolder::new(rt, alloc, path.as_str())?;
+                        let (limits, clock) = (spool::LIMITS, Morning::new());
+                        let files = SpoolTransport::new(
+                            rt, alloc, recorder, folder, limits, clock,
+                        )?;
+                        let transport: BoxedTransport = Box::new(alloc, files)?;
+                        spool::run(alloc, wait, transport, drainer)?;
+                    }
                 }
-                Some(path) => {
-                    let folder = FileFolder::new(rt, alloc, path.as_str())?;
-                    let (limits, clock) = (spool::LIMITS, Morning::new());
-                    let files = SpoolTransport::new(rt, alloc, None, folder, limits, clock);
-                    let transport: BoxedTransport = Box::new(alloc, files)?;
-                    spool::run(alloc, wait, transport)?;
-                }
-            },
+            }
             other => run(rt, rt, wait, other)?,
         }
     }

@@ -1,5 +1,5 @@
-//! A server whose requests have a hub and a transaction each, which continues the trace of the request's headers and has the
-//! status of the response. What goes wrong is captured where it happens.
+//! A server whose requests have a hub, a session and a transaction each, which continues the trace of the request's headers
+//! and has the status of the response. What goes wrong is captured where it happens, and tells of the request.
 use crate::clocks::Steps;
 use crate::printing::Printer;
 use crate::setup;
@@ -7,11 +7,10 @@ use crate::setup::{SEED, Thread};
 use anyhow::Result;
 use sentry_core::protocol::Refusal;
 use sentry_core::{
-    BoxedClock, BoxedGate, BoxedTransport, ClientOptions, Clock, capture_error, start,
+    BoxedClock, BoxedGate, BoxedTransport, ClientOptions, Clock, IncomingRequest, RequestOptions,
+    SessionMode, capture_error, in_request_with, set_tag, start,
 };
-use sentry_http::middleware::in_request;
-use sentry_http::requests::IncomingRequest;
-use sentry_lock::core_lock::CoreLock;
+use sentry_lock::CoreLock;
 use std::alloc::Global;
 use thiserror::Error;
 
@@ -25,25 +24,11 @@ const CONTINUED: [(&str, &str); 3] = [
     ),
 ];
 
-const REQUESTS: [IncomingRequest<'static>; 3] = [
-    IncomingRequest {
-        method: "GET",
-        url: "/lamps",
-        query_string: None,
-        headers: &CONTINUED,
-    },
-    IncomingRequest {
-        method: "GET",
-        url: "/chairs",
-        query_string: None,
-        headers: &[],
-    },
-    IncomingRequest {
-        method: "GET",
-        url: "/tables",
-        query_string: None,
-        headers: &CONTINUED,
-    },
+/// A request's URL and its headers.
+const REQUESTS: [(&str, &[(&str, &str)]); 3] = [
+    ("/lamps?key=1", &CONTINUED),
+    ("/chairs", &[]),
+    ("/tables", &CONTINUED),
 ];
 
 /// Runs the example.
@@ -57,23 +42,38 @@ pub fn run(rt: HostRuntime, wait: BoxedGate) -> Result<()> {
     Ok(())
 }
 
-// Each transaction is sent.
+// Each transaction is sent, and a session for each request.
 fn options(alloc: Global) -> Result<ClientOptions, Refusal> {
-    setup::options(alloc)?.traces_sample_rate(1_000_000)
+    let options = setup::options(alloc)?
+        .release("shop@1.0.0")?
+        .traces_sample_rate(1_000_000)?;
+    Ok(options.session_mode(SessionMode::Request))
 }
 
 // One request after another.
 fn serve<R: Print, L: CoreLock, K: Clock + Drop>(rt: &R, thread: &mut Thread<L, K>) -> Result<()> {
-    for request in &REQUESTS {
-        let status = in_request(
+    set_tag(thread, "worker", 1)?;
+    for (url, headers) in REQUESTS {
+        let (request, options) = (IncomingRequest::get(url, headers), RequestOptions::new());
+        let path = path_of(url);
+        let status = in_request_with(
             thread,
-            request.url,
-            request,
-            |thread, _| answer(thread, request.url),
+            path,
+            &request,
+            options.session(true),
+            |thread, _| answer(thread, path),
         )?;
-        println!(rt; "GET {}: {status}", request.url)?;
+        println!(rt; "GET {url}: {status}")?;
     }
     Ok(())
+}
+
+// What stands before the query.
+fn path_of(url: &str) -> &str {
+    match url.split_once('?') {
+        Some((path, _)) => path,
+        None => url,
+    }
 }
 
 // Why the shop has no page.

@@ -1,7 +1,7 @@
 //! A transport that prints.
 use sentry_core::engine::Out;
 use sentry_core::protocol::{
-    ClientReport, Context, EnvelopeItem, Event, Exception, Log, LogAttribute, Metric,
+    ClientReport, Context, EnvelopeItem, Event, Exception, Log, LogAttribute, Metric, Request,
     SessionAggregates, TraceContext, Transaction, Value,
 };
 use sentry_core::{Breadcrumb, Envelope, Text, TextMap, Transport};
@@ -77,8 +77,12 @@ fn print_event(rt: &impl Print, event: &Event) -> io::Result<()> {
         text_or_dash(&event.environment),
         text_or_dash(&event.server_name)
     )?;
+    print_request(rt, &event.request)?;
     for (key, value) in event.tags.iter() {
         println!(rt; "    tag {key}={}", value.as_str())?;
+    }
+    for (key, value) in event.extra.iter() {
+        print_attribute(rt, key, value)?;
     }
     print_trail(rt, event.breadcrumbs.as_slice(), event.exception.as_slice())?;
     print_trace(rt, &event.contexts)
@@ -103,11 +107,19 @@ fn print_trail(
 
 fn print_transaction(rt: &impl Print, transaction: &Transaction) -> io::Result<()> {
     println!(rt; "  transaction {}", text_or_dash(&transaction.name))?;
-    if let Some(request) = &transaction.request {
+    print_request(rt, &transaction.request)?;
+    if let Some(Context::Trace(trace)) = transaction.contexts.get("trace") {
+        println!(rt; "    operation {}", text_or_dash(&trace.op))?;
+    }
+    print_trace(rt, &transaction.contexts)
+}
+
+fn print_request(rt: &impl Print, request: &Option<Request>) -> io::Result<()> {
+    if let Some(request) = request {
         let method = text_or_dash(&request.method);
         println!(rt; "    request {method} {}", text_or_dash(&request.url))?;
     }
-    print_trace(rt, &transaction.contexts)
+    Ok(())
 }
 
 fn print_trace(rt: &impl Print, contexts: &TextMap<Context>) -> io::Result<()> {

@@ -2,15 +2,12 @@
 //! own passes on to a transport that prints them. What the limit keeps back is told by the next report.
 use crate::clocks::SetMoment;
 use crate::printing::Printer;
-use crate::pumping::Pumping;
 use crate::setup::{fresh, options};
 use anyhow::{Result, bail};
 use sentry_core::protocol::{Category, Event, Uuid};
-use sentry_core::queueing::QueueTransport;
+use sentry_core::queueing::{Pump, QueueTransport};
 use sentry_core::{BoxedEventCallback, ClientCallbacks, Text, Waiting};
-use sentry_lock::client;
-use sentry_lock::core_lock::Locked;
-use sentry_lock::shared_core::SharedCore;
+use sentry_lock::{Locked, SharedCore, client};
 use std::alloc::{AllocError, Global};
 use std::sync::atomic::{AtomicU64, Ordering};
 use std::sync::{Arc, Wait};
@@ -32,11 +29,11 @@ pub fn run<R: Threads + Wait + Clock + Copy + Drop + Send + Sync + 'static>(
     let alloc = host.alloc();
     let moment = Arc::new(alloc, AtomicU64::new(0))?;
     let (client, queue) = client_over_queue(rt, host, moment.clone()?)?;
-    let pumping = Pumping::start(rt, alloc, queue.clone()?)?;
+    let pump = Pump::start(rt, alloc, queue.clone()?)?;
     let played = play(&client, &queue, &moment);
-    pumping.stop(&rt);
+    pump.stop(&rt);
     played?;
-    // passes on what still waits
+    // passes on what still waits, and sends the report
     client.close(None)?;
     Ok(())
 }

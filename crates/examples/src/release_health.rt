@@ -9,7 +9,7 @@ use sentry_core::{
     BoxedClock, BoxedGate, BoxedTransport, ClientOptions, Clock, Level, SessionMode, Text, User,
     capture_message, configure_scope, end_session, end_session_with_status, start, start_session,
 };
-use sentry_lock::core_lock::CoreLock;
+use sentry_lock::CoreLock;
 use std::alloc::Global;
 
 /// Runs the example. The clock makes five seconds a step, so that a user's requests take more than a minute.

@@ -1,8 +1,8 @@
 //! What several examples begin with.
 use sentry_core::protocol::{Draw, Fresh, Refusal, SpanId, TraceId, Uuid};
 use sentry_core::{ClientOptions, Generator};
-use sentry_hub::hub::Hub;
-use sentry_thread_hub::thread_hub::ThreadHub;
+use sentry_hub::Hub;
+use sentry_thread_hub::ThreadHub;
 use std::alloc::Global;
 
 /// The hubs of a thread over any lock and clock. A function on these is proved sooner than one on

@@ -1,16 +1,17 @@
 //! A shop whose envelopes are put into a folder, a file each, or are written to standard output. Another program sends
-//! the files, as `tools/ship` does.
+//! the files, as `tools/ship` does. What can't be written is told at the end.
 use crate::setup::{self, SEED, Thread};
-use anyhow::Result;
+use anyhow::{Result, ensure};
+use sentry_core::client_report::Drainer;
 use sentry_core::envelope::Usage;
 use sentry_core::metrics::{CaptureMetric, counter};
-use sentry_core::protocol::{Attachment, Refusal, SpanStatus};
+use sentry_core::protocol::{Attachment, CATEGORIES, Category, Label, Reason, Refusal, SpanStatus};
 use sentry_core::{
     BoxedClock, BoxedGate, BoxedTransport, ClientOptions, Clock, Items, Text, add_breadcrumb,
     capture_error, configure_scope, end_session, in_span, in_transaction, logger_warn, start,
     start_session, transaction_context,
 };
-use sentry_lock::core_lock::CoreLock;
+use sentry_lock::CoreLock;
 use std::alloc::Global;
 use thiserror::Error;
 
@@ -38,13 +39,41 @@ pub const LIMITS: Usage = Usage {
     bytes: 10_000_000,
 };
 
-/// Runs the example.
-pub fn run(alloc: Global, wait: BoxedGate, transport: BoxedTransport) -> Result<()> {
+/// Under which the transport counts what it loses.
+pub const LABEL: Label = Label { tag: 1, number: 0 };
+
+/// Runs the example. It fails where the transport has lost something, of which the drainer has the count.
+pub fn run(
+    alloc: Global,
+    wait: BoxedGate,
+    transport: BoxedTransport,
+    drainer: Drainer,
+) -> Result<()> {
     let clock: BoxedClock = Box::new(alloc, Morning::new())?;
     let (sentry, mut thread) = start(alloc, wait, options(alloc)?, transport, clock, SEED)?;
     open_shop(&mut thread)?;
-    sentry.close()?;
+    let is_sent = sentry.close()?;
+    let lost = lost_items(alloc, drainer)?;
+    ensure!(
+        is_sent && lost.is_empty(),
+        "all sent: {is_sent}, lost:{lost}"
+    );
     Ok(())
+}
+
+// How many items of each category the transport has lost.
+fn lost_items(alloc: Global, drainer: Drainer) -> Result<String> {
+    let mut drainer = drainer;
+    let (_, losses) = drainer.drain().into_parts();
+    let mut text = String::new(alloc);
+    for index in 0..CATEGORIES {
+        let category = Category::at(index);
+        let count = losses.get(category, Reason::InternalSdkError);
+        if count != 0 {
+            write!(text, " {} {count}", category.as_str())?;
+        }
+    }
+    Ok(text)
 }
 
 fn options(alloc: Global) -> Result<ClientOptions, Refusal> {

@@ -3,9 +3,9 @@ use crate::clocks::Steps;
 use crate::setup;
 use anyhow::Result;
 use sentry_core::protocol::Refusal;
-use sentry_hub::hub::Hub;
-use sentry_lock::core_lock::CoreLock;
-use sentry_thread_hub::thread_hub::ThreadHub;
+use sentry_hub::Hub;
+use sentry_lock::CoreLock;
+use sentry_thread_hub::ThreadHub;
 use std::alloc::AllocError;
 use std::thread::{Threads, map_vec};
 

@@ -8,9 +8,8 @@ use sentry_core::protocol::{EnvelopeItem, Log, Value};
 use sentry_core::{
     BoxedClock, BoxedGate, BoxedTransport, Envelope, Transport, Worker, logger_info, start,
 };
-use sentry_hub::hub::Hub;
-use sentry_lock::client::Client;
-use sentry_lock::core_lock::CoreLock;
+use sentry_hub::Hub;
+use sentry_lock::{Client, CoreLock};
 use std::alloc::{AllocError, Global};
 use std::io;
 use std::sync::atomic::{AtomicU64, Ordering};

@@ -2,8 +2,8 @@
 use crate::workshop::{Bench, at, fresh, unbind_client};
 use sentry_core::protocol::Refusal;
 use sentry_core::{Breadcrumb, Level};
-use sentry_hub::hub::Hub;
-use sentry_lock::core_lock::CoreLock;
+use sentry_hub::Hub;
+use sentry_lock::CoreLock;
 use std::alloc::{AllocError, Global};
 use std::test::Fail;
 

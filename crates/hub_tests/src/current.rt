@@ -7,10 +7,10 @@ use sentry_core::{
     capture_message, configure_scope, end_session, end_session_with_status, last_event_id,
     start_session, start_transaction, start_transaction_with_timestamp, with_scope,
 };
-use sentry_hub::hub::Hub;
+use sentry_hub::Hub;
 use sentry_hub::performance::Transaction;
-use sentry_lock::core_lock::CoreLock;
-use sentry_thread_hub::thread_hub::ThreadHub;
+use sentry_lock::CoreLock;
+use sentry_thread_hub::ThreadHub;
 use std::alloc::{AllocError, Global};
 use std::test::Fail;
 
@@ -121,7 +121,7 @@ fn act<L: CoreLock>(thread: &mut Thread<L>) -> Result<(Ids, Findings), Refusal> 
 }
 
 /// The first ids that a thread draws: two starts of a session after the fifth draw no more than an id each.
-pub(crate) fn draw_ids() -> Result<[Uuid; 9], AllocError> {
+fn draw_ids() -> Result<[Uuid; 9], AllocError> {
     let mut thread: ThreadHub<(), Minute, Generator> = ThreadHub::new((), Minute, SEED)?;
     let mut ids = [Uuid::nil(); 9];
     for (place, id) in ids.iter_mut().enumerate() {
@@ -160,7 +160,7 @@ fn what_is_sent(alloc: Global, drawn: [Uuid; 9]) -> Result<String, AllocError> {
 
 #[test]
 fn functions_act_on_the_current_hub(rt: HostRuntime) -> Result<(), Fail> {
-    let mut bench = Bench::new(rt, rt.alloc())?;
+    let mut bench = Bench::apart(rt, rt.alloc())?;
     let found = act(&mut bench.thread)?;
     let sent = bench.finish()?;
     let drawn = draw_ids()?;

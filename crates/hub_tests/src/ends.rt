@@ -1,10 +1,9 @@
 //! Transactions and spans that end by one call.
 use crate::workshop::{Bench, Thread, fresh};
-use sentry_core::TransactionContext;
-use sentry_core::protocol::{Refusal, SpanId, TraceId, TransactionOrSpanKey};
-use sentry_hub::api::configure_scope;
+use sentry_core::protocol::{Refusal, SpanId, TraceId};
+use sentry_core::{TransactionContext, clear_span, configure_scope};
 use sentry_hub::performance::{Handle, HandleKey, Span, Transaction};
-use sentry_lock::core_lock::CoreLock;
+use sentry_lock::CoreLock;
 use std::test::Fail;
 
 // Ends it. If it stays, answers it, with why it does.
@@ -24,7 +23,7 @@ fn end_rest<L: CoreLock>(
     transaction: Transaction<L>,
     span: Span<L>,
 ) -> Result<[bool; 2], Refusal> {
-    configure_scope(thread, |scope| scope.set_span(None::<TransactionOrSpanKey>))?;
+    clear_span(thread)?;
     Ok([
         end(thread, span).is_none(),
         end(thread, transaction).is_none(),

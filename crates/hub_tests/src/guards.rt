@@ -74,6 +74,41 @@ fn a_guard_tells_that_not_all_was_sent(rt: HostRuntime) -> Result<(), Fail> {
     Ok(())
 }
 
+/// Answers to a shutdown whether it was made with a recorder.
+#[derive(Drop)]
+struct Recording(bool);
+
+impl Transport for Recording {
+    fn send_envelope(&self, _envelope: Envelope) {}
+
+    fn shutdown(&self, _timeout: u64) -> bool {
+        self.0
+    }
+}
+
+#[test]
+fn a_transport_gets_its_settings(rt: HostRuntime) -> Result<(), Fail> {
+    let (guard, thread) = init!(
+        rt,
+        options(rt.alloc())?,
+        |settings| Recording(settings.client_report_recorder.is_some()),
+        Minute,
+        SEED
+    )?;
+    drop(thread);
+    let has_recorder = guard.close()?;
+    let options = ClientOptions::new(rt.alloc());
+    let (guard, thread) = init!(rt, options, |settings| {
+        drop(settings);
+        Recording(true)
+    })?;
+    drop(thread);
+    let is_enabled = guard.client().is_enabled()?;
+    drop(guard);
+    assert_eq!(rt; (has_recorder, is_enabled), (true, false));
+    Ok(())
+}
+
 /// Tells a moment at which logs of the minute are sent, at each call. When it is dropped, it counts that in a word.
 struct Endless(Arc<AtomicU64>);
 

@@ -2,10 +2,9 @@
 use crate::workshop::{Bench, Minute, Thread, fresh, set_tag, unbind_client};
 use sentry_core::Level;
 use sentry_core::protocol::Refusal;
-use sentry_hub::hub::Hub;
-use sentry_lock::core_lock::CoreLock;
-use sentry_thread_hub::hub_switch_guard::HubSwitchGuard;
-use sentry_thread_hub::thread_hub::ThreadHub;
+use sentry_hub::Hub;
+use sentry_lock::CoreLock;
+use sentry_thread_hub::{HubSwitchGuard, ThreadHub};
 use std::test::Fail;
 
 // Switches to the hub 1, and from that to the hub 2. Answers the number of the current hub under both guards, under one

@@ -2,7 +2,7 @@
 use crate::workshop::{Bench, Callbacks, Thread, id};
 use sentry_core::protocol::{Event, Refusal};
 use sentry_core::{Integration, PlainOptions, with_integration};
-use sentry_lock::core_lock::CoreLock;
+use sentry_lock::CoreLock;
 use std::alloc::{AllocError, Global};
 use std::test::Fail;
 
@@ -66,7 +66,7 @@ fn ask<L: CoreLock<Callbacks = Callbacks>>(thread: &Thread<L>) -> Result<[(u64, 
 
 #[test]
 fn the_first_integration_of_a_name_is_lent(rt: HostRuntime) -> Result<(), Fail> {
-    let bench = Bench::new(rt, rt.alloc())?;
+    let bench = Bench::apart(rt, rt.alloc())?;
     let added = ask(&bench.thread)?;
     drop(bench);
     assert_eq!(rt; added, [(5, 5), (0, 0)]);

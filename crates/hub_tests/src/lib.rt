@@ -5,6 +5,10 @@
 #[cfg(test)]
 mod breadcrumbs;
 #[cfg(test)]
+mod closed;
+#[cfg(test)]
+mod closures;
+#[cfg(test)]
 mod current;
 #[cfg(test)]
 mod ends;
@@ -21,6 +25,8 @@ mod logs;
 #[cfg(test)]
 mod polls;
 #[cfg(test)]
+mod ready;
+#[cfg(test)]
 mod scoped;
 #[cfg(test)]
 mod scopes;
@@ -28,6 +34,8 @@ mod scopes;
 mod sketch;
 #[cfg(test)]
 mod spans;
+#[cfg(test)]
+mod steadfast;
 #[cfg(test)]
 mod threads;
 #[cfg(test)]

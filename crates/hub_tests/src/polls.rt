@@ -4,8 +4,8 @@ use futures::executor::block_on;
 use futures::task::{Context, Poll};
 use sentry_core::protocol::Refusal;
 use sentry_core::{Generator, HubFuture, Level, SentryFutureExt};
-use sentry_hub::hub::Hub;
-use sentry_lock::core_lock::CoreLock;
+use sentry_hub::Hub;
+use sentry_lock::CoreLock;
 use std::alloc::AllocGlobal;
 use std::random::RandomSource;
 use std::sync::Wait;
@@ -31,11 +31,13 @@ impl<L: CoreLock> HubFuture<Hub<L>, Minute, Generator> for SendsTwice {
     }
 }
 
-// Runs such a future, bound to a hub with a tag, and sends a message after it. Answers what it gave.
+// Runs such a future, bound to a hub that has a tag more than the main one, and sends a message after it. Answers what it
+// gave.
 fn run_bound<R: Wait + RandomSource + AllocGlobal, L: CoreLock>(
     rt: &R,
     thread: &mut Thread<L>,
 ) -> Result<Option<u8>, Refusal> {
+    set_tag(&thread.current, "a", "1")?;
     let other = Hub::new_from_top(&thread.current)?;
     set_tag(&other, "b", "2")?;
     let future = SendsTwice { was_polled: false };
@@ -51,8 +53,8 @@ fn a_future_is_polled_under_its_hub(rt: HostRuntime) -> Result<(), Fail> {
     let mut bench = Bench::new(rt, rt.alloc())?;
     let answer = run_bound(&rt, &mut bench.thread)?;
     let sent = bench.finish()?;
-    let expected =
-        "; event 1 Info at 1 polled b=2; event 1 Info at 1 polled b=2; event 2 Info at 2 later";
+    let expected = "; event 1 Info at 1 polled a=1 b=2; event 1 Info at 1 polled a=1 b=2; \
+        event 2 Info at 2 later a=1";
     assert_eq!(rt; (answer, sent.as_str()), (Some(5), expected));
     Ok(())
 }

@@ -1,10 +1,12 @@
 //! Work that is run in a scope, on a hub of its own, and under a transaction and a span; and what is left after it.
-use crate::current::draw_ids;
-use crate::workshop::{Bench, Thread, fresh};
-use sentry_core::protocol::{Refusal, SpanKey, TransactionOrSpanKey};
-use sentry_core::{Level, in_new_hub, in_scope, in_span, in_transaction, transaction_context};
-use sentry_hub::hub::Hub;
-use sentry_lock::core_lock::CoreLock;
+use crate::workshop::{Bench, Minute, SEED, Thread, fresh};
+use sentry_core::protocol::{Refusal, SpanKey, TransactionOrSpanKey, Uuid};
+use sentry_core::{
+    Generator, Level, Refused, in_new_hub, in_scope, in_span, in_transaction, transaction_context,
+};
+use sentry_hub::Hub;
+use sentry_lock::CoreLock;
+use sentry_thread_hub::ThreadHub;
 use std::alloc::{AllocError, Global};
 use std::test::Fail;
 
@@ -52,7 +54,7 @@ fn run_all<L: CoreLock>(thread: &mut Thread<L>, refusal: Option<Refusal>) -> [An
     [first, second, run_traced(thread, refusal)]
 }
 
-// What work answers in a scope that is refused: it doesn't run.
+// What work answers whose scope is refused: it runs without one.
 fn run_refused<L: CoreLock>(thread: &mut Thread<L>) -> Answer {
     in_scope(
         thread,
@@ -61,15 +63,21 @@ fn run_refused<L: CoreLock>(thread: &mut Thread<L>) -> Answer {
     )
 }
 
-// What is left of work: what the core holds, as it is printed, what is active, and why the hub isn't given back.
-type Left = (String, Option<TransactionOrSpanKey>, Result<(), Refusal>);
+// What is left of work: what the core holds, as it is printed, what is active, why the hub isn't given back, and what was
+// refused.
+type Left = (
+    String,
+    Option<TransactionOrSpanKey>,
+    Result<(), Refusal>,
+    Refused,
+);
 
 fn look<L: CoreLock>(thread: &mut Thread<L>) -> Result<Left, Refusal> {
     let core = thread.current.core();
     let held = format!(in core.allocator(); "{core:?}")?;
     let active = thread.current.scope()?.get_span();
     let hub = thread.current.clone()?;
-    Ok((held, active, hub.release(thread)))
+    Ok((held, active, hub.release(thread), thread.take_refused()))
 }
 
 // What work answers that is let be, that is refused, and whose scope is refused; and what is left.
@@ -83,14 +91,34 @@ fn run_thrice<L: CoreLock>(thread: &mut Thread<L>) -> Result<Found, Refusal> {
 }
 
 // What is left where nothing is: the client, and its hub with one layer.
-fn nothing_left(alloc: Global) -> Result<Left, AllocError> {
+fn nothing_left(alloc: Global, refused: Refused) -> Result<Left, AllocError> {
     let held = "Held { clients: 1, hubs: 1, layers: 1, transactions: 0, spans: 0, sessions: 0 }";
-    Ok((String::from_str(alloc, held)?, None, Ok(())))
+    Ok((String::from_str(alloc, held)?, None, Ok(()), refused))
+}
+
+// So many refusals, of which this was the first.
+fn refusals(count: u64, first: Refusal) -> Refused {
+    Refused {
+        count,
+        first: Some(first),
+    }
+}
+
+// The ids that a thread draws for two transactions, each after its context, and before a span that draws its own id alone.
+fn draw_ids() -> Result<[Uuid; 2], AllocError> {
+    let mut thread: ThreadHub<(), Minute, Generator> = ThreadHub::new((), Minute, SEED)?;
+    let mut ids = [Uuid::nil(); 2];
+    for id in ids.iter_mut() {
+        let _context = thread.fresh();
+        *id = thread.fresh().uuid;
+        let _span = thread.fresh_span();
+    }
+    Ok(ids)
 }
 
 // What is sent, as a text.
 fn what_is_sent(alloc: Global) -> Result<String, AllocError> {
-    let [_, done, _, _, failed, ..] = draw_ids()?;
+    let [done, failed] = draw_ids()?;
     let mut text = String::new(alloc);
     for (id, status) in [(done, ""), (failed, " InternalError")] {
         text.push_str(
@@ -103,6 +131,7 @@ fn what_is_sent(alloc: Global) -> Result<String, AllocError> {
         )?;
         write!(text, ", span until 60{status}")?;
     }
+    text.push_str("; event 4 Info at 4 work")?;
     Ok(text)
 }
 
@@ -135,7 +164,7 @@ fn work_may_leave_another_hub_current(rt: HostRuntime) -> Result<(), Fail> {
     let mut bench = Bench::new(rt, rt.alloc())?;
     leave_another_hub(&mut bench.thread)?;
     let left = look(&mut bench.thread)?;
-    assert_eq!(rt; left, nothing_left(rt.alloc())?);
+    assert_eq!(rt; left, nothing_left(rt.alloc(), Refused::nothing())?);
     Ok(())
 }
 
@@ -146,11 +175,9 @@ fn nothing_is_left_of_work_that_ended(rt: HostRuntime) -> Result<(), Fail> {
     let sent = bench.finish()?;
     let span = TransactionOrSpanKey::Span(SpanKey { tag: 5, number: 0 });
     assert_eq!(rt; first, [Ok(None), Ok(None), Ok(Some(span))]);
-    assert_eq!(rt;
-        (second, third),
-        ([Err(Refusal::Full); 3], Err(Refusal::OutOfMemory))
-    );
-    assert_eq!(rt; left, nothing_left(rt.alloc())?);
+    assert_eq!(rt; (second, third), ([Err(Refusal::Full); 3], Ok(None)));
+    let refused = refusals(1, Refusal::OutOfMemory);
+    assert_eq!(rt; left, nothing_left(rt.alloc(), refused)?);
     let expected = what_is_sent(rt.alloc())?;
     assert_eq!(rt; sent.as_str(), expected.as_str());
     Ok(())

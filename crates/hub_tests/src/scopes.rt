@@ -2,8 +2,8 @@
 use crate::workshop::{Bench, at, fresh, set_tag};
 use sentry_core::Level;
 use sentry_core::protocol::{Refusal, Uuid};
-use sentry_hub::hub::Hub;
-use sentry_lock::core_lock::CoreLock;
+use sentry_hub::Hub;
+use sentry_lock::CoreLock;
 use std::test::Fail;
 
 // Sends a message by a closure, under a scope with a tag more.

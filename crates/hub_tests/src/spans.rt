@@ -3,7 +3,7 @@ use crate::workshop::{Bench, Thread, at, fresh};
 use sentry_core::TransactionContext;
 use sentry_core::protocol::{Refusal, SpanId, TraceId, Value};
 use sentry_hub::performance::{Span, Transaction, TransactionOrSpan};
-use sentry_lock::core_lock::CoreLock;
+use sentry_lock::CoreLock;
 use std::alloc::AllocError;
 use std::test::Fail;
 

@@ -1,10 +1,9 @@
 //! Hubs in threads, and a worker.
-use crate::workshop::{LOOKS, add_client, add_hub, at, fresh, new_sink};
-use sentry_core::protocol::Refusal;
+use crate::workshop::{Collector, LOOKS, add_client, add_hub, at, fresh, new_sink};
+use sentry_core::protocol::{Log, LogLevel, Refusal};
 use sentry_core::{Envelope, Level, TickClock, Worker};
-use sentry_hub::hub::Hub;
-use sentry_lock::client::Client;
-use sentry_lock::core_lock::CoreLock;
+use sentry_hub::Hub;
+use sentry_lock::{Client, CoreLock};
 use std::alloc::{AllocError, Global};
 use std::sync::atomic::{AtomicU64, Ordering};
 use std::sync::{Arc, Wait};
@@ -164,5 +163,65 @@ where
 fn a_worker_ends_at_the_first_tick_of_a_client_that_is_gone(rt: HostRuntime) -> Result<(), Fail> {
     let client = add_client(rt, rt.alloc(), &new_sink(rt.alloc())?)?;
     assert_eq!(rt; count_twice(rt, client)?, (3, 1));
+    Ok(())
+}
+
+/// Tells one moment, five seconds after the client came, once it may; then that it ended.
+#[derive(Drop)]
+struct HeldTick {
+    is_told: bool,
+    may_tell: Arc<AtomicU64>,
+    ended: Arc<AtomicU64>,
+}
+
+impl TickClock for HeldTick {
+    fn next(&mut self) -> Option<u64> {
+        if self.is_told {
+            self.ended.store(1, Ordering::SeqCst);
+            return None;
+        }
+        self.is_told = true;
+        wait_for(&self.may_tell);
+        Some(at(6))
+    }
+}
+
+// How many envelopes are sent of a log that waits before a worker starts: while its first tick is held, in which time a
+// call is answered, and by the end of that tick.
+fn hold_tick<R: Threads + Wait + Copy + Send + 'static, L: CoreLock + Send + Sync + 'static>(
+    rt: R,
+    client: &Client<L>,
+    sink: &Collector,
+) -> Result<[usize; 2], Refusal>
+where
+    L::Processor: Send + Sync + 'static,
+    L::Callbacks: Send + Sync + 'static,
+    L::Transport: Send + Sync + 'static,
+{
+    let alloc = client.core().allocator();
+    let hub = add_hub(client)?;
+    hub.capture_log(Log::new(alloc, LogLevel::Info, "it waits", at(1))?)?;
+    let (may_tell, ended) = (unset_word(alloc)?, unset_word(alloc)?);
+    let clock = HeldTick {
+        is_told: false,
+        may_tell: may_tell.clone()?,
+        ended: ended.clone()?,
+    };
+    let worker = Worker::start(rt, client.clone()?, clock)?;
+    hub.is_active()?;
+    let before = sink.take(alloc).len();
+    may_tell.store(1, Ordering::SeqCst);
+    wait_for(&ended);
+    let after = sink.take(alloc).len();
+    worker.stop(&rt);
+    Ok([before, after])
+}
+
+#[test]
+fn a_worker_ticks_beside_the_calls_of_others(rt: HostRuntime) -> Result<(), Fail> {
+    let sink = new_sink(rt.alloc())?;
+    let client = add_client(rt, rt.alloc(), &sink)?;
+    let sent = hold_tick(rt, &client, &sink)?;
+    assert_eq!(rt; sent, [0, 1]);
     Ok(())
 }

@@ -4,13 +4,11 @@ use crate::sketch::sketch;
 use scenario_run::callbacks::{BreadcrumbFilter, Handler, LogFilter, MetricFilter, NameSampler};
 use sentry_core::protocol::{Draw, Fresh, Refusal, SpanId, TraceId, Uuid};
 use sentry_core::{Clock, Envelope, Generator, Items, SendEnvelopes, Transport, Waiting};
-use sentry_hub::hub::Hub;
-use sentry_lock::client::Client;
-use sentry_lock::core_lock::{CoreLock, Locked};
-use sentry_lock::shared_core::SharedCore;
-use sentry_options::clientoptions::{ClientCallbacks, ClientOptions};
-use sentry_scope::scope::Scope;
-use sentry_thread_hub::thread_hub::ThreadHub;
+use sentry_hub::Hub;
+use sentry_lock::{Client, CoreLock, Locked, SharedCore};
+use sentry_options::{ClientCallbacks, ClientOptions};
+use sentry_scope::Scope;
+use sentry_thread_hub::ThreadHub;
 use std::alloc::{AllocError, Global};
 use std::sync::{Arc, Mutex, Wait};
 use std::thread::yield_now;
@@ -150,6 +148,23 @@ impl<R: Wait + Drop> Bench<Lock<R>> {
         let sink = new_sink(alloc)?;
         let client = add_client(rt, alloc, &sink)?;
         Bench::over(client, sink)
+    }
+}
+
+impl<R: Wait + Drop> Bench<Lock<R>> {
+    /// The same, but the main hub is another than the current one, and has no client any more: what is done on it sends
+    /// nothing.
+    pub(crate) fn apart(rt: R, alloc: Global) -> Result<Bench<Lock<R>>, Refusal> {
+        let sink = new_sink(alloc)?;
+        let client = add_client(rt, alloc, &sink)?;
+        let thread = ThreadHub::from_main(add_hub(&client)?, Minute, SEED)?;
+        unbind_client(&thread.main)?;
+        Ok(Bench {
+            alloc,
+            sink,
+            client,
+            thread,
+        })
     }
 }
 

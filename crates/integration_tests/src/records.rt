@@ -1,6 +1,6 @@
 //! Filters of records, and what is made of a record.
 use log::{Level, Metadata, Record};
-use sentry_base::protocol::{LogAttribute, LogLevel};
+use sentry_base::protocol::{Event, LogAttribute, LogLevel};
 use sentry_log::filter::{Levels, LogFilter, RecordFilter, Within};
 use sentry_log::mapping::{RecordMapping, map_record};
 use sentry_plain::{Text, TextMap, Value};
@@ -62,8 +62,22 @@ fn warn_of_paper(alloc: Global, becomes: LogFilter) -> Result<RecordMapping, All
     map_record(alloc, 5, &record, becomes)
 }
 
+/// Whether an event has the text of the record, its target as a tag, and its pairs as extra data.
+fn tells_of_paper(event: &Event) -> bool {
+    let (Some(message), Some(target)) = (&event.message, event.tags.get("logger")) else {
+        return false;
+    };
+    let (Some(sheets), Some(trays)) = (event.extra.get("sheets"), event.extra.get("trays")) else {
+        return false;
+    };
+    message.as_str() == "the paper runs out"
+        && target.as_str() == "printer"
+        && *sheets == Value::Int(3)
+        && *trays == Value::Int(1)
+}
+
 #[test]
-fn a_record_is_a_breadcrumb_a_message_and_a_log(rt: HostRuntime) -> Result<(), Fail> {
+fn a_record_is_a_breadcrumb_an_event_and_a_log(rt: HostRuntime) -> Result<(), Fail> {
     let alloc = rt.alloc();
     let all = LogFilter {
         breadcrumb: true,
@@ -71,11 +85,12 @@ fn a_record_is_a_breadcrumb_a_message_and_a_log(rt: HostRuntime) -> Result<(), F
         log: true,
     };
     let made = warn_of_paper(alloc, all)?;
-    let (Some(breadcrumb), Some(message), Some(log)) = (&made.breadcrumb, &made.message, &made.log)
+    let (Some(breadcrumb), Some(event), Some(log)) = (&made.breadcrumb, &made.event, &made.log)
     else {
         return Err(Fail::new("something is missing"));
     };
-    assert!(rt; breadcrumb.timestamp == 5 && message.as_str() == "the paper runs out");
+    assert!(rt; breadcrumb.timestamp == 5 && event.timestamp == 5);
+    assert!(rt; tells_of_paper(event) && event.event_id.is_nil());
     assert!(rt; log.level == LogLevel::Warn && log.body.as_str() == "the paper runs out");
     let target = Value::Text(Text::new(alloc, "printer")?);
     let has_all = has(&log.attributes, "logger.target", &target)
@@ -88,6 +103,6 @@ fn a_record_is_a_breadcrumb_a_message_and_a_log(rt: HostRuntime) -> Result<(), F
 #[test]
 fn nothing_is_made_of_an_ignored_record(rt: HostRuntime) -> Result<(), Fail> {
     let made = warn_of_paper(rt.alloc(), LogFilter::ignore())?;
-    assert!(rt; made.breadcrumb.is_none() && made.message.is_none() && made.log.is_none());
+    assert!(rt; made.breadcrumb.is_none() && made.event.is_none() && made.log.is_none());
     Ok(())
 }

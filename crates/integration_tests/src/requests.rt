@@ -44,10 +44,32 @@ fn credentials_are_not_told(rt: HostRuntime) -> Result<(), Fail> {
         query_string: Some("color=red"),
         headers: HEADERS.as_slice(),
     };
-    let told = request.describe(rt.alloc())?;
+    let told = request.describe(rt.alloc(), true)?;
     let has_public = has(&told.headers, "Host", "shop.invalid")
         & has(&told.headers, "Baggage", "sentry-org_id=1");
     assert!(rt; has_public && told.headers.len() == 2 && told.cookies.is_none());
+    Ok(())
+}
+
+/// The text, or `-`.
+fn or_dash(text: &Option<Text>) -> &str {
+    match text {
+        Some(text) => text.as_str(),
+        None => "-",
+    }
+}
+
+#[test]
+fn a_query_is_told_where_it_may_be(rt: HostRuntime) -> Result<(), Fail> {
+    let request = IncomingRequest {
+        query_string: Some("b=2"),
+        ..IncomingRequest::get("/lamps?a=1?", &HEADERS)
+    };
+    let told = request.describe(rt.alloc(), true)?;
+    assert!(rt; or_dash(&told.method) == "GET" && or_dash(&told.url) == "/lamps?a=1?");
+    assert!(rt; or_dash(&told.query_string) == "b=2");
+    let told = request.describe(rt.alloc(), false)?;
+    assert!(rt; or_dash(&told.url) == "/lamps" && told.query_string.is_none());
     Ok(())
 }
 

@@ -8,9 +8,9 @@ use sentry_core::protocol::{
     Refusal, SpanId, TraceId, TransactionOrSpanKey, Unit, Uuid,
 };
 use sentry_core::{BoxedEventCallback, ClientCallbacks, Few, Level, TransactionContext};
-use sentry_engine::engine::{Engine, Out};
-use sentry_options::clientoptions::{Callbacks, ClientOptions};
-use sentry_scope::scope::Scope;
+use sentry_engine::{Engine, Out};
+use sentry_options::{Callbacks, ClientOptions};
+use sentry_scope::Scope;
 use std::alloc::{AllocError, Global};
 use std::test::Fail;
 

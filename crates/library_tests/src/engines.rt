@@ -7,9 +7,9 @@ use sentry_core::TransactionContext;
 use sentry_core::protocol::{
     Draw, Fresh, Label, Refusal, SpanId, TraceId, TransactionOrSpanKey, Uuid,
 };
-use sentry_engine::engine::Engine;
-use sentry_options::clientoptions::{Callbacks, ClientOptions};
-use sentry_scope::scope::Scope;
+use sentry_engine::Engine;
+use sentry_options::{Callbacks, ClientOptions};
+use sentry_scope::Scope;
 use std::alloc::Global;
 use std::test::Fail;
 

@@ -8,6 +8,8 @@ mod boxes;
 #[cfg(test)]
 mod callbacks;
 #[cfg(test)]
+mod counted;
+#[cfg(test)]
 mod engines;
 #[cfg(test)]
 mod envelopes;
@@ -16,5 +18,7 @@ mod names;
 pub mod promises;
 #[cfg(test)]
 mod scopes;
+#[cfg(test)]
+mod starving;
 #[cfg(test)]
 mod streams;

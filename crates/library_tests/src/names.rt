@@ -3,16 +3,16 @@ use crate::engines::{TextCallbacks, engine_with_a_span, fresh, options, scope};
 use crate::promises::run_calls;
 use scenario_run::callbacks::Handler;
 use sentry_base::callbacks::EventCallback;
-use sentry_core::SpanTable;
 use sentry_core::client_report::LossWords;
 use sentry_core::protocol::{
     ClientKey, Draw, Event, HubKey, Label, Log, LogLevel, Refusal, SampleRate, SpanId, SpanKey,
     TraceId, TransactionOrSpanKey, Uuid,
 };
+use sentry_core::{SpanTable, TransactionContext};
 use sentry_engine::call::{Answer, Call, ClientCall, HubCall, Reply};
-use sentry_engine::engine::{Engine, Out};
-use sentry_options::clientoptions::{Callbacks, ClientOptions};
-use sentry_scope::scope::Scope;
+use sentry_engine::{Engine, Out};
+use sentry_options::{Callbacks, ClientOptions};
+use sentry_scope::Scope;
 use std::alloc::{AllocError, Global};
 use std::test::Fail;
 
@@ -98,6 +98,44 @@ fn a_trace_goes_on_from_a_span(rt: HostRuntime) -> Result<(), Fail> {
     let found = continued::<Handler, TextCallbacks>(rt.alloc(), options(rt.alloc())?)?;
     let ids = fresh();
     assert!(rt; found == (ids.trace_id, Some(ids.span_id)));
+    Ok(())
+}
+
+/// The trace, the span and the parent of a transaction whose headers name an organization, while the client has none. The
+/// span's id is handed in with the headers.
+fn not_continued<P: EventCallback + Drop, C: Callbacks>(
+    alloc: Global,
+    options: ClientOptions<C>,
+    span_id: SpanId,
+) -> Result<(TraceId, SpanId, Option<SpanId>), Refusal> {
+    let mut engine: Engine<P, C> = engine_with_a_span(alloc, 0, options)?;
+    let headers = [
+        (
+            "sentry-trace",
+            "09e04486820349518ac7b5d2adbf6ba5-9cf635fa5b870b3a-1",
+        ),
+        ("baggage", "sentry-org_id=42"),
+    ];
+    let context = TransactionContext::continue_from_headers(
+        alloc,
+        "name",
+        "op",
+        headers.iter().copied(),
+        TraceId([5; 16]),
+        span_id,
+    )?;
+    let transaction = engine.start_transaction(HUB, context, fresh())?.reply;
+    let key = TransactionOrSpanKey::Transaction(transaction);
+    let place = engine.get_trace_context(key)?.reply;
+    Ok((place.trace_id, place.span_id, place.parent_span_id))
+}
+
+#[test]
+fn a_trace_that_is_not_continued_keeps_the_span(rt: HostRuntime) -> Result<(), Fail> {
+    let strict = options(rt.alloc())?.strict_trace_continuation(true);
+    let own = SpanId([6; 8]);
+    let found = not_continued::<Handler, TextCallbacks>(rt.alloc(), strict, own)?;
+    assert!(rt; found == (fresh().trace_id, own, None));
     Ok(())
 }
 

@@ -15,9 +15,9 @@ ghost use Rattle.sentry_state.specs.Worlds.{World, Stands, first_world};
 
 use sentry_base::callbacks::EventCallback;
 use sentry_base::protocol::Refusal;
+use sentry_engine::Engine;
 use sentry_engine::call::{Answer, Call};
-use sentry_engine::engine::Engine;
-use sentry_options::clientoptions::Callbacks;
+use sentry_options::Callbacks;
 use std::alloc::Global;
 
 /// Makes the calls on a new engine. In a world that it stands for, each hub has the layers that its own calls gave it.

@@ -6,7 +6,7 @@ use sentry_core::protocol::{
     Breadcrumb, ClientKey, Context, Event, SessionKey, Uuid, Value, ValueMap,
 };
 use sentry_core::{Level, SpanTable};
-use sentry_scope::scope::{Scope, ScopeEdit, Stack, Trail};
+use sentry_scope::{Scope, ScopeEdit, Stack, Trail};
 use std::alloc::{AllocError, Global};
 use std::test::Fail;
 

@@ -1,9 +1,8 @@
 //! A transport during whose calls another thread makes a call on the same client: the lock is free then.
 use crate::workshop::{Held, capture_event, capture_log, options};
 use sentry_base::protocol::{Envelope, Refusal};
-use sentry_lock::client::Client;
-use sentry_lock::core_lock::CoreLock;
-use sentry_transport::transport::Transport;
+use sentry_lock::{Client, CoreLock};
+use sentry_transport::Transport;
 use std::alloc::Global;
 use std::sync::{Arc, Mutex, Wait};
 use std::test::Fail;
@@ -20,13 +19,13 @@ struct Turns {
 /// Waits in each call until another thread has answered it. Where that thread waits for a lock which is held meanwhile,
 /// neither ends, and the test is stopped.
 #[derive(Drop)]
-struct Asks<R: Wait + Drop> {
-    rt: R,
+pub(crate) struct Asks<R: Wait + Drop> {
+    pub(crate) rt: R,
     turns: Mutex<Turns>,
 }
 
 impl<R: Wait + Drop> Asks<R> {
-    fn new(rt: R) -> Asks<R> {
+    pub(crate) fn new(rt: R) -> Asks<R> {
         Asks {
             rt,
             turns: Mutex::new(Turns {
@@ -47,13 +46,29 @@ impl<R: Wait + Drop> Asks<R> {
         turns.begun
     }
 
-    fn answer(&self) {
+    pub(crate) fn answer(&self) {
         let mut turns = self.turns.lock(&self.rt);
         turns.answered = turns.answered.wrapping_add(1);
     }
 
-    fn end(&self) {
+    pub(crate) fn end(&self) {
         self.turns.lock(&self.rt).is_over = true;
+    }
+
+    /// How many calls began.
+    pub(crate) fn begun(&self) -> u64 {
+        self.turns().begun
+    }
+
+    /// Whether a call waits for an answer.
+    pub(crate) fn is_asking(&self) -> bool {
+        let turns = self.turns();
+        turns.answered < turns.begun
+    }
+
+    /// Whether no more calls come.
+    pub(crate) fn is_over(&self) -> bool {
+        self.turns().is_over
     }
 
     fn ask(&self) {

@@ -1,8 +1,7 @@
 //! What waits is sent before the transport is asked to flush or to shut down.
 use crate::workshop::{Held, Note, capture_log, options};
 use sentry_base::protocol::Refusal;
-use sentry_lock::client::Client;
-use sentry_lock::core_lock::CoreLock;
+use sentry_lock::{Client, CoreLock};
 use std::alloc::Global;
 use std::test::Fail;
 

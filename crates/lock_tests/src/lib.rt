@@ -5,7 +5,15 @@
 #[cfg(test)]
 mod calling;
 #[cfg(test)]
+mod crowd;
+#[cfg(test)]
+mod deliveries;
+#[cfg(test)]
+mod dropping;
+#[cfg(test)]
 mod ends;
+#[cfg(test)]
+mod labels;
 #[cfg(test)]
 mod losses;
 #[cfg(test)]

@@ -1,8 +1,8 @@
 //! Losses of one client: what is drained, what a report tells, and how the words end.
 use crate::workshop::{Held, Notebook, capture_event, options};
 use sentry_base::protocol::{ClientKey, Envelope, Refusal};
-use sentry_lock::core_lock::CoreLock;
-use sentry_options::clientoptions::ClientOptions;
+use sentry_lock::CoreLock;
+use sentry_options::ClientOptions;
 use std::alloc::Global;
 use std::sync::Arc;
 use std::test::Fail;
@@ -29,11 +29,26 @@ fn lose_and_let_go<L: CoreLock>(held: &mut Held<L>) -> Result<[(bool, u64); 2], 
     Ok([first, (held.close_losses()?, held.pending()?)])
 }
 
+/// Splits a part off the recorder, which alone is held then.
+fn hold_part<L: CoreLock>(held: &mut Held<L>) -> Result<(), Refusal> {
+    let Some(recorder) = held.recorder.take() else {
+        return Ok(());
+    };
+    match recorder.split() {
+        Ok((_, part)) => {
+            held.recorder = Some(part);
+            Ok(())
+        }
+        Err((refusal, _)) => Err(refusal),
+    }
+}
+
 #[test]
-fn words_stay_open_while_a_recorder_is_held(rt: HostRuntime) -> Result<(), Fail> {
+fn words_stay_open_while_a_part_of_a_recorder_is_held(rt: HostRuntime) -> Result<(), Fail> {
     let alloc: Global = rt.alloc();
     let transport: Option<Arc<Notebook<HostRuntime>>> = None;
     let mut held = Held::new(rt, alloc, options(alloc, false)?, transport)?;
+    hold_part(&mut held)?;
     let before = lose_while_held(&mut held)?;
     let after = lose_and_let_go(&mut held)?;
     assert!(rt; before == (false, [0, 1, 1]));
@@ -86,8 +101,7 @@ fn drop_and_lose<L: CoreLock>(
 
 /// Why the calls on the losses of a client are refused.
 fn refusals<L: CoreLock>(held: &Held<L>) -> [Option<Refusal>; 3] {
-    let mut guard = held.client.core().lock();
-    let core = &mut guard.under.core;
+    let core = held.client.core();
     [
         core.drain_and_absorb(held.label).err(),
         core.take_report(held.label).err(),

@@ -5,12 +5,10 @@ use crate::quiet::Quiet;
 use crate::workshop::{Held, Lock, Note, Options, event, options};
 use sentry_base::protocol::{Envelope, EnvelopeItem, Refusal};
 use sentry_engine::call::{Call, ClientCall};
-use sentry_lock::client::Client;
-use sentry_lock::core_lock::{CoreLock, Waiting};
-use sentry_lock::shared_core::SharedCore;
-use sentry_options::clientoptions::ClientOptions;
+use sentry_lock::{Client, CoreLock, SharedCore, Waiting};
+use sentry_options::ClientOptions;
 use sentry_plain::Boxed;
-use sentry_transport::transport::{
+use sentry_transport::{
     BoxedTransport, NoOpTransport, Transport, TransportFactory, TransportOptions,
 };
 use std::alloc::{AllocError, Global};
@@ -158,7 +156,7 @@ fn a_setup_gives_the_options_of_its_transport_once(rt: HostRuntime) -> Result<()
     )?;
     let created = create_of(&core, options(alloc, false)?, &factory)?;
     assert!(rt; created == Some(((true, true), false)));
-    let bare = Options::with_callbacks(alloc, Quiet { is_starving: false });
+    let bare = Options::with_callbacks(alloc, Quiet::new());
     assert!(rt; TransportOptions::try_from_client_options(&bare)?.is_none());
     assert!(rt; create_of(&core, bare, &factory)?.is_none());
     Ok(())

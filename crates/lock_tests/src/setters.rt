@@ -1,9 +1,9 @@
 //! The setters of a copy of a scope.
 use crate::quiet::Passes;
 use sentry_base::protocol::{Attachment, Context, Level, SpanId, TraceId, User, ValueMap};
-use sentry_lock::scope_edits::ScopeEdits;
+use sentry_lock::ScopeEdits;
 use sentry_plain::{Items, Text};
-use sentry_scope::scope::Scope;
+use sentry_scope::Scope;
 use std::alloc::{AllocError, Global};
 use std::test::Fail;
 

@@ -1,9 +1,8 @@
 //! Threads that send, flush and lose errors at once.
 use crate::workshop::{Held, Note, capture_event, lose_error, options};
 use sentry_base::protocol::{Envelope, Refusal};
-use sentry_client_reports::client_reports::Recorder;
-use sentry_lock::client::Client;
-use sentry_lock::core_lock::CoreLock;
+use sentry_client_reports::Recorder;
+use sentry_lock::{Client, CoreLock};
 use std::alloc::Global;
 use std::test::Fail;
 use std::thread::{Threads, join, map_vec};

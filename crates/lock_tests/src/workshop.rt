@@ -4,13 +4,11 @@ use sentry_base::protocol::{
     Category, ClientReport, Draw, Envelope, EnvelopeItem, Event, Fresh, Label, Log, LogLevel,
     LossSource, Losses, Reason, Refusal, SpanId, TraceId, Uuid,
 };
-use sentry_client_reports::client_reports::{Recorder, TransportLossReason};
-use sentry_lock::client::Client;
-use sentry_lock::core_lock::{CoreLock, Locked, Waiting};
-use sentry_lock::shared_core::SharedCore;
-use sentry_options::clientoptions::ClientOptions;
-use sentry_scope::scope::Scope;
-use sentry_transport::transport::Transport;
+use sentry_client_reports::{Recorder, TransportLossReason};
+use sentry_lock::{Client, CoreLock, Locked, SharedCore, Waiting};
+use sentry_options::ClientOptions;
+use sentry_scope::Scope;
+use sentry_transport::Transport;
 use std::alloc::{AllocError, Global};
 use std::sync::{Arc, Mutex, Wait};
 
@@ -117,9 +115,11 @@ impl<R: Wait + Drop> Transport for Notebook<R> {
 
 /// Options with a DSN.
 pub(crate) fn options(alloc: Global, is_starving: bool) -> Result<Options, Refusal> {
-    ClientOptions::with_callbacks(alloc, Quiet { is_starving }).dsn(
-        "https://key@sentry.example.com/42",
-    )
+    let callbacks = Quiet {
+        is_starving,
+        ..Quiet::new()
+    };
+    ClientOptions::with_callbacks(alloc, callbacks).dsn("https://key@sentry.example.com/42")
 }
 
 /// A client, its label, and the recorder of its transport, until that is let go.
@@ -194,10 +194,14 @@ impl<L: CoreLock> Held<L> {
         }
     }
 
+    /// What is pending under its label, which then counts as reported.
+    pub(crate) fn take_report(&self) -> Result<Option<ClientReport>, Refusal> {
+        self.client.core().take_report(self.label)
+    }
+
     /// How many errors stay pending, which then count as reported.
     pub(crate) fn pending(&self) -> Result<u64, Refusal> {
-        let mut guard = self.client.core().lock();
-        match guard.under.core.take_report(self.label)? {
+        match self.client.core().take_report(self.label)? {
             None => Ok(0),
             Some(report) => Ok(errors_in(&report)),
         }
@@ -205,14 +209,12 @@ impl<L: CoreLock> Held<L> {
 
     /// What is drained of its words and absorbed.
     pub(crate) fn drain(&self) -> Result<Option<Losses>, Refusal> {
-        let mut guard = self.client.core().lock();
-        guard.under.core.drain_and_absorb(self.label)
+        self.client.core().drain_and_absorb(self.label)
     }
 
     /// Whether its words are closed then.
     pub(crate) fn close_losses(&self) -> Result<bool, Refusal> {
-        let mut guard = self.client.core().lock();
-        guard.under.core.close_losses(self.label)
+        self.client.core().close_losses(self.label)
     }
 }
 

@@ -1,9 +1,8 @@
 //! Threads that send beside one that pumps: nothing is lost uncounted, and nothing is passed on twice.
 use crate::workshop::{Five, Queue, event_alone, transport_options};
 use sentry_base::protocol::{Category, Envelope, Label, Losses, Reason, Refusal};
-use sentry_client_reports::client_reports::{Drainer, LossWords, Recorder};
-use sentry_transport::queue_transport::QueueTransport;
-use sentry_transport::transport::Transport;
+use sentry_client_reports::{Drainer, LossWords, Recorder};
+use sentry_transport::{QueueTransport, Transport};
 use std::alloc::{AllocError, Global};
 use std::sync::{Mutex, Wait};
 use std::test::Fail;

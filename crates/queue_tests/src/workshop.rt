@@ -1,15 +1,15 @@
 //! What the tests are made of: a clock that stands, an inner transport that takes notes, options and envelopes.
 use sentry_base::clock::Clock;
 use sentry_base::protocol::{Envelope, EnvelopeItem, Event, Refusal, Uuid};
-use sentry_client_reports::client_reports::Recorder;
-use sentry_options::clientoptions::UserAgent;
+use sentry_client_reports::Recorder;
+use sentry_options::UserAgent;
 use sentry_plain::Boxed;
 use sentry_texts::dsn::Dsn;
-use sentry_transport::queue_transport::QueueTransport;
-use sentry_transport::transport::{Transport, TransportOptions};
+use sentry_transport::{QueueTransport, Transport, TransportOptions};
 use std::alloc::{AllocError, Global};
 use std::num::NonZeroUsize;
-use std::sync::{Mutex, Wait};
+use std::sync::atomic::{AtomicU64, Ordering};
+use std::sync::{Barrier, Mutex, Wait};
 
 /// Stands at the moment 5.
 #[derive(Drop)]
@@ -107,4 +107,58 @@ pub(crate) fn send<T: Transport>(
         queue.send_envelope(event_alone(alloc, *number)?);
     }
     Ok(())
+}
+
+/// A queue over a notebook.
+pub(crate) fn queue_over_notes<R: Wait + Drop + Copy>(
+    rt: R,
+    alloc: Global,
+    capacity: Option<NonZeroUsize>,
+    answer: bool,
+) -> Result<Queue<R, Notebook<R>>, Refusal> {
+    let options = transport_options(alloc, capacity, None)?;
+    QueueTransport::new(rt, alloc, options, Notebook::new(rt, alloc, answer), Five)
+}
+
+/// Counts what it is to send. In the midst of the first, it meets another thread twice.
+#[derive(Drop)]
+pub(crate) struct Meets<R: Wait + Drop> {
+    rt: R,
+    pub(crate) sent: AtomicU64,
+    barrier: Barrier,
+}
+
+impl<R: Wait + Drop> Meets<R> {
+    /// Waits for another thread that calls this.
+    pub(crate) fn meet(&self) {
+        self.barrier.wait(&self.rt);
+    }
+}
+
+impl<R: Wait + Drop> Transport for Meets<R> {
+    fn send_envelope(&self, _envelope: Envelope) {
+        if self.sent.fetch_add(1, Ordering::SeqCst) == 0 {
+            self.meet();
+            self.meet();
+        }
+    }
+}
+
+/// A queue over one of these.
+pub(crate) fn meeting_queue<R: Wait + Drop + Copy>(
+    rt: R,
+    alloc: Global,
+) -> Result<Queue<R, Meets<R>>, Refusal> {
+    let meets = Meets {
+        rt,
+        sent: AtomicU64::new(0),
+        barrier: Barrier::new(2),
+    };
+    QueueTransport::new(
+        rt,
+        alloc,
+        transport_options(alloc, None, None)?,
+        meets,
+        Five,
+    )
 }

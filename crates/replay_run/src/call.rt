@@ -12,9 +12,9 @@ use sentry_base::protocol::{
     Uuid,
 };
 use sentry_engine::call::{Call, ClientCall, HubCall};
-use sentry_options::clientoptions::{ClientOptions, PlainOptions, TracesSamplingStrategy};
+use sentry_options::{ClientOptions, PlainOptions, TracesSamplingStrategy};
 use sentry_plain::{Boxed, Items, Text, TextMap};
-use sentry_scope::scope::{Scope, ScopeEdit};
+use sentry_scope::{Scope, ScopeEdit};
 use sentry_texts::dsn::Dsn;
 use std::alloc::{AllocError, Global};
 

@@ -3,9 +3,9 @@ ghost use Rattle.replay_run.specs.Engines.{same_event, no_callbacks};
 
 use sentry_base::callbacks::EventCallback;
 use sentry_base::protocol::{Breadcrumb, Event, Log, Metric};
+use sentry_engine::Engine;
 use sentry_engine::call::{Answer, Call};
-use sentry_engine::engine::Engine;
-use sentry_options::clientoptions::{Callbacks, PlainOptions};
+use sentry_options::{Callbacks, PlainOptions};
 use sentry_plain::{Boxed, Few, Items, Text};
 use sentry_trace::performance::TransactionContext;
 use std::alloc::{AllocError, Global};

@@ -13,7 +13,7 @@ use crate::lines::next_line;
 use crate::print::print_answer;
 use crate::write::write_text;
 use sentry_base::protocol::Refusal;
-use sentry_engine::engine::Engine;
+use sentry_engine::Engine;
 use std::alloc::{AllocError, Global};
 use std::io::{BufRead, Write};
 

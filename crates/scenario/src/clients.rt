@@ -4,9 +4,8 @@ use crate::words::Words;
 use scenario_run::TAG;
 use sentry_base::protocol::{ClientKey, Label, Losses, Refusal};
 use sentry_engine::call::{ClientCall, Reply};
-use sentry_lock::client::Client;
-use sentry_lock::core_lock::CoreLock;
-use sentry_options::clientoptions::ClientOptions;
+use sentry_lock::{Client, CoreLock};
+use sentry_options::ClientOptions;
 use std::alloc::AllocError;
 
 impl<L: CoreLock> Locked<L> {
@@ -157,15 +156,13 @@ impl<L: CoreLock> Locked<L> {
             return Err(Refusal::ForeignLosses);
         };
         let label = words.label;
-        let mut guard = self.core.lock();
-        guard.under.core.drain_and_absorb(label)?;
+        self.core.drain_and_absorb(label)?;
         Ok(label)
     }
 
     fn take_report(&self, number: u64) -> Result<LockReply<L>, Refusal> {
         let label = self.drain(number)?;
-        let mut guard = self.core.lock();
-        let report = guard.under.core.take_report(label)?;
+        let report = self.core.take_report(label)?;
         Ok(Reply::Report(report))
     }
 }

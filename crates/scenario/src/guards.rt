@@ -1,6 +1,6 @@
 //! The guards of the layers that were pushed.
 use sentry_base::protocol::HubKey;
-use sentry_engine::engine::ScopeGuard;
+use sentry_engine::ScopeGuard;
 use sentry_plain::Table;
 use std::alloc::{AllocError, Global};
 

@@ -2,12 +2,12 @@
 use crate::locked::{LockReply, Locked};
 use crate::threads::thread_of;
 use sentry_base::protocol::{ClientKey, HubKey, Refusal, SessionStatus};
+use sentry_engine::ScopeGuard;
 use sentry_engine::call::{Call, HubCall, Reply};
-use sentry_engine::engine::ScopeGuard;
-use sentry_hub::hub::{Hub, PopScopeError};
-use sentry_lock::core_lock::CoreLock;
+use sentry_hub::{Hub, PopScopeError};
+use sentry_lock::CoreLock;
 use sentry_plain::Boxed;
-use sentry_scope::scope::Scope;
+use sentry_scope::Scope;
 
 impl<L: CoreLock> Locked<L> {
     /// Makes a call that adds a hub or gives one back, or that changes its client or its layers.

@@ -3,12 +3,11 @@ use crate::guards::Guards;
 use crate::words::Words;
 use sentry_base::protocol::{HubKey, Refusal, TransactionOrSpanKey};
 use sentry_engine::call::Reply;
-use sentry_hub::hub::Hub;
-use sentry_lock::core_lock::CoreLock;
-use sentry_lock::shared_core::SharedCore;
+use sentry_hub::Hub;
+use sentry_lock::{CoreLock, SharedCore};
 use sentry_plain::Table;
-use sentry_scope::scope::Scope;
-use sentry_span_table::table::SpanTable;
+use sentry_scope::Scope;
+use sentry_span_table::SpanTable;
 use sentry_trace::headers::TraceHeadersIter;
 use std::alloc::Global;
 

@@ -6,9 +6,9 @@ use sentry_base::protocol::{
     TransactionOrSpanKey, Value,
 };
 use sentry_engine::call::{Call, Reply, SpanCall, SpanReply};
-use sentry_hub::hub::Hub;
+use sentry_hub::Hub;
 use sentry_hub::performance::{Span, Transaction, TransactionOrSpan};
-use sentry_lock::core_lock::CoreLock;
+use sentry_lock::CoreLock;
 use sentry_plain::{Text, ValueMap};
 use sentry_trace::headers::TraceHeadersIter;
 use std::alloc::{AllocError, Global};

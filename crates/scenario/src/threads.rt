@@ -1,7 +1,7 @@
 //! The hubs of a thread, as calls that ask for a clock or a current hub take them.
 use sentry_base::clock::Clock;
-use sentry_hub::hub::Hub;
-use sentry_thread_hub::thread_hub::ThreadHub;
+use sentry_hub::Hub;
+use sentry_thread_hub::{Refused, ThreadHub};
 use std::alloc::AllocError;
 
 /// A clock that stands at a moment.
@@ -24,5 +24,7 @@ pub(crate) fn thread_of<L: Drop>(hub: &Hub<L>, moment: u64) -> Result<Thread<L>,
         current: hub.clone()?,
         clock: Stopped(moment),
         generator: (),
+        request: None,
+        refused: Refused::nothing(),
     })
 }

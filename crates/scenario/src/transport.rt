@@ -1,6 +1,6 @@
 //! Transports that keep what they are handed.
 use sentry_base::protocol::{ClientKey, Envelope};
-use sentry_transport::transport::Transport;
+use sentry_transport::Transport;
 use std::alloc::{AllocError, Global};
 use std::sync::{Arc, Mutex, Wait};
 

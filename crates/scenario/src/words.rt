@@ -1,6 +1,6 @@
 //! The words of clients, by which losses come from without.
 use sentry_base::protocol::{Label, LossSource, Losses, Reason, Refusal};
-use sentry_client_reports::client_reports::{Recorder, TransportLossReason};
+use sentry_client_reports::{Recorder, TransportLossReason};
 
 /// The label of a client, and the recorder of its words; none if the client has no DSN, and so no transport that could
 /// lose anything.

@@ -3,7 +3,7 @@ ghost use Rattle.scenario_commands.specs.Losses.{losses_of_kind};
 
 use crate::words::Words;
 use sentry_base::protocol::{Category, LossSource, Losses, Reason};
-use sentry_client_reports::client_reports::TransportLossReason;
+use sentry_client_reports::TransportLossReason;
 
 /// What a line loses of a client, reports of it or sends.
 #[derive(Clone, Copy)]

@@ -1,7 +1,7 @@
 //! The options of a `client` line, each a word `OPTION=VALUE`.
 use crate::words::{number, small};
 use sentry_base::protocol::SampleRate;
-use sentry_options::clientoptions::SessionMode;
+use sentry_options::SessionMode;
 
 /// One option.
 #[derive(Clone, Copy)]

@@ -1,7 +1,7 @@
 //! The options of clients.
 use crate::Shown;
 use crate::lists::{NONE, push_labeled};
-use sentry_options::clientoptions::{
+use sentry_options::{
     ClientOptions, EventSamplingStrategy, PlainOptions, SessionMode, TracesSamplingStrategy,
 };
 use std::alloc::AllocError;

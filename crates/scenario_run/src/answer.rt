@@ -5,8 +5,8 @@ use sentry_base::protocol::{
     ClientKey, ClientReport, Envelope, Event, Refusal, SpanId, SpanStatus, TraceContext,
     TransactionOrSpanKey, Uuid, ValueMap,
 };
-use sentry_engine::engine::Out;
-use sentry_options::clientoptions::ClientOptions;
+use sentry_engine::Out;
+use sentry_options::ClientOptions;
 use sentry_plain::{Boxed, Items, Shared};
 use sentry_texts::dsn::{Dsn, ParseDsnError};
 use sentry_trace::headers::{HeaderParseError, TracePropagationContext};

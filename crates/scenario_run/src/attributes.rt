@@ -5,7 +5,7 @@ use crate::scenario::Scenario;
 use scenario_commands::attributes::AttributeWords;
 use sentry_base::protocol::LogAttribute;
 use sentry_plain::TextMap;
-use sentry_scope::scope::Scope;
+use sentry_scope::Scope;
 use std::alloc::{AllocError, Global};
 
 /// The attributes of a log or a metric whose line names one of them, or none.

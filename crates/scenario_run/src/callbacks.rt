@@ -6,9 +6,7 @@ ghost use Rattle.scenario_run.specs.Callbacks.{rate_of_decision, rate_by_name, r
 
 use sentry_base::callbacks::{BreadcrumbCallback, EventCallback, LogCallback, MetricCallback};
 use sentry_base::protocol::{Breadcrumb, Context, Event, Log, Metric, SampleRate};
-use sentry_options::clientoptions::{ClientCallbacks, PlainOptions};
-use sentry_options::integration::Integration;
-use sentry_options::sampler::TracesSampler;
+use sentry_options::{ClientCallbacks, Integration, PlainOptions, TracesSampler};
 use sentry_plain::Text;
 use sentry_trace::performance::TransactionContext;
 use std::alloc::{AllocError, Global};

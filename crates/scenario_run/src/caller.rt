@@ -4,10 +4,10 @@ use crate::callbacks::{Callbacks, Handler};
 use crate::fault::Failure;
 use crate::scenario::Scenario;
 use sentry_base::protocol::{HubKey, Refusal};
+use sentry_engine::Engine;
 use sentry_engine::call::{
     Answer as CallAnswer, Call, ClientCall, HubCall, Reply, SpanCall, SpanReply,
 };
-use sentry_engine::engine::Engine;
 use sentry_trace::headers::TraceHeadersIter;
 
 /// The calls that commands make.

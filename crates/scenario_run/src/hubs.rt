@@ -7,7 +7,7 @@ use crate::scenario::{Scenario, client_key, hub_key};
 use scenario_commands::hubs::HubCommand;
 use sentry_engine::call::{Call, HubCall};
 use sentry_plain::Boxed;
-use sentry_scope::scope::Scope;
+use sentry_scope::Scope;
 
 impl<E: Caller> Scenario<E> {
     /// Does a command on hubs.

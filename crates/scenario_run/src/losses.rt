@@ -6,7 +6,7 @@ use crate::scenario::{Scenario, client_key};
 use scenario_commands::losses::{Kind, LossCommand};
 use scenario_commands::quantities::losses_of_words;
 use sentry_base::protocol::{Envelope, Losses};
-use sentry_client_reports::client_reports::{LossWords, TransportLossReason};
+use sentry_client_reports::{LossWords, TransportLossReason};
 use sentry_engine::call::{Call, ClientCall};
 use sentry_plain::Boxed;
 

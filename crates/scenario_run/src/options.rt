@@ -4,7 +4,7 @@ use crate::callbacks::{
 };
 use scenario_commands::options::{ClientOption, Filter, OptionWords, PlainOption};
 use sentry_base::protocol::{OrganizationId, Refusal};
-use sentry_options::clientoptions::ClientOptions;
+use sentry_options::ClientOptions;
 use sentry_plain::Text;
 use std::alloc::Global;
 

@@ -6,7 +6,7 @@ use crate::lines::next_line;
 use crate::print::{Envelopes, Printed};
 use crate::scenario::{Scenario, TAG};
 use sentry_base::protocol::Refusal;
-use sentry_engine::engine::Engine;
+use sentry_engine::Engine;
 use std::alloc::Global;
 use std::io::{BufRead, Write};
 

@@ -10,7 +10,7 @@ use scenario_commands::scopes::{Entry, Identity, Role, ScopeChange, ScopeCommand
 use sentry_base::protocol::{Attachment, Context, Fresh, User, Value, ValueMap};
 use sentry_engine::call::HubCall;
 use sentry_plain::{Items, Text};
-use sentry_scope::scope::ScopeEdit;
+use sentry_scope::ScopeEdit;
 use std::alloc::{AllocError, Global};
 
 /// The words of a text. The empty text has none.
