@@ -1,4 +1,4 @@
-"""The log tools/tried-edits.txt: what the prover said of each edit of crates/NAME/wrong, when, and on what text.
+"""The log tools/tried-edits/NAME.txt: what the prover said of each edit of crates/NAME/wrong, when, and on what text.
 
 A line is CRATE/EDIT, the verdict, the date (UTC), two sums and, of a refused edit, what the prover said first. The first
 sum is of the edit and the sources of its crate, the second of the sources of all crates below. A line is of the present
@@ -14,11 +14,11 @@ from collections import namedtuple
 
 from sources import TOP, crate_lines, read
 
-LOG = "tools/tried-edits.txt"
+LOG = "tools/tried-edits"
 VERDICTS = ("refused", "proved", "does-not-compile")
 SOURCES = ("src", "specs", "proofs")
 LINE = re.compile(r"(\w+/\w+) +(\S+) +(\d{4}-\d\d-\d\d) +([0-9a-f]{10}) +([0-9a-f]{10})(?: +(.*))?")
-HEAD = """# When and on what text each edit of crates/NAME/wrong was last tried (tests/edit_log.py has the form of a line).
+HEAD = """# When and on what text each edit of wrong/ was last tried (tests/edit_log.py has the form of a line).
 # Written by tools/try-edits.
 """
 # What tells the age of an edit's line.
@@ -97,36 +97,44 @@ def short_sum(values):
     return hashlib.sha256(repr(values).encode()).hexdigest()[:10]
 
 
-def lines_of(text):
-    """What was tried, by CRATE/EDIT, and the lines that can't be read."""
+def lines_of(crate, text):
+    """What was tried of a crate, by CRATE/EDIT, and the lines that can't be read."""
     found, bad = {}, []
     for line in text.split("\n"):
         if line and not line.startswith("#"):
             parts = LINE.fullmatch(line)
-            if parts and parts[2] in VERDICTS and parts[1] not in found:
+            if parts and parts[2] in VERDICTS and parts[1] not in found and parts[1].startswith(f"{crate}/"):
                 found[parts[1]] = Tried(*parts.groups()[1:])
             else:
                 bad.append(line)
     return found, bad
 
 
-def read_log(top=TOP):
-    """The log of a work tree, empty where there is none."""
-    return lines_of(read(f"{top}/{LOG}")) if os.path.isfile(f"{top}/{LOG}") else ({}, [])
+def read_log(top=TOP, crate="*"):
+    """The log of a work tree, or of a crate of it, empty where there is none."""
+    found, bad = {}, []
+    for path in sorted(glob.glob(f"{top}/{LOG}/{crate}.txt")):
+        of_file, bad_of_file = lines_of(os.path.basename(path).removesuffix(".txt"), read(path))
+        found |= of_file
+        bad += bad_of_file
+    return found, bad
 
 
 def write_line(key, tried, top=TOP):
     """Writes an edit's line in place of its older one, and leaves out the lines of edits that no longer stand."""
-    folder = os.open(f"{top}/tools", os.O_RDONLY)
+    crate = key.partition("/")[0]
+    os.makedirs(f"{top}/{LOG}", exist_ok=True)
+    folder = os.open(f"{top}/{LOG}", os.O_RDONLY)
     try:
         # (another run may write too)
         fcntl.flock(folder, fcntl.LOCK_EX)
-        log = read_log(top)[0] | {key: tried}
+        log = read_log(top, crate)[0] | {key: tried}
         here = {key_of(it) for it in edits_to_try(top)}
         lines = [" ".join(filter(None, (it, *log[it]))) for it in sorted(log) if it in here]
-        with open(f"{top}/{LOG}.new", "w", encoding="utf-8") as file:
+        path = f"{top}/{LOG}/{crate}.txt"
+        with open(f"{path}.new", "w", encoding="utf-8") as file:
             file.write(HEAD + "".join(f"{it}\n" for it in lines))
-        os.replace(file.name, f"{top}/{LOG}")
+        os.replace(file.name, path)
     finally:
         os.close(folder)
 

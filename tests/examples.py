@@ -1,6 +1,6 @@
-"""The examples in examples/: what each gives to its program, and what the program must print.
+"""The examples in the folders of examples/: what each gives to its program, and what the program must print.
 
-NAME.scenario and NAME.replay are what the program of that name reads. NAME.out is what it must print, NAME.err what it
+No two have one name. NAME.scenario and NAME.replay are what the program of that name reads. NAME.out is what it must print, NAME.err what it
 must say on standard error, and NAME.status its exit status; a file that lacks stands for nothing, and for status 0.
 NAME.scenario.bad and NAME.replay.bad list lines of which each is, by itself, a bad command of that program.
 """
@@ -57,7 +57,7 @@ def read(path, otherwise=b""):
 
 
 def plain_example(name, program, path):
-    beside = os.path.join(FOLDER, name)
+    beside = os.path.join(os.path.dirname(path), name)
     wanted = Run(int(read(beside + ".status", b"0")), read(beside + ".out"), read(beside + ".err"))
     return Example(name, program, read(path), wanted)
 
@@ -71,14 +71,22 @@ def bad_lines(name, program, path):
             yield Example(f"{name}.bad line {number}", program, whole, wanted)
 
 
+def stem(path):
+    """The path of a file up to the first dot of its name."""
+    folder, name = os.path.split(path)
+    return os.path.join(folder, name.partition(".")[0])
+
+
 def stop_on_strays(inputs):
-    """Stops where two inputs share a name, and so what they must print, or where a file belongs to no input."""
-    names = [os.path.basename(it).partition(".")[0] for it in inputs]
+    """Stops where two inputs share a name, or where a file lies beside no input of its name."""
+    stems = [stem(it) for it in inputs]
+    names = [os.path.basename(it) for it in stems]
     shared = {it for it in names if names.count(it) > 1}
-    others = {it for it in os.listdir(FOLDER)} - {os.path.basename(it) for it in inputs}
-    strays = {it for it in others if it.partition(".")[0] not in names or not it.endswith((".out", ".err", ".status"))}
+    others = {os.path.join(at, it) for at, _, found in os.walk(FOLDER) for it in found} - set(inputs)
+    strays = {it for it in others if stem(it) not in stems or not it.endswith((".out", ".err", ".status"))}
     if shared or strays:
-        sys.exit(f"examples/: no input, or more than one, for {', '.join(sorted(shared | strays))}")
+        told = sorted(shared | {os.path.relpath(it, FOLDER) for it in strays})
+        sys.exit(f"examples/: no input, or more than one, for {', '.join(told[:10])}")
 
 
 def stop_without_programs(found):
@@ -94,7 +102,7 @@ def stop_without_programs(found):
 def listed(names):
     """The examples, by name; those with these names alone, if there are any."""
     endings = [f".{program}{kind}" for program in PROGRAMS for kind in ("", ".bad")]
-    inputs = sorted(path for end in endings for path in glob.glob(os.path.join(FOLDER, "*" + end)))
+    inputs = sorted(path for end in endings for path in glob.glob(os.path.join(FOLDER, "*", "*" + end)))
     stop_on_strays(inputs)
     found = []
     for path in inputs:
@@ -150,11 +158,11 @@ def files_of(folder):
     return {name: read(os.path.join(folder, name)) for name in sorted(os.listdir(folder))}
 
 
-def run(program, arguments=(), **streams):
-    """What a run of the program gives, or in words why there is none."""
-    given = {"stdout": subprocess.PIPE, "stderr": subprocess.PIPE, **streams}
+def run(program, arguments=(), **given):
+    """What a run of the program gives, or in words why there is none. It has no variables, unless `env` is given."""
+    given = {"stdout": subprocess.PIPE, "stderr": subprocess.PIPE, "env": {}, **given}
     try:
-        ran = subprocess.run([program_path(program), *arguments], timeout=SECONDS, env={}, **given)
+        ran = subprocess.run([program_path(program), *arguments], timeout=SECONDS, **given)
     except subprocess.TimeoutExpired:
         return f"it had not ended after {SECONDS} seconds"
     return Run(ran.returncode, ran.stdout or b"", ran.stderr)

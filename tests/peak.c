@@ -3,6 +3,8 @@
 #include <malloc.h>
 #include <stdio.h>
 #include <stdlib.h>
+#include <sys/syscall.h>
+#include <unistd.h>
 
 extern void *__libc_malloc(size_t), *__libc_calloc(size_t, size_t), *__libc_realloc(void *, size_t);
 extern void __libc_free(void *);
@@ -34,4 +36,10 @@ void free(void *block) {
 __attribute__((destructor)) static void end(void) {
     const char *tells = getenv("TELLS");
     if (tells) dprintf(atoi(tells), "%zu", most);
+}
+
+// A program that may have threads ends by this, which runs no destructors.
+void _exit(int status) {
+    end();
+    for (;;) syscall(SYS_exit_group, status);
 }

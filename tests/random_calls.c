@@ -1,5 +1,6 @@
 // Makes 10,000 random calls of the library, or as many as its argument says, with stale and wild numbers and texts that are
-// no texts. An open engine must answer a number below 12, and a closed one 12. tests/c_interface writes cases.h.
+// no texts; with a second argument an empty text is null. An open engine must answer a number below 12, and a closed one 12.
+// tests/c_interface writes cases.h.
 #include "dochirwa.h"
 #include <stdio.h>
 #include <stdlib.h>
@@ -23,6 +24,9 @@ static const char *texts[] = {
     "internal_error",
     "0123456789abcdef0123456789abcdef-0123456789abcdef-1",
     "dsn=https://k@h/1\nlogs=1\nmetrics=1\ndrop_events=0\ndrop_breadcrumbs=\ndrop_logs={\ndrop_metrics=a",
+    "0.5",
+    "{\"exception\":[{\"type\":\"T\",\"stacktrace\":{\"frames\":[{}]}},{\"type\":\"U\"}],\"platform\":\"p\",\"sdk\":{\"name\":\"n\",\"version\":\"v\"}}",
+    "{\"stacktrace\":{\"frames\":[]}}",
 };
 enum { OPTIONS = 9 };
 
@@ -48,7 +52,8 @@ static uint64_t below(uint64_t n) { return (next() >> 8) % n; }
 static uint64_t wild(void) { return below(8) ? below(6) : below(3) ? next() : UINT64_MAX - below(3); }
 
 // The text picked for an argument, and its length.
-static const uint8_t *pick(int at) { return (const uint8_t *)picked[at]; }
+static bool is_null_for_empty;
+static const uint8_t *pick(int at) { return is_null_for_empty && !*picked[at] ? NULL : (const uint8_t *)picked[at]; }
 static size_t size(int at) { return strlen(picked[at]); }
 
 static const dochirwa_fresh *fresh(void) {
@@ -57,11 +62,15 @@ static const dochirwa_fresh *fresh(void) {
     return &it;
 }
 
-// `one_of_all` makes one of all calls.
+// `one_of_all` makes one of all calls on an engine, and `one_without_engine` one of the others.
 #include "cases.h"
 
+static void pick_all(void) {
+    for (int at = 0; at < MOST_TEXTS; at++) picked[at] = texts[below(4) ? below(sizeof texts / sizeof *texts) : 0];
+}
+
 static uint32_t call(void) {
-    for (int at = 0; at < MOST_TEXTS; at++) picked[at] = texts[below(sizeof texts / sizeof *texts)];
+    pick_all();
     return one_of_all();
 }
 
@@ -83,6 +92,8 @@ static void open_engine(void) {
 
 int main(int count, char **words) {
     long left = count > 1 ? atol(words[1]) : CALLS, done = 0;
+    uint64_t sum = 0;
+    is_null_for_empty = count > 2;
     while (left-- > 0) {
         if (below(400) == 0) dochirwa_free(&engine);
         if (engine.at == NULL) {
@@ -94,8 +105,14 @@ int main(int count, char **words) {
         uint32_t answer = call();
         must(answer < 12, answer);
         done += answer == 0;
+        sum = (sum ^ answer) * 1099511628211u + number + flag + length + id.low;
+        pick_all();
+        answer = one_without_engine();
+        must(answer < 12, answer);
+        sum = (sum ^ answer) * 1099511628211u + length;
+        for (size_t at = 0; at < sizeof room; at++) sum = (sum ^ room[at]) * 1099511628211u;
     }
     dochirwa_free(&engine);
     must(done > 100 || count > 1, 0);
-    printf("%ld calls were made\n", done);
+    printf("%ld calls were made, with the sum %016llx of what they answered\n", done, (unsigned long long)sum);
 }

@@ -1,9 +1,23 @@
-"""A receiver of Sentry's envelopes, written from the rules of the format: a line of JSON, then items up to the end."""
+"""A receiver of Sentry's envelopes, written from the rules of the format: a line of JSON, then items up to the end. No
+object of JSON may have a name twice."""
 import json
 
 
 class NotAnEnvelope(ValueError):
     """Bytes that break a rule of the format."""
+
+
+def of_distinct_names(members):
+    """An object of JSON, whose members have a name each."""
+    names = [name for name, _ in members]
+    if len(set(names)) < len(names):
+        raise NotAnEnvelope(f"names come twice among {names}")
+    return dict(members)
+
+
+def read_json(data):
+    """A value of JSON in which no object has a name twice. ValueError where there is none."""
+    return json.loads(data, object_pairs_hook=of_distinct_names)
 
 
 def line_at(data, start):
@@ -17,7 +31,7 @@ def line_at(data, start):
 def object_at(data, start):
     """The JSON object on a line, and where it goes on."""
     line, start = line_at(data, start)
-    found = json.loads(line)
+    found = read_json(line)
     if not isinstance(found, dict):
         raise NotAnEnvelope(f"{line!r} is no object")
     return found, start
@@ -51,6 +65,6 @@ def read_item(head, payload):
         raise NotAnEnvelope(f"{head} has {len(payload)} bytes")
     if not isinstance(head.get("type"), str):
         raise NotAnEnvelope(f"{head} has no type")
-    if head["type"] != "attachment" and not isinstance(json.loads(payload), dict):
+    if head["type"] != "attachment" and not isinstance(read_json(payload), dict):
         raise NotAnEnvelope(f"the payload of {head} is no object")
     return head["type"]

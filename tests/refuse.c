@@ -1,21 +1,15 @@
 // Preloaded into a program, refuses one of its requests for memory: the REFUSE-th since its start. At that moment it
-// writes a byte to the descriptor TELLS. A program that goes on for longer than SECONDS is stopped.
+// tells so.
+#include "serve.h"
 #include <errno.h>
 #include <stdlib.h>
-#include <unistd.h>
-
-enum { SECONDS = 20 };
 
 extern void *__libc_malloc(size_t), *__libc_calloc(size_t, size_t), *__libc_realloc(void *, size_t);
 
-static long left, tells;
+static long left;
 
-static long number(const char *name) { return getenv(name) ? atol(getenv(name)) : 0; }
-
-__attribute__((constructor)) static void start(void) {
-    alarm(SECONDS);
-    tells = number("TELLS");
-    left = number("REFUSE");
+void begin(void) {
+    left = setting("REFUSE") ? atol(setting("REFUSE")) : 0;
 }
 
 // Whether this is the request, of whichever thread. The C library itself relies on errno where its request for the memory
@@ -23,8 +17,7 @@ __attribute__((constructor)) static void start(void) {
 static int is_refused(void) {
     if (__atomic_load_n(&left, __ATOMIC_RELAXED) <= 0 || __atomic_sub_fetch(&left, 1, __ATOMIC_RELAXED) != 0)
         return 0;
-    if (write((int)tells, "!", 1) != 1)
-        return 0;
+    tell();
     errno = ENOMEM;
     return 1;
 }

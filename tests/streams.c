@@ -1,26 +1,23 @@
 // Preloaded into a program, disturbs one of its streams: standard input (STREAM 0), by its reads, or standard output
 // (STREAM 1), by its writes. The first AFTER bytes move as ever. Then a call fails (THEN fail), is interrupted once
 // (interrupt), moves no byte though it succeeds (none), or, from there on, moves one byte (one).
-// A program that goes on for longer than SECONDS is stopped.
 #define _GNU_SOURCE
+#include "serve.h"
 #include <errno.h>
 #include <stdlib.h>
 #include <string.h>
 #include <sys/syscall.h>
 #include <unistd.h>
 
-enum { SECONDS = 20 };
-
 static int stream = -1, is_interrupted;
 static size_t left;
 static const char *then = "";
 
-__attribute__((constructor)) static void start(void) {
-    alarm(SECONDS);
-    if (!getenv("STREAM") || !getenv("AFTER") || !getenv("THEN")) return;
-    stream = atoi(getenv("STREAM"));
-    left = strtoul(getenv("AFTER"), NULL, 10);
-    then = getenv("THEN");
+void begin(void) {
+    if (!setting("STREAM") || !setting("AFTER") || !setting("THEN")) return;
+    stream = atoi(setting("STREAM"));
+    left = strtoul(setting("AFTER"), NULL, 10);
+    then = setting("THEN");
 }
 
 static ssize_t fail(int number) {

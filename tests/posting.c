@@ -1,0 +1,74 @@
+/* Makes the calls that the lines of its standard input say over a reporter of dochirwa_curl.h, and prints an answer for each:
+ * `error TEXT`, `log TEXT`, `transaction CHILDREN`, `session`, `drop TEXT` (of what has it nothing is posted), `flush
+ * MILLISECONDS` and `close MILLISECONDS`. Its argument is the DSN. tests/c_interface runs it. */
+#include "dochirwa_curl.h"
+#include <stdio.h>
+#include <stdlib.h>
+
+static dochirwa_curl *reporter;
+
+static bool keeps(void *given, const uint8_t *envelope, size_t length) {
+    const char *text = (const char *)given;
+    size_t size = strlen(text);
+    for (; length >= size; envelope++, length--)
+        if (memcmp(envelope, text, size) == 0) return false;
+    return true;
+}
+
+static uint32_t end(dochirwa *engine, bool is_span, uint64_t number) {
+    uint32_t held;
+    uint64_t now = dochirwa_curl_fresh().now;
+    if (is_span) return dochirwa_end_span(engine, number, now, &held);
+    return dochirwa_end_transaction(engine, number, dochirwa_curl_hub(reporter), now, &held);
+}
+
+static uint32_t transaction(dochirwa *engine, int children) {
+    uint64_t number, child;
+    dochirwa_fresh fresh = dochirwa_curl_fresh();
+    uint32_t fault = dochirwa_start_transaction(engine, dochirwa_curl_hub(reporter), DOCHIRWA_TEXT("a \"spans\":[ name"), DOCHIRWA_TEXT("op"), &fresh, &number);
+    if (!fault) fault = dochirwa_set_span_data(engine, false, number, DOCHIRWA_TEXT("spans"), DOCHIRWA_TEXT("[{},{},{}]"));
+    while (!fault && children-- > 0) {
+        fresh = dochirwa_curl_fresh();
+        fault = dochirwa_start_child(engine, false, number, DOCHIRWA_TEXT("op"), DOCHIRWA_TEXT("{\"type\":\"event\"}"), &fresh, &child);
+        if (!fault) fault = dochirwa_set_span_data(engine, true, child, DOCHIRWA_TEXT("list"), DOCHIRWA_TEXT("[{},[]]"));
+        if (!fault) fault = end(engine, true, child);
+    }
+    return fault ? fault : end(engine, false, number);
+}
+
+static uint32_t call(const char *name, const char *text) {
+    dochirwa_fresh fresh = dochirwa_curl_fresh();
+    dochirwa *engine = dochirwa_curl_lock(reporter);
+    uint64_t hub = dochirwa_curl_hub(reporter);
+    uint32_t fault = 99;
+    if (strcmp(name, "log") == 0) fault = dochirwa_capture_log(engine, hub, DOCHIRWA_LOG_INFO, DOCHIRWA_TEXT(text), NULL, 0, fresh.now);
+    if (strcmp(name, "transaction") == 0) fault = transaction(engine, atoi(text));
+    if (strcmp(name, "session") == 0) {
+        fault = dochirwa_start_session(engine, hub, &fresh);
+        if (!fault) fault = dochirwa_end_session(engine, hub, DOCHIRWA_SESSION_EXITED, fresh.now);
+    }
+    dochirwa_curl_unlock(reporter);
+    return fault;
+}
+
+int main(int count, char **words) {
+    char options[300], line[300], dropped[300] = "", name[20], text[280];
+    snprintf(options, sizeof options, "dsn=%s\nrelease=r\ntraces=1\n", count > 1 ? words[1] : "");
+    uint32_t fault = dochirwa_curl_open(&reporter, options, "posting/1");
+    printf("%u\n", fault);
+    while (!fault && fflush(stdout) == 0 && fgets(line, sizeof line, stdin)) {
+        text[0] = 0;
+        if (sscanf(line, "%19s %279[^\n]", name, text) < 1) continue;
+        if (strcmp(name, "error") == 0) printf("%u\n", dochirwa_curl_error(reporter, "a \"type\"", text, NULL));
+        else if (strcmp(name, "drop") == 0) {
+            snprintf(dropped, sizeof dropped, "%s", text);
+            dochirwa_curl_before_send(reporter, keeps, dropped);
+            printf("0\n");
+        } else if (strcmp(name, "flush") == 0) printf("%d\n", dochirwa_curl_flush(reporter, (uint32_t)atoi(text)));
+        else if (strcmp(name, "close") == 0) {
+            printf("%d\n", dochirwa_curl_close(reporter, (uint32_t)atoi(text)));
+            return 0;
+        } else printf("%u\n", call(name, text));
+    }
+    return 1;
+}
