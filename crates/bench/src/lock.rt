@@ -4,7 +4,7 @@ use crate::hub::options;
 use sentry_core::engine::Engine;
 use sentry_core::protocol::{Draw, Event, Fresh, Label, Refusal, SpanId, TraceId, Uuid};
 use sentry_core::{BoxedGate, BoxedTransport, NoOpTransport, SharedCore, Text};
-use sentry_lock::{Client, CoreLock};
+use sentry_lock::{Client, ClientSetup, CoreLock};
 use sentry_scope::Scope;
 use std::alloc::{AllocError, Global};
 
@@ -69,16 +69,25 @@ fn boxed_transport(alloc: Global) -> Result<BoxedTransport, AllocError> {
     Ok(Box::new(alloc, NoOpTransport)?)
 }
 
+// Adds the client, and drops it and a clone of it.
+fn add_clone_and_drop<L: CoreLock>(
+    setup: ClientSetup<L, L::Callbacks>,
+    transport: L::Transport,
+    now: u64,
+) -> Result<(), Refusal> {
+    let client = Client::with_options(setup, Some(transport), now)?;
+    let clone = client.clone_client(now)?;
+    client.drop_client()?;
+    clone.drop_client()
+}
+
 /// Adds so many clients to a core under its lock, and drops each and its clone before the next. Answers how many came, or 0
 /// if the core still holds one.
 pub fn add_and_drop(wait: BoxedGate, alloc: Global, turns: u64) -> Result<u64, Refusal> {
     let core: SharedCore = SharedCore::new(wait, alloc, 0)?;
     for now in 0..turns {
         let setup = core.client_setup(options(alloc)?)?;
-        let client = Client::with_options(setup, Some(boxed_transport(alloc)?), now)?;
-        let clone = client.clone_client(now)?;
-        client.drop_client()?;
-        clone.drop_client()?;
+        add_clone_and_drop(setup, boxed_transport(alloc)?, now)?;
     }
     let holds_none = core.held().clients == 0;
     Ok(if holds_none { turns } else { 0 })
