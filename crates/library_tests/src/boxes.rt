@@ -7,6 +7,8 @@ use sentry_core::{
     MetricCallback, PlainOptions, TracesSampler, TransactionContext,
 };
 use std::alloc::{AllocError, Global};
+use std::sync::Arc;
+use std::sync::atomic::{AtomicU64, Ordering};
 
 pub(crate) const DSN: &str = "https://public@sentry.invalid/1";
 
@@ -14,56 +16,111 @@ pub(crate) const DSN: &str = "https://public@sentry.invalid/1";
 #[derive(Clone, Copy)]
 pub(crate) struct Plan {
     pub(crate) processor: Option<u64>,
-    pub(crate) integrations: [Option<u64>; 2],
+    pub(crate) integrations: [Option<u64>; 3],
     pub(crate) before_send: Option<u64>,
 }
 
-/// Options with the callbacks of a plan but the processor. The DSN is taken in the set-up.
-pub(crate) fn options_of(alloc: Global, plan: &Plan) -> Result<ClientOptions, Refusal> {
-    let [first, second] = plan.integrations;
-    let options = ClientOptions::from_dsn(alloc, DSN)?;
-    let options = options.before_send(boxed_adds(alloc, plan.before_send)?)?;
-    let options = options.add_integration(boxed_multiplies(alloc, first, None)?)?;
-    options.add_integration(boxed_multiplies(alloc, second, None)?)
+/// The calls of callbacks, a digit each, in order: 1 is the processor, 2 to 4 are the integrations, 5 is `before_send`,
+/// and 7 to 9 are the set-ups of the integrations. Of the event of `add_client` an integration notes the moment instead.
+#[derive(Drop)]
+pub(crate) struct Calls {
+    digits: AtomicU64,
 }
 
-/// Adds a number to the event's moment; without a number it drops the event. With 0 it is refused its memory, so that a
-/// call of it shows.
+impl Calls {
+    pub(crate) fn new(alloc: Global) -> Result<Arc<Calls>, AllocError> {
+        let digits = AtomicU64::new(0);
+        Ok(Arc::new(alloc, Calls { digits })?)
+    }
+
+    fn note(&self, digit: u64) {
+        let before = self.digits.load(Ordering::SeqCst);
+        let digits = before.wrapping_mul(10).wrapping_add(digit);
+        self.digits.store(digits, Ordering::SeqCst);
+    }
+
+    /// The digits so far, which begin anew.
+    pub(crate) fn take(&self) -> u64 {
+        self.digits.swap(0, Ordering::SeqCst)
+    }
+}
+
+/// Options with the callbacks of a plan but the processor. The DSN is taken in the set-up.
+pub(crate) fn options_of(
+    alloc: Global,
+    plan: &Plan,
+    calls: &Arc<Calls>,
+) -> Result<ClientOptions, Refusal> {
+    let [first, second, third] = plan.integrations;
+    let options = ClientOptions::from_dsn(alloc, DSN)?;
+    let options = options.before_send(boxed_adds(alloc, plan.before_send, 5, calls.clone()?)?)?;
+    let options = add_multiplies(alloc, options, first, 2, calls)?;
+    let options = add_multiplies(alloc, options, second, 3, calls)?;
+    add_multiplies(alloc, options, third, 4, calls)
+}
+
+// With an integration more, which takes the DSN and multiplies by a factor.
+fn add_multiplies(
+    alloc: Global,
+    options: ClientOptions,
+    factor: Option<u64>,
+    digit: u64,
+    calls: &Arc<Calls>,
+) -> Result<ClientOptions, Refusal> {
+    let integration = boxed_multiplies(alloc, factor, None, digit, calls.clone()?)?;
+    options.add_integration(integration)
+}
+
+/// Adds a number to the event's moment; without a number it drops the event.
 #[derive(Drop)]
-struct Adds(Option<u64>);
+struct Adds {
+    number: Option<u64>,
+    digit: u64,
+    calls: Arc<Calls>,
+}
 
 impl EventCallback for Adds {
     ghost use Rattle.std.specs.Prelude.{option_map, ◌+◌, ◌%◌, ◌^◌};
 
     ghost gives = { λ s event. option_map
-        (λ number. record event { timestamp = (event.timestamp + number) % 2 ^ 64 }) s.0 };
+        (λ number. record event { timestamp = (event.timestamp + number) % 2 ^ 64 }) s.number };
 
     fn call(&self, mut event: Event) -> Result<Option<Event>, AllocError> {
-        let Some(number) = self.0 else {
+        self.calls.note(self.digit);
+        let Some(number) = self.number else {
             return Ok(None);
         };
-        if number == 0 {
-            return Err(AllocError);
-        }
         event.timestamp = event.timestamp.wrapping_add(number);
         Ok(Some(event))
     }
 }
 
+/// A callback that adds a number. A digit tells of it.
 pub(crate) fn boxed_adds(
     alloc: Global,
     number: Option<u64>,
+    digit: u64,
+    calls: Arc<Calls>,
 ) -> Result<BoxedEventCallback, AllocError> {
-    let callback: BoxedEventCallback = Box::new(alloc, Adds(number))?;
+    let callback: BoxedEventCallback = Box::new(
+        alloc,
+        Adds {
+            number,
+            digit,
+            calls,
+        },
+    )?;
     Ok(callback)
 }
 
-/// Gives the options its DSN, or none. Multiplies the event's moment by its factor; without a factor it drops the
-/// event. By 0 it is refused its memory, but for the event of `add_client`, which alone has the nil id.
+/// Gives the options its DSN, or none. Multiplies the event's moment by its factor; without a factor it drops the event.
+/// The event of `add_client` alone has the nil id.
 #[derive(Drop)]
 struct Multiplies {
     factor: Option<u64>,
     dsn: Option<Dsn>,
+    digit: u64,
+    calls: Arc<Calls>,
 }
 
 impl Integration for Multiplies {
@@ -81,6 +138,7 @@ impl Integration for Multiplies {
     }
 
     fn setup(&self, options: &mut PlainOptions) -> Result<(), AllocError> {
+        self.calls.note(self.digit.wrapping_add(5));
         options.dsn = self.dsn.clone()?;
         Ok(())
     }
@@ -90,30 +148,50 @@ impl Integration for Multiplies {
         mut event: Event,
         _options: &PlainOptions,
     ) -> Result<Option<Event>, AllocError> {
+        self.note_event(&event);
         let Some(factor) = self.factor else {
             return Ok(None);
         };
-        if factor == 0 && !event.event_id.is_nil() {
-            return Err(AllocError);
-        }
         event.timestamp = event.timestamp.wrapping_mul(factor);
         Ok(Some(event))
     }
 }
 
+impl Multiplies {
+    fn note_event(&self, event: &Event) {
+        if event.event_id.is_nil() {
+            self.calls.note(event.timestamp);
+        } else {
+            self.calls.note(self.digit);
+        }
+    }
+}
+
+/// An integration that gives a DSN, or none, and multiplies by a factor. A digit tells of it.
 fn boxed_multiplies(
     alloc: Global,
     factor: Option<u64>,
     dsn: Option<Dsn>,
+    digit: u64,
+    calls: Arc<Calls>,
 ) -> Result<BoxedIntegration, AllocError> {
-    let integration: BoxedIntegration = Box::new(alloc, Multiplies { factor, dsn })?;
+    let integration: BoxedIntegration = Box::new(
+        alloc,
+        Multiplies {
+            factor,
+            dsn,
+            digit,
+            calls,
+        },
+    )?;
     Ok(integration)
 }
 
 /// An integration that gives a DSN.
 pub(crate) fn giving(alloc: Global) -> Result<BoxedIntegration, Refusal> {
     let dsn = Dsn::parse(alloc, DSN)?;
-    Ok(boxed_multiplies(alloc, Some(2), Some(dsn))?)
+    let calls = Calls::new(alloc)?;
+    Ok(boxed_multiplies(alloc, Some(2), Some(dsn), 2, calls)?)
 }
 
 /// Sets both limits of a client: batches of nothing, and so many spans.

@@ -1,11 +1,11 @@
 //! Engines over callbacks in boxes, as users of the library hand them in. What acts on an engine is generic in its
 //! callbacks, which is proved faster than over boxes.
-use crate::boxes::{DSN, Plan, boxed_adds, boxed_limits, giving, options_of, other_options};
+use crate::boxes::{Calls, DSN, Plan, boxed_adds, boxed_limits, giving, options_of, other_options};
 use sentry_base::callbacks::EventCallback;
 use sentry_core::metrics::{IntoProtocolMetric, gauge};
 use sentry_core::protocol::{
-    Breadcrumb, ClientKey, Draw, EnvelopeItem, Event, Fresh, HubKey, Label, Log, LogLevel, Metric,
-    Refusal, SpanId, TraceId, TransactionOrSpanKey, Unit, Uuid,
+    Breadcrumb, Category, ClientKey, Draw, EnvelopeItem, Event, Fresh, HubKey, Label, Log,
+    LogLevel, Metric, Reason, Refusal, SpanId, TraceId, TransactionOrSpanKey, Unit, Uuid,
 };
 use sentry_core::{BoxedEventCallback, ClientCallbacks, Few, Level, TransactionContext};
 use sentry_engine::{Engine, Out};
@@ -30,16 +30,13 @@ fn fresh() -> Fresh {
 /// Each callback does its work.
 const COUNTS: Plan = Plan {
     processor: Some(3),
-    integrations: [Some(3), Some(5)],
+    integrations: [Some(2), Some(3), Some(4)],
     before_send: Some(100),
 };
 
-/// Each callback is refused its memory.
-const STARVES: Plan = Plan {
-    processor: Some(0),
-    integrations: [Some(0), Some(0)],
-    before_send: Some(0),
-};
+/// What `add_client` calls then, at moment 1: the set-ups of the integrations, and each integration, with its event as
+/// the one before leaves it.
+const MADE: u64 = 789126;
 
 /// A scope with a processor, a level and a tag.
 fn scope_of<P: Drop>(alloc: Global, processor: P) -> Result<Scope<P>, Refusal> {
@@ -95,48 +92,82 @@ fn capture_by_client<P: EventCallback + Drop, C: Callbacks>(
 enum By {
     /// A hub of a client.
     Hub { transport: bool },
-    /// A client with a transport.
-    Client,
+    /// A clone of a client with a transport.
+    Clone,
     /// A hub without a client.
     HubAlone,
 }
 
-/// The outcome of such an event on a new engine.
+/// The outcome of such an event on a new engine, for which reason errors are lost and how many, and what is called by
+/// `add_client` and after it.
+type Found = (Outcome, Option<(Reason, u64)>, [u64; 2]);
+
+/// An outcome with what is lost, if the pending report tells of errors alone.
+fn with_losses<P: Drop, C: Callbacks>(
+    engine: &mut Engine<P, C>,
+    outcome: Outcome,
+    called: [u64; 2],
+) -> Result<Found, Refusal> {
+    let Some(report) = engine.take_report(LABEL)?.reply else {
+        return Ok((outcome, None, called));
+    };
+    let lost = match report.items.as_slice() {
+        [item] => (item.category == Category::Error).then_some((item.reason, item.quantity)),
+        _ => None,
+    };
+    Ok((outcome, lost, called))
+}
+
+/// What such an event comes to on a new engine.
 fn capture_by<P: EventCallback + Drop, C: Callbacks>(
     alloc: Global,
     by: By,
     options: ClientOptions<C>,
     scope: Scope<P>,
-) -> Result<Outcome, Refusal> {
+    calls: &Calls,
+) -> Result<Found, Refusal> {
     let mut engine = Engine::new(alloc, 0);
     match by {
         By::Hub { transport } => {
-            let client = engine.add_client(options, transport, LABEL, 0)?.reply;
-            capture_on_hub(alloc, &mut engine, Some(client), scope)
+            let client = engine.add_client(options, transport, LABEL, 1)?.reply;
+            let made = calls.take();
+            let outcome = capture_on_hub(alloc, &mut engine, Some(client), scope)?;
+            with_losses(&mut engine, outcome, [made, calls.take()])
         }
-        By::Client => {
-            let client = engine.add_client(options, true, LABEL, 0)?.reply;
-            capture_by_client(alloc, &mut engine, client, &scope)
+        By::Clone => {
+            let client = engine.add_client(options, true, LABEL, 1)?.reply;
+            let made = calls.take();
+            let copy = engine.clone_client(client, 2)?.reply;
+            let outcome = capture_by_client(alloc, &mut engine, copy, &scope)?;
+            with_losses(&mut engine, outcome, [made, calls.take()])
         }
-        By::HubAlone => capture_on_hub(alloc, &mut engine, None, scope),
+        By::HubAlone => {
+            let outcome = capture_on_hub(alloc, &mut engine, None, scope)?;
+            Ok((outcome, None, [0, calls.take()]))
+        }
     }
 }
 
 /// The same with the callbacks of a plan.
-fn capture(alloc: Global, by: By, plan: &Plan) -> Result<Outcome, Refusal> {
-    let scope = scope_of(alloc, boxed_adds(alloc, plan.processor)?)?;
-    capture_by(alloc, by, options_of(alloc, plan)?, scope)
+fn capture(alloc: Global, by: By, plan: &Plan) -> Result<Found, Refusal> {
+    let calls = Calls::new(alloc)?;
+    let scope = scope_of(alloc, boxed_adds(alloc, plan.processor, 1, calls.clone()?)?)?;
+    let options = options_of(alloc, plan, &calls)?;
+    capture_by(alloc, by, options, scope, &calls)
 }
 
 #[test]
 fn boxed_callbacks_run_in_order(rt: HostRuntime) -> Result<(), Fail> {
     let alloc = rt.alloc();
-    // the processor, the integrations, the callback: (1 + 3) * 3 * 5 + 100
-    let (id, sent) = (fresh().uuid, Some((160, Level::Warning, 1)));
+    // the processor, the integrations, the callback: (1 + 3) * 2 * 3 * 4 + 100
+    let (id, sent) = (fresh().uuid, Some((196, Level::Warning, 1)));
+    let called = [MADE, 12345];
     let hub = By::Hub { transport: true };
-    assert!(rt; capture(alloc, hub, &COUNTS) == Ok((id, sent, Some(id))));
-    assert!(rt; capture(alloc, By::Client, &COUNTS) == Ok((id, sent, None)));
-    assert!(rt; capture(alloc, By::HubAlone, &COUNTS) == Ok((Uuid::nil(), None, None)));
+    assert!(rt; capture(alloc, hub, &COUNTS) == Ok(((id, sent, Some(id)), None, called)));
+    // a clone sets nothing up
+    assert!(rt; capture(alloc, By::Clone, &COUNTS) == Ok(((id, sent, None), None, called)));
+    let none = (Uuid::nil(), None, None);
+    assert!(rt; capture(alloc, By::HubAlone, &COUNTS) == Ok((none, None, [0, 0])));
     Ok(())
 }
 
@@ -144,25 +175,22 @@ fn boxed_callbacks_run_in_order(rt: HostRuntime) -> Result<(), Fail> {
 fn nothing_runs_after_a_callback_that_drops(rt: HostRuntime) -> Result<(), Fail> {
     let alloc = rt.alloc();
     let hub = By::Hub { transport: true };
-    let dropped = Ok((Uuid::nil(), None, Some(Uuid::nil())));
-    let starved = Err(Refusal::OutOfMemory);
-    // each callback in turn drops the event, after those before it did their work
-    let mut plan = Plan {
-        processor: None,
-        ..STARVES
-    };
-    assert!(rt; capture(alloc, hub, &plan) == dropped);
+    let dropped = (Uuid::nil(), None, Some(Uuid::nil()));
+    let lost = Some((Reason::EventProcessor, 1));
+    // the second of three integrations drops each event; that of `add_client` goes on to the third as it was
+    let mut plan = COUNTS;
+    plan.integrations = [Some(2), None, Some(4)];
+    assert!(rt; capture(alloc, hub, &plan) == Ok((dropped, lost, [789122, 123])));
+    plan.integrations = COUNTS.integrations;
+    plan.processor = None;
+    assert!(rt; capture(alloc, hub, &plan) == Ok((dropped, lost, [MADE, 1])));
     plan.processor = Some(3);
-    assert!(rt; capture(alloc, hub, &plan) == starved);
-    plan.integrations = [None, Some(0)];
-    assert!(rt; capture(alloc, hub, &plan) == dropped);
-    plan.integrations = [Some(3), Some(0)];
-    assert!(rt; capture(alloc, hub, &plan) == starved);
-    plan.integrations = [Some(3), None];
-    assert!(rt; capture(alloc, hub, &plan) == dropped);
+    plan.before_send = None;
+    let lost = Some((Reason::BeforeSend, 1));
+    assert!(rt; capture(alloc, hub, &plan) == Ok((dropped, lost, [MADE, 12345])));
     // without a transport nothing runs
     let hub = By::Hub { transport: false };
-    assert!(rt; capture(alloc, hub, &STARVES) == dropped);
+    assert!(rt; capture(alloc, hub, &plan) == Ok((dropped, None, [MADE, 0])));
     Ok(())
 }
 
@@ -288,12 +316,13 @@ fn facts<P: Drop, C: Callbacks>(
 fn set_up_changes_the_options(rt: HostRuntime) -> Result<(), Fail> {
     let alloc = rt.alloc();
     // a DSN that is taken disables the client; where callbacks run in order, its slot stays occupied
-    let copy = options_of(alloc, &COUNTS)?.clone()?;
+    let calls = Calls::new(alloc)?;
+    let copy = options_of(alloc, &COUNTS, &calls)?.clone()?;
     let found = facts::<BoxedEventCallback, ClientCallbacks>(alloc, copy);
-    assert!(rt; found == Ok((false, false, 2)));
+    assert!(rt; found == Ok((false, false, 3)));
     // a list of integrations replaces those before
     let list = vec![in alloc; giving(alloc)?]?;
-    let replaced = options_of(alloc, &COUNTS)?.integrations(list)?;
+    let replaced = options_of(alloc, &COUNTS, &calls)?.integrations(list)?;
     let found = facts::<BoxedEventCallback, ClientCallbacks>(alloc, replaced);
     assert!(rt; found == Ok((true, true, 1)));
     // a DSN that is given opens no slot
