@@ -20,28 +20,93 @@ pub(crate) struct Plan {
     pub(crate) before_send: Option<u64>,
 }
 
-/// The calls of callbacks, a digit each, in order: 1 is the processor, 2 to 4 are the integrations, 5 is `before_send`,
-/// and 7 to 9 are the set-ups of the integrations. Of the event of `add_client` an integration notes the moment instead.
-#[derive(Drop)]
-pub(crate) struct Calls {
-    digits: AtomicU64,
+/// What callbacks saw since the last look: the moment of the last event, 0 if there was none, and how often integrations
+/// were set up.
+#[derive(Clone, Copy, PartialEq, Debug)]
+pub(crate) struct Seen {
+    pub(crate) processor: u64,
+    pub(crate) integrations: [u64; 3],
+    pub(crate) before_send: u64,
+    pub(crate) set_ups: [u64; 3],
 }
 
-impl Calls {
-    pub(crate) fn new(alloc: Global) -> Result<Arc<Calls>, AllocError> {
-        let digits = AtomicU64::new(0);
-        Ok(Arc::new(alloc, Calls { digits })?)
+/// Nothing.
+pub(crate) const UNSEEN: Seen = Seen {
+    processor: 0,
+    integrations: [0; 3],
+    before_send: 0,
+    set_ups: [0; 3],
+};
+
+/// Notes what one callback sees.
+#[derive(Drop)]
+pub(crate) struct Watch {
+    moment: AtomicU64,
+    set_ups: AtomicU64,
+}
+
+impl Watch {
+    fn new(alloc: Global) -> Result<Arc<Watch>, AllocError> {
+        let moment = AtomicU64::new(0);
+        let set_ups = AtomicU64::new(0);
+        Ok(Arc::new(alloc, Watch { moment, set_ups })?)
     }
 
-    fn note(&self, digit: u64) {
-        let before = self.digits.load(Ordering::SeqCst);
-        let digits = before.wrapping_mul(10).wrapping_add(digit);
-        self.digits.store(digits, Ordering::SeqCst);
+    fn see(&self, event: &Event) {
+        self.moment.store(event.timestamp, Ordering::SeqCst);
     }
 
-    /// The digits so far, which begin anew.
-    pub(crate) fn take(&self) -> u64 {
-        self.digits.swap(0, Ordering::SeqCst)
+    fn count_set_up(&self) {
+        self.set_ups.fetch_add(1, Ordering::SeqCst);
+    }
+
+    fn take_moment(&self) -> u64 {
+        self.moment.swap(0, Ordering::SeqCst)
+    }
+
+    fn take_set_ups(&self) -> u64 {
+        self.set_ups.swap(0, Ordering::SeqCst)
+    }
+}
+
+/// Those of the callbacks of a plan.
+#[derive(Drop)]
+pub(crate) struct Watches {
+    pub(crate) processor: Arc<Watch>,
+    first: Arc<Watch>,
+    second: Arc<Watch>,
+    third: Arc<Watch>,
+    before_send: Arc<Watch>,
+}
+
+impl Watches {
+    pub(crate) fn new(alloc: Global) -> Result<Watches, AllocError> {
+        Ok(Watches {
+            processor: Watch::new(alloc)?,
+            first: Watch::new(alloc)?,
+            second: Watch::new(alloc)?,
+            third: Watch::new(alloc)?,
+            before_send: Watch::new(alloc)?,
+        })
+    }
+
+    /// What they have noted, which begins anew.
+    pub(crate) fn take(&self) -> Seen {
+        let (first, second, third) = (&*self.first, &*self.second, &*self.third);
+        Seen {
+            processor: self.processor.take_moment(),
+            integrations: [
+                first.take_moment(),
+                second.take_moment(),
+                third.take_moment(),
+            ],
+            before_send: self.before_send.take_moment(),
+            set_ups: [
+                first.take_set_ups(),
+                second.take_set_ups(),
+                third.take_set_ups(),
+            ],
+        }
     }
 }
 
@@ -49,14 +114,15 @@ impl Calls {
 pub(crate) fn options_of(
     alloc: Global,
     plan: &Plan,
-    calls: &Arc<Calls>,
+    watches: &Watches,
 ) -> Result<ClientOptions, Refusal> {
     let [first, second, third] = plan.integrations;
     let options = ClientOptions::from_dsn(alloc, DSN)?;
-    let options = options.before_send(boxed_adds(alloc, plan.before_send, 5, calls.clone()?)?)?;
-    let options = add_multiplies(alloc, options, first, 2, calls)?;
-    let options = add_multiplies(alloc, options, second, 3, calls)?;
-    add_multiplies(alloc, options, third, 4, calls)
+    let before_send = boxed_adds(alloc, plan.before_send, &watches.before_send)?;
+    let options = options.before_send(before_send)?;
+    let options = add_multiplies(alloc, options, first, &watches.first)?;
+    let options = add_multiplies(alloc, options, second, &watches.second)?;
+    add_multiplies(alloc, options, third, &watches.third)
 }
 
 // With an integration more, which takes the DSN and multiplies by a factor.
@@ -64,19 +130,16 @@ fn add_multiplies(
     alloc: Global,
     options: ClientOptions,
     factor: Option<u64>,
-    digit: u64,
-    calls: &Arc<Calls>,
+    watch: &Arc<Watch>,
 ) -> Result<ClientOptions, Refusal> {
-    let integration = boxed_multiplies(alloc, factor, None, digit, calls.clone()?)?;
-    options.add_integration(integration)
+    options.add_integration(boxed_multiplies(alloc, factor, None, watch)?)
 }
 
 /// Adds a number to the event's moment; without a number it drops the event.
 #[derive(Drop)]
 struct Adds {
     number: Option<u64>,
-    digit: u64,
-    calls: Arc<Calls>,
+    watch: Arc<Watch>,
 }
 
 impl EventCallback for Adds {
@@ -86,7 +149,7 @@ impl EventCallback for Adds {
         (λ number. record event { timestamp = (event.timestamp + number) % 2 ^ 64 }) s.number };
 
     fn call(&self, mut event: Event) -> Result<Option<Event>, AllocError> {
-        self.calls.note(self.digit);
+        self.watch.see(&event);
         let Some(number) = self.number else {
             return Ok(None);
         };
@@ -95,32 +158,23 @@ impl EventCallback for Adds {
     }
 }
 
-/// A callback that adds a number. A digit tells of it.
+/// A callback that adds a number.
 pub(crate) fn boxed_adds(
     alloc: Global,
     number: Option<u64>,
-    digit: u64,
-    calls: Arc<Calls>,
+    watch: &Arc<Watch>,
 ) -> Result<BoxedEventCallback, AllocError> {
-    let callback: BoxedEventCallback = Box::new(
-        alloc,
-        Adds {
-            number,
-            digit,
-            calls,
-        },
-    )?;
+    let watch = watch.clone()?;
+    let callback: BoxedEventCallback = Box::new(alloc, Adds { number, watch })?;
     Ok(callback)
 }
 
 /// Gives the options its DSN, or none. Multiplies the event's moment by its factor; without a factor it drops the event.
-/// The event of `add_client` alone has the nil id.
 #[derive(Drop)]
 struct Multiplies {
     factor: Option<u64>,
     dsn: Option<Dsn>,
-    digit: u64,
-    calls: Arc<Calls>,
+    watch: Arc<Watch>,
 }
 
 impl Integration for Multiplies {
@@ -138,7 +192,7 @@ impl Integration for Multiplies {
     }
 
     fn setup(&self, options: &mut PlainOptions) -> Result<(), AllocError> {
-        self.calls.note(self.digit.wrapping_add(5));
+        self.watch.count_set_up();
         options.dsn = self.dsn.clone()?;
         Ok(())
     }
@@ -148,7 +202,7 @@ impl Integration for Multiplies {
         mut event: Event,
         _options: &PlainOptions,
     ) -> Result<Option<Event>, AllocError> {
-        self.note_event(&event);
+        self.watch.see(&event);
         let Some(factor) = self.factor else {
             return Ok(None);
         };
@@ -157,41 +211,23 @@ impl Integration for Multiplies {
     }
 }
 
-impl Multiplies {
-    fn note_event(&self, event: &Event) {
-        if event.event_id.is_nil() {
-            self.calls.note(event.timestamp);
-        } else {
-            self.calls.note(self.digit);
-        }
-    }
-}
-
-/// An integration that gives a DSN, or none, and multiplies by a factor. A digit tells of it.
+/// An integration that gives a DSN, or none, and multiplies by a factor.
 fn boxed_multiplies(
     alloc: Global,
     factor: Option<u64>,
     dsn: Option<Dsn>,
-    digit: u64,
-    calls: Arc<Calls>,
+    watch: &Arc<Watch>,
 ) -> Result<BoxedIntegration, AllocError> {
-    let integration: BoxedIntegration = Box::new(
-        alloc,
-        Multiplies {
-            factor,
-            dsn,
-            digit,
-            calls,
-        },
-    )?;
+    let watch = watch.clone()?;
+    let integration: BoxedIntegration = Box::new(alloc, Multiplies { factor, dsn, watch })?;
     Ok(integration)
 }
 
 /// An integration that gives a DSN.
 pub(crate) fn giving(alloc: Global) -> Result<BoxedIntegration, Refusal> {
     let dsn = Dsn::parse(alloc, DSN)?;
-    let calls = Calls::new(alloc)?;
-    Ok(boxed_multiplies(alloc, Some(2), Some(dsn), 2, calls)?)
+    let watch = Watch::new(alloc)?;
+    Ok(boxed_multiplies(alloc, Some(2), Some(dsn), &watch)?)
 }
 
 /// Sets both limits of a client: batches of nothing, and so many spans.

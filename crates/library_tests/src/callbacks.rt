@@ -1,6 +1,8 @@
 //! Engines over callbacks in boxes, as users of the library hand them in. What acts on an engine is generic in its
 //! callbacks, which is proved faster than over boxes.
-use crate::boxes::{Calls, DSN, Plan, boxed_adds, boxed_limits, giving, options_of, other_options};
+use crate::boxes::{
+    DSN, Plan, Seen, UNSEEN, Watches, boxed_adds, boxed_limits, giving, options_of, other_options,
+};
 use sentry_base::callbacks::EventCallback;
 use sentry_core::metrics::{IntoProtocolMetric, gauge};
 use sentry_core::protocol::{
@@ -34,9 +36,20 @@ const COUNTS: Plan = Plan {
     before_send: Some(100),
 };
 
-/// What `add_client` calls then, at moment 1: the set-ups of the integrations, and each integration, with its event as
-/// the one before leaves it.
-const MADE: u64 = 789126;
+/// What they see of the event of `add_client` at moment 1: each integration has it as the one before left it.
+const MADE: Seen = Seen {
+    integrations: [1, 2, 6],
+    set_ups: [1; 3],
+    ..UNSEEN
+};
+
+/// And of an event that is captured at moment 1.
+const CAPTURED: Seen = Seen {
+    processor: 1,
+    integrations: [4, 8, 24],
+    before_send: 96,
+    ..UNSEEN
+};
 
 /// A scope with a processor, a level and a tag.
 fn scope_of<P: Drop>(alloc: Global, processor: P) -> Result<Scope<P>, Refusal> {
@@ -98,24 +111,24 @@ enum By {
     HubAlone,
 }
 
-/// The outcome of such an event on a new engine, for which reason errors are lost and how many, and what is called by
+/// The outcome of such an event on a new engine, for which reason errors are lost and how many, and what callbacks see in
 /// `add_client` and after it.
-type Found = (Outcome, Option<(Reason, u64)>, [u64; 2]);
+type Found = (Outcome, Option<(Reason, u64)>, [Seen; 2]);
 
 /// An outcome with what is lost, if the pending report tells of errors alone.
 fn with_losses<P: Drop, C: Callbacks>(
     engine: &mut Engine<P, C>,
     outcome: Outcome,
-    called: [u64; 2],
+    seen: [Seen; 2],
 ) -> Result<Found, Refusal> {
     let Some(report) = engine.take_report(LABEL)?.reply else {
-        return Ok((outcome, None, called));
+        return Ok((outcome, None, seen));
     };
     let lost = match report.items.as_slice() {
         [item] => (item.category == Category::Error).then_some((item.reason, item.quantity)),
         _ => None,
     };
-    Ok((outcome, lost, called))
+    Ok((outcome, lost, seen))
 }
 
 /// What such an event comes to on a new engine.
@@ -124,36 +137,39 @@ fn capture_by<P: EventCallback + Drop, C: Callbacks>(
     by: By,
     options: ClientOptions<C>,
     scope: Scope<P>,
-    calls: &Calls,
+    watches: &Watches,
 ) -> Result<Found, Refusal> {
     let mut engine = Engine::new(alloc, 0);
     match by {
         By::Hub { transport } => {
             let client = engine.add_client(options, transport, LABEL, 1)?.reply;
-            let made = calls.take();
+            let made = watches.take();
             let outcome = capture_on_hub(alloc, &mut engine, Some(client), scope)?;
-            with_losses(&mut engine, outcome, [made, calls.take()])
+            with_losses(&mut engine, outcome, [made, watches.take()])
         }
         By::Clone => {
             let client = engine.add_client(options, true, LABEL, 1)?.reply;
-            let made = calls.take();
+            let made = watches.take();
             let copy = engine.clone_client(client, 2)?.reply;
             let outcome = capture_by_client(alloc, &mut engine, copy, &scope)?;
-            with_losses(&mut engine, outcome, [made, calls.take()])
+            with_losses(&mut engine, outcome, [made, watches.take()])
         }
         By::HubAlone => {
             let outcome = capture_on_hub(alloc, &mut engine, None, scope)?;
-            Ok((outcome, None, [0, calls.take()]))
+            Ok((outcome, None, [UNSEEN, watches.take()]))
         }
     }
 }
 
 /// The same with the callbacks of a plan.
 fn capture(alloc: Global, by: By, plan: &Plan) -> Result<Found, Refusal> {
-    let calls = Calls::new(alloc)?;
-    let scope = scope_of(alloc, boxed_adds(alloc, plan.processor, 1, calls.clone()?)?)?;
-    let options = options_of(alloc, plan, &calls)?;
-    capture_by(alloc, by, options, scope, &calls)
+    let watches = Watches::new(alloc)?;
+    let scope = scope_of(
+        alloc,
+        boxed_adds(alloc, plan.processor, &watches.processor)?,
+    )?;
+    let options = options_of(alloc, plan, &watches)?;
+    capture_by(alloc, by, options, scope, &watches)
 }
 
 #[test]
@@ -161,13 +177,13 @@ fn boxed_callbacks_run_in_order(rt: HostRuntime) -> Result<(), Fail> {
     let alloc = rt.alloc();
     // the processor, the integrations, the callback: (1 + 3) * 2 * 3 * 4 + 100
     let (id, sent) = (fresh().uuid, Some((196, Level::Warning, 1)));
-    let called = [MADE, 12345];
+    let seen = [MADE, CAPTURED];
     let hub = By::Hub { transport: true };
-    assert!(rt; capture(alloc, hub, &COUNTS) == Ok(((id, sent, Some(id)), None, called)));
+    assert!(rt; capture(alloc, hub, &COUNTS) == Ok(((id, sent, Some(id)), None, seen)));
     // a clone sets nothing up
-    assert!(rt; capture(alloc, By::Clone, &COUNTS) == Ok(((id, sent, None), None, called)));
+    assert!(rt; capture(alloc, By::Clone, &COUNTS) == Ok(((id, sent, None), None, seen)));
     let none = (Uuid::nil(), None, None);
-    assert!(rt; capture(alloc, By::HubAlone, &COUNTS) == Ok((none, None, [0, 0])));
+    assert!(rt; capture(alloc, By::HubAlone, &COUNTS) == Ok((none, None, [UNSEEN; 2])));
     Ok(())
 }
 
@@ -180,17 +196,30 @@ fn nothing_runs_after_a_callback_that_drops(rt: HostRuntime) -> Result<(), Fail>
     // the second of three integrations drops each event; that of `add_client` goes on to the third as it was
     let mut plan = COUNTS;
     plan.integrations = [Some(2), None, Some(4)];
-    assert!(rt; capture(alloc, hub, &plan) == Ok((dropped, lost, [789122, 123])));
+    let made = Seen {
+        integrations: [1, 2, 2],
+        ..MADE
+    };
+    let captured = Seen {
+        integrations: [4, 8, 0],
+        before_send: 0,
+        ..CAPTURED
+    };
+    assert!(rt; capture(alloc, hub, &plan) == Ok((dropped, lost, [made, captured])));
     plan.integrations = COUNTS.integrations;
     plan.processor = None;
-    assert!(rt; capture(alloc, hub, &plan) == Ok((dropped, lost, [MADE, 1])));
+    let captured = Seen {
+        processor: 1,
+        ..UNSEEN
+    };
+    assert!(rt; capture(alloc, hub, &plan) == Ok((dropped, lost, [MADE, captured])));
     plan.processor = Some(3);
     plan.before_send = None;
     let lost = Some((Reason::BeforeSend, 1));
-    assert!(rt; capture(alloc, hub, &plan) == Ok((dropped, lost, [MADE, 12345])));
+    assert!(rt; capture(alloc, hub, &plan) == Ok((dropped, lost, [MADE, CAPTURED])));
     // without a transport nothing runs
     let hub = By::Hub { transport: false };
-    assert!(rt; capture(alloc, hub, &plan) == Ok((dropped, None, [MADE, 0])));
+    assert!(rt; capture(alloc, hub, &plan) == Ok((dropped, None, [MADE, UNSEEN])));
     Ok(())
 }
 
@@ -316,13 +345,13 @@ fn facts<P: Drop, C: Callbacks>(
 fn set_up_changes_the_options(rt: HostRuntime) -> Result<(), Fail> {
     let alloc = rt.alloc();
     // a DSN that is taken disables the client; where callbacks run in order, its slot stays occupied
-    let calls = Calls::new(alloc)?;
-    let copy = options_of(alloc, &COUNTS, &calls)?.clone()?;
+    let watches = Watches::new(alloc)?;
+    let copy = options_of(alloc, &COUNTS, &watches)?.clone()?;
     let found = facts::<BoxedEventCallback, ClientCallbacks>(alloc, copy);
     assert!(rt; found == Ok((false, false, 3)));
     // a list of integrations replaces those before
     let list = vec![in alloc; giving(alloc)?]?;
-    let replaced = options_of(alloc, &COUNTS, &calls)?.integrations(list)?;
+    let replaced = options_of(alloc, &COUNTS, &watches)?.integrations(list)?;
     let found = facts::<BoxedEventCallback, ClientCallbacks>(alloc, replaced);
     assert!(rt; found == Ok((true, true, 1)));
     // a DSN that is given opens no slot
