@@ -1,4 +1,6 @@
 //! Losses: calls succeed with enough memory, a drain finds what was recorded before it, and threads lose nothing.
+ghost use Rattle.std.specs.Prelude.{◌≡◌};
+
 use crate::items::{event, transaction};
 use sentry_base::protocol::{
     CATEGORIES, Category, Envelope, EnvelopeItem, Label, Log, LogLevel, LossSource, Losses, Reason,
@@ -78,13 +80,36 @@ fn a_drain_finds_what_was_recorded_since_the_last(rt: HostRuntime) -> Result<(),
     Ok(())
 }
 
-fn drain_many(mut drainer: Drainer, times: u64) -> (Drainer, Losses) {
+/// A drainer, and a recorder of the same words, without which they don't close.
+#[derive(Drop)]
+struct Ends {
+    recorder: Recorder,
+    drainer: Drainer,
+    ghost same: { drainer.words ≡ recorder.words },
+}
+
+impl Ends {
+    fn drain(&mut self) -> Losses {
+        let (_label, losses) = self.drainer.drain().into_parts();
+        losses
+    }
+
+    /// What stands in the words, unless there is another part of them.
+    fn close(self) -> Option<Losses> {
+        let Ends { recorder, drainer } = self;
+        match LossWords::close(recorder, drainer) {
+            Ok(standing) => Some(standing),
+            Err(_) => None,
+        }
+    }
+}
+
+fn drain_many(mut ends: Ends, times: u64) -> (Ends, Losses) {
     let mut sums = Losses::none();
     for _ in 0..times {
-        let (_label, losses) = drainer.drain().into_parts();
-        sums.add(&losses);
+        sums.add(&ends.drain());
     }
-    (drainer, sums)
+    (ends, sums)
 }
 
 /// What one thread records: so many single losses of a category.
@@ -138,14 +163,18 @@ fn nothing_is_lost_between_five_recorders_and_a_drainer(rt: HostRuntime) -> Resu
     let alloc: Global = rt.alloc();
     let quantities = [10000, 1000, 1000, 1000, 1000].as_slice();
     let (recorder, drainer) = LossWords::new(alloc, LABEL)?;
-    let jobs = jobs(alloc, recorder, quantities)?;
-    let (done, (drainer, mut sums)) = join(
+    let Ok((recorder, other)) = recorder.split() else {
+        panic!(rt; "no second recorder")
+    };
+    let ends = Ends { recorder, drainer };
+    let jobs = jobs(alloc, other, quantities)?;
+    let (done, (ends, mut sums)) = join(
         &rt,
         || map_vec(&rt, jobs, &|job: Job| record_job(job)),
-        move || drain_many(drainer, 20000),
+        move || drain_many(ends, 20000),
     );
     done?;
-    let Ok(standing) = LossWords::close_drainer(drainer) else {
+    let Some(standing) = ends.close() else {
         panic!(rt; "not closed")
     };
     sums.add(&standing);

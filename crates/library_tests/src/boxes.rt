@@ -7,6 +7,8 @@ use sentry_core::{
     MetricCallback, PlainOptions, TracesSampler, TransactionContext,
 };
 use std::alloc::{AllocError, Global};
+use std::sync::Arc;
+use std::sync::atomic::{AtomicU64, Ordering};
 
 pub(crate) const DSN: &str = "https://public@sentry.invalid/1";
 
@@ -14,56 +16,165 @@ pub(crate) const DSN: &str = "https://public@sentry.invalid/1";
 #[derive(Clone, Copy)]
 pub(crate) struct Plan {
     pub(crate) processor: Option<u64>,
-    pub(crate) integrations: [Option<u64>; 2],
+    pub(crate) integrations: [Option<u64>; 3],
     pub(crate) before_send: Option<u64>,
 }
 
-/// Options with the callbacks of a plan but the processor. The DSN is taken in the set-up.
-pub(crate) fn options_of(alloc: Global, plan: &Plan) -> Result<ClientOptions, Refusal> {
-    let [first, second] = plan.integrations;
-    let options = ClientOptions::from_dsn(alloc, DSN)?;
-    let options = options.before_send(boxed_adds(alloc, plan.before_send)?)?;
-    let options = options.add_integration(boxed_multiplies(alloc, first, None)?)?;
-    options.add_integration(boxed_multiplies(alloc, second, None)?)
+/// What callbacks saw since the last look: the moment of the last event, 0 if there was none, and how often integrations
+/// were set up.
+#[derive(Clone, Copy, PartialEq, Debug)]
+pub(crate) struct Seen {
+    pub(crate) processor: u64,
+    pub(crate) integrations: [u64; 3],
+    pub(crate) before_send: u64,
+    pub(crate) set_ups: [u64; 3],
 }
 
-/// Adds a number to the event's moment; without a number it drops the event. With 0 it is refused its memory, so that a
-/// call of it shows.
+/// Nothing.
+pub(crate) const UNSEEN: Seen = Seen {
+    processor: 0,
+    integrations: [0; 3],
+    before_send: 0,
+    set_ups: [0; 3],
+};
+
+/// Notes what one callback sees.
 #[derive(Drop)]
-struct Adds(Option<u64>);
+pub(crate) struct Watch {
+    moment: AtomicU64,
+    set_ups: AtomicU64,
+}
+
+impl Watch {
+    fn new(alloc: Global) -> Result<Arc<Watch>, AllocError> {
+        let moment = AtomicU64::new(0);
+        let set_ups = AtomicU64::new(0);
+        Ok(Arc::new(alloc, Watch { moment, set_ups })?)
+    }
+
+    fn see(&self, event: &Event) {
+        self.moment.store(event.timestamp, Ordering::SeqCst);
+    }
+
+    fn count_set_up(&self) {
+        self.set_ups.fetch_add(1, Ordering::SeqCst);
+    }
+
+    fn take_moment(&self) -> u64 {
+        self.moment.swap(0, Ordering::SeqCst)
+    }
+
+    fn take_set_ups(&self) -> u64 {
+        self.set_ups.swap(0, Ordering::SeqCst)
+    }
+}
+
+/// Those of the callbacks of a plan.
+#[derive(Drop)]
+pub(crate) struct Watches {
+    pub(crate) processor: Arc<Watch>,
+    first: Arc<Watch>,
+    second: Arc<Watch>,
+    third: Arc<Watch>,
+    before_send: Arc<Watch>,
+}
+
+impl Watches {
+    pub(crate) fn new(alloc: Global) -> Result<Watches, AllocError> {
+        Ok(Watches {
+            processor: Watch::new(alloc)?,
+            first: Watch::new(alloc)?,
+            second: Watch::new(alloc)?,
+            third: Watch::new(alloc)?,
+            before_send: Watch::new(alloc)?,
+        })
+    }
+
+    /// What they have noted, which begins anew.
+    pub(crate) fn take(&self) -> Seen {
+        let (first, second, third) = (&*self.first, &*self.second, &*self.third);
+        Seen {
+            processor: self.processor.take_moment(),
+            integrations: [
+                first.take_moment(),
+                second.take_moment(),
+                third.take_moment(),
+            ],
+            before_send: self.before_send.take_moment(),
+            set_ups: [
+                first.take_set_ups(),
+                second.take_set_ups(),
+                third.take_set_ups(),
+            ],
+        }
+    }
+}
+
+/// Options with the callbacks of a plan but the processor. The DSN is taken in the set-up.
+pub(crate) fn options_of(
+    alloc: Global,
+    plan: &Plan,
+    watches: &Watches,
+) -> Result<ClientOptions, Refusal> {
+    let [first, second, third] = plan.integrations;
+    let options = ClientOptions::from_dsn(alloc, DSN)?;
+    let before_send = boxed_adds(alloc, plan.before_send, &watches.before_send)?;
+    let options = options.before_send(before_send)?;
+    let options = add_multiplies(alloc, options, first, &watches.first)?;
+    let options = add_multiplies(alloc, options, second, &watches.second)?;
+    add_multiplies(alloc, options, third, &watches.third)
+}
+
+// With an integration more, which takes the DSN and multiplies by a factor.
+fn add_multiplies(
+    alloc: Global,
+    options: ClientOptions,
+    factor: Option<u64>,
+    watch: &Arc<Watch>,
+) -> Result<ClientOptions, Refusal> {
+    options.add_integration(boxed_multiplies(alloc, factor, None, watch)?)
+}
+
+/// Adds a number to the event's moment; without a number it drops the event.
+#[derive(Drop)]
+struct Adds {
+    number: Option<u64>,
+    watch: Arc<Watch>,
+}
 
 impl EventCallback for Adds {
     ghost use Rattle.std.specs.Prelude.{option_map, ◌+◌, ◌%◌, ◌^◌};
 
     ghost gives = { λ s event. option_map
-        (λ number. record event { timestamp = (event.timestamp + number) % 2 ^ 64 }) s.0 };
+        (λ number. record event { timestamp = (event.timestamp + number) % 2 ^ 64 }) s.number };
 
     fn call(&self, mut event: Event) -> Result<Option<Event>, AllocError> {
-        let Some(number) = self.0 else {
+        self.watch.see(&event);
+        let Some(number) = self.number else {
             return Ok(None);
         };
-        if number == 0 {
-            return Err(AllocError);
-        }
         event.timestamp = event.timestamp.wrapping_add(number);
         Ok(Some(event))
     }
 }
 
+/// A callback that adds a number.
 pub(crate) fn boxed_adds(
     alloc: Global,
     number: Option<u64>,
+    watch: &Arc<Watch>,
 ) -> Result<BoxedEventCallback, AllocError> {
-    let callback: BoxedEventCallback = Box::new(alloc, Adds(number))?;
+    let watch = watch.clone()?;
+    let callback: BoxedEventCallback = Box::new(alloc, Adds { number, watch })?;
     Ok(callback)
 }
 
-/// Gives the options its DSN, or none. Multiplies the event's moment by its factor; without a factor it drops the
-/// event. By 0 it is refused its memory, but for the event of `add_client`, which alone has the nil id.
+/// Gives the options its DSN, or none. Multiplies the event's moment by its factor; without a factor it drops the event.
 #[derive(Drop)]
 struct Multiplies {
     factor: Option<u64>,
     dsn: Option<Dsn>,
+    watch: Arc<Watch>,
 }
 
 impl Integration for Multiplies {
@@ -81,6 +192,7 @@ impl Integration for Multiplies {
     }
 
     fn setup(&self, options: &mut PlainOptions) -> Result<(), AllocError> {
+        self.watch.count_set_up();
         options.dsn = self.dsn.clone()?;
         Ok(())
     }
@@ -90,30 +202,32 @@ impl Integration for Multiplies {
         mut event: Event,
         _options: &PlainOptions,
     ) -> Result<Option<Event>, AllocError> {
+        self.watch.see(&event);
         let Some(factor) = self.factor else {
             return Ok(None);
         };
-        if factor == 0 && !event.event_id.is_nil() {
-            return Err(AllocError);
-        }
         event.timestamp = event.timestamp.wrapping_mul(factor);
         Ok(Some(event))
     }
 }
 
+/// An integration that gives a DSN, or none, and multiplies by a factor.
 fn boxed_multiplies(
     alloc: Global,
     factor: Option<u64>,
     dsn: Option<Dsn>,
+    watch: &Arc<Watch>,
 ) -> Result<BoxedIntegration, AllocError> {
-    let integration: BoxedIntegration = Box::new(alloc, Multiplies { factor, dsn })?;
+    let watch = watch.clone()?;
+    let integration: BoxedIntegration = Box::new(alloc, Multiplies { factor, dsn, watch })?;
     Ok(integration)
 }
 
 /// An integration that gives a DSN.
 pub(crate) fn giving(alloc: Global) -> Result<BoxedIntegration, Refusal> {
     let dsn = Dsn::parse(alloc, DSN)?;
-    Ok(boxed_multiplies(alloc, Some(2), Some(dsn))?)
+    let watch = Watch::new(alloc)?;
+    Ok(boxed_multiplies(alloc, Some(2), Some(dsn), &watch)?)
 }
 
 /// Sets both limits of a client: batches of nothing, and so many spans.

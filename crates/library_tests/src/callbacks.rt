@@ -1,11 +1,13 @@
 //! Engines over callbacks in boxes, as users of the library hand them in. What acts on an engine is generic in its
 //! callbacks, which is proved faster than over boxes.
-use crate::boxes::{DSN, Plan, boxed_adds, boxed_limits, giving, options_of, other_options};
+use crate::boxes::{
+    DSN, Plan, Seen, UNSEEN, Watches, boxed_adds, boxed_limits, giving, options_of, other_options,
+};
 use sentry_base::callbacks::EventCallback;
 use sentry_core::metrics::{IntoProtocolMetric, gauge};
 use sentry_core::protocol::{
-    Breadcrumb, ClientKey, Draw, EnvelopeItem, Event, Fresh, HubKey, Label, Log, LogLevel, Metric,
-    Refusal, SpanId, TraceId, TransactionOrSpanKey, Unit, Uuid,
+    Breadcrumb, Category, ClientKey, Draw, EnvelopeItem, Event, Fresh, HubKey, Label, Log,
+    LogLevel, Metric, Reason, Refusal, SpanId, TraceId, TransactionOrSpanKey, Unit, Uuid,
 };
 use sentry_core::{BoxedEventCallback, ClientCallbacks, Few, Level, TransactionContext};
 use sentry_engine::{Engine, Out};
@@ -30,15 +32,23 @@ fn fresh() -> Fresh {
 /// Each callback does its work.
 const COUNTS: Plan = Plan {
     processor: Some(3),
-    integrations: [Some(3), Some(5)],
+    integrations: [Some(2), Some(3), Some(4)],
     before_send: Some(100),
 };
 
-/// Each callback is refused its memory.
-const STARVES: Plan = Plan {
-    processor: Some(0),
-    integrations: [Some(0), Some(0)],
-    before_send: Some(0),
+/// What they see of the event of `add_client` at moment 1: each integration has it as the one before left it.
+const MADE: Seen = Seen {
+    integrations: [1, 2, 6],
+    set_ups: [1; 3],
+    ..UNSEEN
+};
+
+/// And of an event that is captured at moment 1.
+const CAPTURED: Seen = Seen {
+    processor: 1,
+    integrations: [4, 8, 24],
+    before_send: 96,
+    ..UNSEEN
 };
 
 /// A scope with a processor, a level and a tag.
@@ -95,48 +105,85 @@ fn capture_by_client<P: EventCallback + Drop, C: Callbacks>(
 enum By {
     /// A hub of a client.
     Hub { transport: bool },
-    /// A client with a transport.
-    Client,
+    /// A clone of a client with a transport.
+    Clone,
     /// A hub without a client.
     HubAlone,
 }
 
-/// The outcome of such an event on a new engine.
+/// The outcome of such an event on a new engine, for which reason errors are lost and how many, and what callbacks see in
+/// `add_client` and after it.
+type Found = (Outcome, Option<(Reason, u64)>, [Seen; 2]);
+
+/// An outcome with what is lost, if the pending report tells of errors alone.
+fn with_losses<P: Drop, C: Callbacks>(
+    engine: &mut Engine<P, C>,
+    outcome: Outcome,
+    seen: [Seen; 2],
+) -> Result<Found, Refusal> {
+    let Some(report) = engine.take_report(LABEL)?.reply else {
+        return Ok((outcome, None, seen));
+    };
+    let lost = match report.items.as_slice() {
+        [item] => (item.category == Category::Error).then_some((item.reason, item.quantity)),
+        _ => None,
+    };
+    Ok((outcome, lost, seen))
+}
+
+/// What such an event comes to on a new engine.
 fn capture_by<P: EventCallback + Drop, C: Callbacks>(
     alloc: Global,
     by: By,
     options: ClientOptions<C>,
     scope: Scope<P>,
-) -> Result<Outcome, Refusal> {
+    watches: &Watches,
+) -> Result<Found, Refusal> {
     let mut engine = Engine::new(alloc, 0);
     match by {
         By::Hub { transport } => {
-            let client = engine.add_client(options, transport, LABEL, 0)?.reply;
-            capture_on_hub(alloc, &mut engine, Some(client), scope)
+            let client = engine.add_client(options, transport, LABEL, 1)?.reply;
+            let made = watches.take();
+            let outcome = capture_on_hub(alloc, &mut engine, Some(client), scope)?;
+            with_losses(&mut engine, outcome, [made, watches.take()])
         }
-        By::Client => {
-            let client = engine.add_client(options, true, LABEL, 0)?.reply;
-            capture_by_client(alloc, &mut engine, client, &scope)
+        By::Clone => {
+            let client = engine.add_client(options, true, LABEL, 1)?.reply;
+            let made = watches.take();
+            let copy = engine.clone_client(client, 2)?.reply;
+            let outcome = capture_by_client(alloc, &mut engine, copy, &scope)?;
+            with_losses(&mut engine, outcome, [made, watches.take()])
         }
-        By::HubAlone => capture_on_hub(alloc, &mut engine, None, scope),
+        By::HubAlone => {
+            let outcome = capture_on_hub(alloc, &mut engine, None, scope)?;
+            Ok((outcome, None, [UNSEEN, watches.take()]))
+        }
     }
 }
 
 /// The same with the callbacks of a plan.
-fn capture(alloc: Global, by: By, plan: &Plan) -> Result<Outcome, Refusal> {
-    let scope = scope_of(alloc, boxed_adds(alloc, plan.processor)?)?;
-    capture_by(alloc, by, options_of(alloc, plan)?, scope)
+fn capture(alloc: Global, by: By, plan: &Plan) -> Result<Found, Refusal> {
+    let watches = Watches::new(alloc)?;
+    let scope = scope_of(
+        alloc,
+        boxed_adds(alloc, plan.processor, &watches.processor)?,
+    )?;
+    let options = options_of(alloc, plan, &watches)?;
+    capture_by(alloc, by, options, scope, &watches)
 }
 
 #[test]
 fn boxed_callbacks_run_in_order(rt: HostRuntime) -> Result<(), Fail> {
     let alloc = rt.alloc();
-    // the processor, the integrations, the callback: (1 + 3) * 3 * 5 + 100
-    let (id, sent) = (fresh().uuid, Some((160, Level::Warning, 1)));
+    // the processor, the integrations, the callback: (1 + 3) * 2 * 3 * 4 + 100
+    let (id, sent) = (fresh().uuid, Some((196, Level::Warning, 1)));
+    let seen = [MADE, CAPTURED];
     let hub = By::Hub { transport: true };
-    assert!(rt; capture(alloc, hub, &COUNTS) == Ok((id, sent, Some(id))));
-    assert!(rt; capture(alloc, By::Client, &COUNTS) == Ok((id, sent, None)));
-    assert!(rt; capture(alloc, By::HubAlone, &COUNTS) == Ok((Uuid::nil(), None, None)));
+    assert!(rt; capture(alloc, hub, &COUNTS) == Ok(((id, sent, Some(id)), None, seen)));
+    // a clone sets nothing up
+    assert!(rt; capture(alloc, By::Clone, &COUNTS) == Ok(((id, sent, None), None, seen)));
+    let none = (Uuid::nil(), None, None);
+    assert!(rt; capture(alloc, By::HubAlone, &COUNTS) == Ok((none, None, [UNSEEN; 2])));
     Ok(())
 }
 
@@ -144,25 +191,35 @@ fn boxed_callbacks_run_in_order(rt: HostRuntime) -> Result<(), Fail> {
 fn nothing_runs_after_a_callback_that_drops(rt: HostRuntime) -> Result<(), Fail> {
     let alloc = rt.alloc();
     let hub = By::Hub { transport: true };
-    let dropped = Ok((Uuid::nil(), None, Some(Uuid::nil())));
-    let starved = Err(Refusal::OutOfMemory);
-    // each callback in turn drops the event, after those before it did their work
-    let mut plan = Plan {
-        processor: None,
-        ..STARVES
+    let dropped = (Uuid::nil(), None, Some(Uuid::nil()));
+    let lost = Some((Reason::EventProcessor, 1));
+    // the second of three integrations drops each event; that of `add_client` goes on to the third as it was
+    let mut plan = COUNTS;
+    plan.integrations = [Some(2), None, Some(4)];
+    let made = Seen {
+        integrations: [1, 2, 2],
+        ..MADE
     };
-    assert!(rt; capture(alloc, hub, &plan) == dropped);
+    let captured = Seen {
+        integrations: [4, 8, 0],
+        before_send: 0,
+        ..CAPTURED
+    };
+    assert!(rt; capture(alloc, hub, &plan) == Ok((dropped, lost, [made, captured])));
+    plan.integrations = COUNTS.integrations;
+    plan.processor = None;
+    let captured = Seen {
+        processor: 1,
+        ..UNSEEN
+    };
+    assert!(rt; capture(alloc, hub, &plan) == Ok((dropped, lost, [MADE, captured])));
     plan.processor = Some(3);
-    assert!(rt; capture(alloc, hub, &plan) == starved);
-    plan.integrations = [None, Some(0)];
-    assert!(rt; capture(alloc, hub, &plan) == dropped);
-    plan.integrations = [Some(3), Some(0)];
-    assert!(rt; capture(alloc, hub, &plan) == starved);
-    plan.integrations = [Some(3), None];
-    assert!(rt; capture(alloc, hub, &plan) == dropped);
+    plan.before_send = None;
+    let lost = Some((Reason::BeforeSend, 1));
+    assert!(rt; capture(alloc, hub, &plan) == Ok((dropped, lost, [MADE, CAPTURED])));
     // without a transport nothing runs
     let hub = By::Hub { transport: false };
-    assert!(rt; capture(alloc, hub, &STARVES) == dropped);
+    assert!(rt; capture(alloc, hub, &plan) == Ok((dropped, None, [MADE, UNSEEN])));
     Ok(())
 }
 
@@ -288,12 +345,13 @@ fn facts<P: Drop, C: Callbacks>(
 fn set_up_changes_the_options(rt: HostRuntime) -> Result<(), Fail> {
     let alloc = rt.alloc();
     // a DSN that is taken disables the client; where callbacks run in order, its slot stays occupied
-    let copy = options_of(alloc, &COUNTS)?.clone()?;
+    let watches = Watches::new(alloc)?;
+    let copy = options_of(alloc, &COUNTS, &watches)?.clone()?;
     let found = facts::<BoxedEventCallback, ClientCallbacks>(alloc, copy);
-    assert!(rt; found == Ok((false, false, 2)));
+    assert!(rt; found == Ok((false, false, 3)));
     // a list of integrations replaces those before
     let list = vec![in alloc; giving(alloc)?]?;
-    let replaced = options_of(alloc, &COUNTS)?.integrations(list)?;
+    let replaced = options_of(alloc, &COUNTS, &watches)?.integrations(list)?;
     let found = facts::<BoxedEventCallback, ClientCallbacks>(alloc, replaced);
     assert!(rt; found == Ok((true, true, 1)));
     // a DSN that is given opens no slot

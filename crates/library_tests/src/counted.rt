@@ -217,9 +217,8 @@ fn new_counted(
     })
 }
 
-/// What a message, a log and a metric call.
-fn counts_of_captures(alloc: Global, has_transport: bool) -> Result<[Counts; 3], Refusal> {
-    let mut it = new_counted(alloc, has_transport, TracesSamplingStrategy::Disabled)?;
+/// What a message, a log and a metric on the hub call.
+fn counts_on_hub(alloc: Global, it: &mut Counted) -> Result<[Counts; 3], Refusal> {
     it.engine
         .capture_message(it.hub, "m", Level::Error, fresh())?;
     let message = it.counters.take();
@@ -228,14 +227,34 @@ fn counts_of_captures(alloc: Global, has_transport: bool) -> Result<[Counts; 3],
     let log = it.counters.take();
     it.engine
         .capture_metric(it.hub, gauge(alloc, "g", 1)?.into_draft(), 1)?;
-    let metric = it.counters.take();
+    Ok([message, log, it.counters.take()])
+}
+
+/// What an event, a log and a metric call that the client captures itself.
+fn counts_on_client(alloc: Global, it: &mut Counted) -> Result<[Counts; 3], Refusal> {
+    let scope = Scope::new(alloc, TraceId([7; 16]), SpanId([8; 8]));
+    let event = Event::new(alloc, Uuid::nil(), 1)?;
+    it.engine
+        .client_capture_event(it.client, event, None, fresh())?;
+    let event = it.counters.take();
+    let log = Log::new(alloc, LogLevel::Info, "l", 1)?;
+    it.engine.client_capture_log(it.client, log, &scope)?;
+    let log = it.counters.take();
+    let draft = gauge(alloc, "g", 1)?.into_draft();
+    it.engine
+        .client_capture_metric(it.client, draft, &scope, 1)?;
+    Ok([event, log, it.counters.take()])
+}
+
+/// What these call, and those on the hub once more when the client is closed. What a flush and the end of the client call
+/// counts for the message after them.
+fn counts_of_captures(alloc: Global, has_transport: bool) -> Result<[[Counts; 3]; 3], Refusal> {
+    let mut it = new_counted(alloc, has_transport, TracesSamplingStrategy::Disabled)?;
+    let on_hub = counts_on_hub(alloc, &mut it)?;
+    let on_client = counts_on_client(alloc, &mut it)?;
     it.engine.flush(it.client)?;
-    let flushed = it.counters.take();
-    if flushed == NONE {
-        Ok([message, log, metric])
-    } else {
-        Ok([flushed; 3])
-    }
+    it.engine.close(it.client)?;
+    Ok([on_hub, on_client, counts_on_hub(alloc, &mut it)?])
 }
 
 /// What no breadcrumbs and one breadcrumb call.
@@ -249,12 +268,22 @@ fn counts_of_breadcrumbs(alloc: Global) -> Result<[Counts; 2], Refusal> {
     Ok([none, it.counters.take()])
 }
 
-/// What the start of a transaction calls.
-fn counts_of_start(alloc: Global, strategy: TracesSamplingStrategy) -> Result<Counts, Refusal> {
+fn new_context(alloc: Global) -> Result<TransactionContext, AllocError> {
+    TransactionContext::new(alloc, "t", "op", TraceId([1; 16]), SpanId([2; 8]))
+}
+
+/// What the start of a transaction calls, and of one at a moment.
+fn counts_of_starts(
+    alloc: Global,
+    strategy: TracesSamplingStrategy,
+) -> Result<[Counts; 2], Refusal> {
     let mut it = new_counted(alloc, true, strategy)?;
-    let context = TransactionContext::new(alloc, "t", "op", TraceId([1; 16]), SpanId([2; 8]))?;
-    it.engine.start_transaction(it.hub, context, fresh())?;
-    Ok(it.counters.take())
+    it.engine
+        .start_transaction(it.hub, new_context(alloc)?, fresh())?;
+    let first = it.counters.take();
+    it.engine
+        .start_transaction_with_timestamp(it.hub, new_context(alloc)?, 1, fresh())?;
+    Ok([first, it.counters.take()])
 }
 
 const NONE: Counts = Counts {
@@ -275,12 +304,9 @@ fn each_callback_is_called_once_where_it_is_asked_for(rt: HostRuntime) -> Result
     };
     let log = Counts { logs: 1, ..NONE };
     let metric = Counts { metrics: 1, ..NONE };
-    assert_eq!(rt;
-        counts_of_captures(rt.alloc(), true)?,
-        [message, log, metric]
-    );
-    let [on_message, ..] = counts_of_captures(rt.alloc(), false)?;
-    assert_eq!(rt; on_message, NONE);
+    let (open, empty) = ([message, log, metric], [NONE, log, metric]);
+    assert!(rt; counts_of_captures(rt.alloc(), true)? == [open, open, empty]);
+    assert!(rt; counts_of_captures(rt.alloc(), false)? == [empty; 3]);
     let one = Counts {
         breadcrumbs: 1,
         ..NONE
@@ -293,15 +319,15 @@ fn each_callback_is_called_once_where_it_is_asked_for(rt: HostRuntime) -> Result
 fn a_sampler_is_called_only_where_it_is_the_strategy(rt: HostRuntime) -> Result<(), Fail> {
     let alloc = rt.alloc();
     let fixed = TracesSamplingStrategy::FixedRate(SampleRate::new(1_000_000)?);
-    assert_eq!(rt; counts_of_start(alloc, fixed)?, NONE);
+    assert_eq!(rt; counts_of_starts(alloc, fixed)?, [NONE; 2]);
     assert_eq!(rt;
-        counts_of_start(alloc, TracesSamplingStrategy::Disabled)?,
-        NONE
+        counts_of_starts(alloc, TracesSamplingStrategy::Disabled)?,
+        [NONE; 2]
     );
     let asked = Counts { rates: 1, ..NONE };
     assert_eq!(rt;
-        counts_of_start(alloc, TracesSamplingStrategy::Function)?,
-        asked
+        counts_of_starts(alloc, TracesSamplingStrategy::Function)?,
+        [asked; 2]
     );
     Ok(())
 }

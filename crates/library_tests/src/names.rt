@@ -101,8 +101,8 @@ fn a_trace_goes_on_from_a_span(rt: HostRuntime) -> Result<(), Fail> {
     Ok(())
 }
 
-/// The trace, the span and the parent of a transaction whose headers name an organization, while the client has none. The
-/// span's id is handed in with the headers.
+/// The trace, the span and the parent of a transaction whose headers name an organization. The span's id is handed in with
+/// the headers.
 fn not_continued<P: EventCallback + Drop, C: Callbacks>(
     alloc: Global,
     options: ClientOptions<C>,
@@ -114,7 +114,7 @@ fn not_continued<P: EventCallback + Drop, C: Callbacks>(
             "sentry-trace",
             "09e04486820349518ac7b5d2adbf6ba5-9cf635fa5b870b3a-1",
         ),
-        ("baggage", "sentry-org_id=42"),
+        ("baggage", "sentry-org_id=43"),
     ];
     let context = TransactionContext::continue_from_headers(
         alloc,
@@ -132,7 +132,10 @@ fn not_continued<P: EventCallback + Drop, C: Callbacks>(
 
 #[test]
 fn a_trace_that_is_not_continued_keeps_the_span(rt: HostRuntime) -> Result<(), Fail> {
-    let strict = options(rt.alloc())?.strict_trace_continuation(true);
+    // the DSN names another organization
+    let strict = options(rt.alloc())?
+        .dsn("https://public@o42.ingest.us.sentry.io/1")?
+        .strict_trace_continuation(true);
     let own = SpanId([6; 8]);
     let found = not_continued::<Handler, TextCallbacks>(rt.alloc(), strict, own)?;
     assert!(rt; found == (fresh().trace_id, own, None));

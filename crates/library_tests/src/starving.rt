@@ -45,7 +45,7 @@ fn fresh(byte: u8) -> Fresh {
 // The errors of a session that goes on, and whether its update is the first, if these items are an event and its update.
 fn session_of(items: &[EnvelopeItem]) -> Option<(u64, bool)> {
     match items {
-        [_, EnvelopeItem::SessionUpdate(update)] => {
+        [EnvelopeItem::Event(..), EnvelopeItem::SessionUpdate(update)] => {
             (update.status == SessionStatus::Ok).then_some((update.errors, update.init))
         }
         _ => None,
