@@ -177,7 +177,8 @@ uint32_t dochirwa_continue_transaction(dochirwa *engine, uint64_t hub, const uin
 /* The same at a rate, a fraction such as 0.25, which your sampler gave in place of the client's: 0 is not sampled, 1 is. The
  * client's option traces must be set, if only to 0. Faults: 2, 7 (no such rate), 9, 11. */
 uint32_t dochirwa_sample_transaction(dochirwa *engine, uint64_t hub, const uint8_t *name, size_t name_length, const uint8_t *op, size_t op_length, const uint8_t *sentry_trace, size_t sentry_trace_length, const uint8_t *baggage, size_t baggage_length, const uint8_t *rate, size_t rate_length, const dochirwa_fresh *fresh, uint64_t *transaction);
-/* Starts a span with an operation and a description (empty: none). Faults: 2, 9, 11. */
+/* Starts a span with an operation and a description (empty: none). Of `fresh` it uses the moment and the id of the span
+ * alone, so the others may be 0. Faults: 2, 9, 11. */
 uint32_t dochirwa_start_child(dochirwa *engine, bool is_span, uint64_t parent, const uint8_t *op, size_t op_length, const uint8_t *description, size_t description_length, const dochirwa_fresh *fresh, uint64_t *span);
 /* Sets a piece of data to the value of a JSON text. Faults: 2, 11. */
 uint32_t dochirwa_set_span_data(dochirwa *engine, bool is_span, uint64_t number, const uint8_t *key, size_t key_length, const uint8_t *json, size_t json_length);

@@ -40,6 +40,8 @@ fn crate_hub(options: ClientOptions) -> Hub {
 trait Source: Copy {
     fn now(self) -> Moment;
     fn fresh(self) -> Fresh;
+    /// What a child uses.
+    fn fresh_span(self) -> Fresh;
 }
 #[derive(Clone, Copy)]
 struct Real;
@@ -49,6 +51,9 @@ impl Source for Real {
     }
     fn fresh(self) -> Fresh {
         Fresh { now: self.now(), id: rand::random::<u128>().into(), trace: rand::random::<u128>().into(), span: rand::random(), draw: rand::random::<u32>() % 1_000_000 }
+    }
+    fn fresh_span(self) -> Fresh {
+        Fresh { now: self.now(), span: rand::random(), ..Fresh::default() }
     }
 }
 #[derive(Clone, Copy)]
@@ -64,6 +69,10 @@ impl Source for Counted {
         let now = self.now();
         let id = u128::from(now.0);
         Fresh { now, id: id.into(), trace: id.into(), span: now.0, draw: 0 }
+    }
+    fn fresh_span(self) -> Fresh {
+        let now = self.now();
+        Fresh { now, span: now.0, ..Fresh::default() }
     }
 }
 
@@ -185,17 +194,11 @@ fn transactions<S: Source>(to: &Locked, source: S, children: usize) {
     for _ in 0..N / 10 {
         let begins = Beginning { name: "name", op: "op", ..Beginning::default() };
         let tx = to.with(|e, hub| e.start_transaction(hub, begins, &source.fresh())).unwrap();
-        let mut spans = [None; 10];
-        for span in spans.iter_mut().take(children) {
-            let child = to.with(|e, _| e.start_child(tx, black_box("op"), "description", &source.fresh())).unwrap();
-            to.with(|e, _| e.finish_span(child, source.now())).unwrap();
-            *span = Some(child);
+        for _ in 0..children {
+            let child = to.with(|e, _| e.start_child(tx, black_box("op"), "description", &source.fresh_span())).unwrap();
+            assert!(!to.with(|e, _| e.end_span(child, source.now())).unwrap());
         }
-        to.with(|e, hub| e.finish_transaction(tx, hub, source.now())).unwrap();
-        for span in spans.into_iter().flatten() {
-            to.with(|e, _| e.discard(span)).unwrap();
-        }
-        to.with(|e, _| e.discard(tx)).unwrap();
+        assert!(!to.with(|e, hub| e.end_transaction(tx, hub, source.now())).unwrap());
     }
 }
 

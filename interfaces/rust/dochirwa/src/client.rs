@@ -47,6 +47,11 @@ impl State {
         }
     }
 
+    /// The moment, and the random id of a span: all that the start of a child uses.
+    pub(crate) fn fresh_span(&mut self) -> Fresh {
+        Fresh { now: Moment::now(), span: u64::from_ne_bytes(self.bits()), ..Fresh::default() }
+    }
+
     /// Forgets what has ended, as soon as nothing names it.
     pub(crate) fn forget(&mut self, ended: Option<TransactionOrSpanId>) {
         self.left.extend(ended);

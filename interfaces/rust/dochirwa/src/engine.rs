@@ -478,7 +478,8 @@ impl Engine {
         Ok(TransactionId(transaction))
     }
 
-    /// Starts a span with an operation and a description (empty: none). Faults: `STALE`, `FULL`, `UNKNOWN`.
+    /// Starts a span with an operation and a description (empty: none). Of `fresh` it uses the moment and the id of the
+    /// span alone, so the others may be 0. Faults: `STALE`, `FULL`, `UNKNOWN`.
     pub fn start_child(
         &mut self,
         parent: impl Into<TransactionOrSpanId>,

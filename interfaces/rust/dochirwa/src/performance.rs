@@ -89,7 +89,7 @@ macro_rules! shared_methods {
         pub fn start_child(&self, op: &str, description: &str) -> Span {
             let hub = self.0.hub.clone();
             let id = self.call(|state, parent| {
-                let fresh = state.fresh();
+                let fresh = state.fresh_span();
                 state.engine.start_child(parent, op, description, &fresh).map(Some)
             });
             Span(Arc::new(SpanInner { hub, id }))

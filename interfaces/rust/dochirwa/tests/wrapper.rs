@@ -1,6 +1,7 @@
 //! Calls through the wrapper, and what they send.
 
 use dochirwa::*;
+use std::collections::HashSet;
 use std::error::Error;
 use std::sync::mpsc::{channel, Receiver, Sender};
 use std::sync::{Arc, Mutex};
@@ -235,6 +236,10 @@ fn spans_end_with_their_guards() {
         assert!(found[0].contains(part), "{part} of {}", found[0]);
     }
     assert!(has_tag(&found[0], "inner"));
+    // the transaction and its two spans have ids of their own
+    let ids: HashSet<_> = found[0].split("\"span_id\":\"").skip(1).map(|it| &it[..16]).collect();
+    assert_eq!(ids.len(), 3, "{}", found[0]);
+    assert!(!ids.contains("0000000000000000"));
     // what ended before its children, or is still named by a scope, is forgotten too
     let sale = hub.start_transaction(&TransactionContext::new("sell", "till").sample_rate(1.0));
     let child = sale.start_child("print", "");
