@@ -65,10 +65,6 @@ pub fn send_by_client<L: CoreLock>(client: &Client<L>, messages: u64) -> Result<
     Ok(sent)
 }
 
-fn boxed_transport(alloc: Global) -> Result<BoxedTransport, AllocError> {
-    Ok(Box::new(alloc, NoOpTransport)?)
-}
-
 // Adds the client, and drops it and a clone of it.
 fn add_clone_and_drop<L: CoreLock>(
     setup: ClientSetup<L, L::Callbacks>,
@@ -86,8 +82,12 @@ fn add_clone_and_drop<L: CoreLock>(
 pub fn add_and_drop(wait: BoxedGate, alloc: Global, turns: u64) -> Result<u64, Refusal> {
     let core: SharedCore = SharedCore::new(wait, alloc, 0)?;
     for now in 0..turns {
+        let Ok(transport) = Box::new(alloc, NoOpTransport) else {
+            return Err(Refusal::OutOfMemory);
+        };
+        let transport: BoxedTransport = transport;
         let setup = core.client_setup(options(alloc)?)?;
-        add_clone_and_drop(setup, boxed_transport(alloc)?, now)?;
+        add_clone_and_drop(setup, transport, now)?;
     }
     let holds_none = core.held().clients == 0;
     Ok(if holds_none { turns } else { 0 })
