@@ -121,7 +121,8 @@ fn with_losses<P: Drop, C: Callbacks>(
     outcome: Outcome,
     seen: [Seen; 2],
 ) -> Result<Found, Refusal> {
-    let Some(report) = engine.take_report(LABEL)?.reply else {
+    let Out { reply, sent: _ } = engine.take_report(LABEL)?;
+    let Some(report) = reply else {
         return Ok((outcome, None, seen));
     };
     let lost = match report.items.as_slice() {
@@ -206,7 +207,7 @@ fn nothing_runs_after_a_callback_that_drops(rt: HostRuntime) -> Result<(), Fail>
         ..CAPTURED
     };
     assert!(rt; capture(alloc, hub, &plan) == Ok((dropped, lost, [made, captured])));
-    plan.integrations = COUNTS.integrations;
+    plan.integrations = [Some(2), Some(3), Some(4)];
     plan.processor = None;
     let captured = Seen {
         processor: 1,
