@@ -51,6 +51,46 @@ const CAPTURED: Seen = Seen {
     ..UNSEEN
 };
 
+/// The second of three integrations drops each event; that of `add_client` goes on to the third as it was.
+const SECOND_DROPS: Plan = Plan {
+    integrations: [Some(2), None, Some(4)],
+    ..COUNTS
+};
+
+/// What they see then.
+const SEEN_TO_SECOND: [Seen; 2] = [
+    Seen {
+        integrations: [1, 2, 2],
+        ..MADE
+    },
+    Seen {
+        integrations: [4, 8, 0],
+        before_send: 0,
+        ..CAPTURED
+    },
+];
+
+/// The processor drops each event.
+const PROCESSOR_DROPS: Plan = Plan {
+    processor: None,
+    ..COUNTS
+};
+
+/// What they see then.
+const SEEN_BY_PROCESSOR: [Seen; 2] = [
+    MADE,
+    Seen {
+        processor: 1,
+        ..UNSEEN
+    },
+];
+
+/// `before_send` drops each event.
+const LAST_DROPS: Plan = Plan {
+    before_send: None,
+    ..COUNTS
+};
+
 /// A scope with a processor, a level and a tag.
 fn scope_of<P: Drop>(alloc: Global, processor: P) -> Result<Scope<P>, Refusal> {
     let mut scope = Scope::new(alloc, TraceId([7; 16]), SpanId([8; 8]));
@@ -194,33 +234,13 @@ fn nothing_runs_after_a_callback_that_drops(rt: HostRuntime) -> Result<(), Fail>
     let hub = By::Hub { transport: true };
     let dropped = (Uuid::nil(), None, Some(Uuid::nil()));
     let lost = Some((Reason::EventProcessor, 1));
-    // the second of three integrations drops each event; that of `add_client` goes on to the third as it was
-    let mut plan = COUNTS;
-    plan.integrations = [Some(2), None, Some(4)];
-    let made = Seen {
-        integrations: [1, 2, 2],
-        ..MADE
-    };
-    let captured = Seen {
-        integrations: [4, 8, 0],
-        before_send: 0,
-        ..CAPTURED
-    };
-    assert!(rt; capture(alloc, hub, &plan) == Ok((dropped, lost, [made, captured])));
-    plan.integrations = [Some(2), Some(3), Some(4)];
-    plan.processor = None;
-    let captured = Seen {
-        processor: 1,
-        ..UNSEEN
-    };
-    assert!(rt; capture(alloc, hub, &plan) == Ok((dropped, lost, [MADE, captured])));
-    plan.processor = Some(3);
-    plan.before_send = None;
+    assert!(rt; capture(alloc, hub, &SECOND_DROPS) == Ok((dropped, lost, SEEN_TO_SECOND)));
+    assert!(rt; capture(alloc, hub, &PROCESSOR_DROPS) == Ok((dropped, lost, SEEN_BY_PROCESSOR)));
     let lost = Some((Reason::BeforeSend, 1));
-    assert!(rt; capture(alloc, hub, &plan) == Ok((dropped, lost, [MADE, CAPTURED])));
+    assert!(rt; capture(alloc, hub, &LAST_DROPS) == Ok((dropped, lost, [MADE, CAPTURED])));
     // without a transport nothing runs
     let hub = By::Hub { transport: false };
-    assert!(rt; capture(alloc, hub, &plan) == Ok((dropped, None, [MADE, UNSEEN])));
+    assert!(rt; capture(alloc, hub, &LAST_DROPS) == Ok((dropped, None, [MADE, UNSEEN])));
     Ok(())
 }
 
