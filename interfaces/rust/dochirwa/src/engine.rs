@@ -145,6 +145,14 @@ pub struct Engine {
 // SAFETY: it holds plain data on the heap of malloc, which any thread may use and free.
 unsafe impl Send for Engine {}
 
+/// Attributes as JSON. The engine reads none where there is no text, which spares its reader.
+fn text_of(attributes: &Map) -> String {
+    if attributes.is_empty() {
+        return String::new();
+    }
+    attributes.to_string()
+}
+
 // SAFETY of all calls below: `raw` began as null, and only the library writes it; it is never copied; `&mut self` keeps
 // calls apart; a slice's pointer is not null and has its length; results are `&mut` to initialized numbers.
 impl Engine {
@@ -356,7 +364,7 @@ impl Engine {
 
     /// Captures a log. Faults: `STALE`.
     pub fn capture_log(&mut self, hub: HubId, log: &Log, now: Moment) -> Result<(), Fault> {
-        let (body, attributes) = (&log.body, log.attributes.to_string());
+        let (body, attributes) = (&log.body, text_of(&log.attributes));
         checked(unsafe {
             dochirwa_capture_log(
                 &mut self.raw,
@@ -374,7 +382,7 @@ impl Engine {
     /// Captures a metric. Faults: `STALE`, `UNKNOWN`.
     pub fn capture_metric(&mut self, hub: HubId, metric: &Metric, now: Moment) -> Result<(), Fault> {
         let (name, unit, attributes) =
-            (&metric.name, metric.unit.as_deref().unwrap_or(""), metric.attributes.to_string());
+            (&metric.name, metric.unit.as_deref().unwrap_or(""), text_of(&metric.attributes));
         checked(unsafe {
             dochirwa_capture_metric(
                 &mut self.raw,
