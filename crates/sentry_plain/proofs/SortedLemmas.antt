@@ -1,5 +1,5 @@
 -- A list of entries whose keys rise, where a binary search ended in it.
-use Rattle.std.proofs.Common.{◌≡◌, ℕ, zero, suc, ◌<◌, ◌≤◌, length, get_or, set, take, Bool, true, false, cond, is_eq, Some, None, List, [], ◌∷◌, refl, sym, ap, ◌∙◌, subst, Ordering, Less, Equal, Greater, arith, IfOk, IfErr, Result, Ok, Err}
+use Rattle.std.proofs.Common.{◌≡◌, ℕ, zero, suc, ◌<◌, ◌≤◌, length, get_or, set, Bool, true, false, cond, is_eq, Some, None, List, [], ◌∷◌, refl, sym, ap, ◌∙◌, subst, Ordering, Less, Equal, Greater, arith, IfOk, IfErr, Result, Ok, Err}
 use Rattle.std.specs.Cmp.{IsTotalOrder}
 use Rattle.std.specs.Ordering.{match_ordering, ordering_reverse, ordering_index}
 use Rattle.std.specs.List.{AllByRecursion, insert, remove}
@@ -109,17 +109,6 @@ module _ {K : Type 0} (cmp : K → K → Ordering) (total : IsTotalOrder cmp) wh
     put_gap (e ∷ es) k v (suc i) gap =
         ap (λ o. match_ordering o ((k, v) ∷ e ∷ es) ((e.0, v) ∷ es) (e ∷ insert_entry cmp es k v)) (turned e.0 k Less (gap.before 0 e (omega arith)))
         ∙ ap (λ (rest : List (K × X)). e ∷ rest) (put_gap es k v i (tail_gap e es k i gap))
-
-    -- the next entry of a list goes to the end of those before it
-    pub put_next : (l : List (K × X)) (i : ℕ) (d : K × X) → IsStrictlySortedBy cmp (keys_of l) → i < length l → insert_entry cmp (take i l) (get_or l i d).0 (get_or l i d).1 ≡ take (suc i) l
-    unfolding IsStrictlySortedBy
-    put_next [] i d sorted lt = absurd (omega arith)
-    put_next (e ∷ es) zero d sorted lt = refl
-    put_next (e ∷ es) (suc i) d sorted lt =
-        let k : K = (get_or es i d).0 in
-        let v : X = (get_or es i d).1 in
-        ap (λ o. match_ordering o ((k, v) ∷ e ∷ take i es) ((e.0, v) ∷ take i es) (e ∷ insert_entry cmp (take i es) k v)) (turned e.0 k Less (all_above e.0 es i d sorted.0 (omega arith)))
-        ∙ ap (λ (rest : List (K × X)). e ∷ rest) (put_next es i d sorted.1 (omega arith))
 
     -- entries stay in order
     below_match : (x : K) (o : Ordering) (xs ys zs : List (K × X)) → AllByRecursion (λ y. cmp x y ≡ Less) (keys_of xs) → AllByRecursion (λ y. cmp x y ≡ Less) (keys_of ys) → AllByRecursion (λ y. cmp x y ≡ Less) (keys_of zs)

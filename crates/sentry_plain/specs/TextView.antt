@@ -1,5 +1,5 @@
 -- What a text is, by how it lies in memory.
-use Rattle.std.specs.Prelude.{◌≡◌, ℕ, take, ◌≤◌}
+use Rattle.std.specs.Prelude.{ℕ, take, ◌≤◌}
 use Rattle.std.specs.Str.{IsUtf8}
 use Rattle.std.specs.String.{string_bytes}
 use Rattle.sentry_plain.specs.Texts.{Bytes}

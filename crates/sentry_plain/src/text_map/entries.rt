@@ -1,44 +1,53 @@
 //! The entries of a map from texts.
-ghost use Rattle.std.specs.Prelude.{◌≡◌, ◌==◌, [], ◌∷◌, IfOk, IfErr, IfSome, OnOk, OnErr, length, option_copied};
+ghost use Rattle.std.specs.Prelude.{◌≡◌, ◌<◌, ◌+◌, ◌≤◌, ◌==◌, [], ◌∷◌, IfOk, OnOk, OnErr, length, not, option_copied, slice_set};
+ghost use Rattle.std.specs.List.{remove};
 ghost use Rattle.std.specs.List.Sorted.{IsStrictlySortedBy};
 ghost use Rattle.std.specs.Map.{keys_of};
-ghost use Rattle.sentry_plain.specs.Texts.{put, text_cmp, without, value_at, by_bytes, left_of};
-ghost use Rattle.sentry_plain.specs.Places.{IsAt, IsGap};
-ghost use Rattle.sentry_plain.specs.EntriesView.{entries_of, InOrder, IsSameBody, listed_of, in_tree};
 ghost use Rattle.std.specs.Cmp.Lexicographic.{pointwise, lists_per};
+ghost use Rattle.sentry_plain.specs.EntriesView.{entries_of, InOrder, IsCounted, IsSameBody, HasPut};
 ghost use Rattle.sentry_plain.specs.Equality.{same_entry, per_entry};
+ghost use Rattle.sentry_plain.specs.Parts.{joined, AllFilled, begins_after, Belongs, part_at};
+ghost use Rattle.sentry_plain.specs.Texts.{put, text_cmp, without, value_at};
 
 use super::iter::TextMapIter;
+use super::part::Part;
 use crate::collection::Collection;
 use crate::plain_clone::PlainClone;
+use crate::shared::Shared;
 use crate::text::Text;
 use std::alloc::{AllocError, Global};
-use std::cmp::Ordering;
-use std::collections::BTreeMap;
-use std::collections::btree_map::Iter;
 use std::marker::Model;
 
-// More entries than this go into a tree.
-const LISTED: usize = 64;
+// With this many entries the first part goes behind a share.
+const ALONE: usize = 64;
+
+// With this many entries another part is divided.
+const FULL: usize = 32;
 
 #[derive(Debug, Drop)]
-enum Body<V> {
-    // In the order of the keys.
-    List(Vec<(Text, V)>),
-    Tree(BTreeMap<String, V>),
+struct Body<V> {
+    first: Part<V>,
+    // None of them is empty. Copies of the entries share them.
+    others: Vec<Shared<Part<V>>>,
 }
 
-/// Entries by key: a list in the order of the keys, or a tree where there are many. Contracts see their list in the
-/// order of the keys' bytes.
+/// Entries by key, in parts that follow each other in the order of the keys. A copy shares all but the first: of what is
+/// written while it is shared only one part is copied. Few entries are all in the first part. Contracts see the list of
+/// the entries in the order of the keys' bytes.
 #[derive(Debug)]
 pub struct Entries<V> {
     alloc: Global,
+    count: usize,
     body: Body<V>,
 }
 
 impl<V: Drop> Drop for Entries<V> {
     fn drop(self) {
-        let Entries { alloc: _, body: _ } = self;
+        let Entries {
+            alloc: _,
+            count: _,
+            body: _,
+        } = self;
     }
 }
 
@@ -48,11 +57,11 @@ impl<V> Model for Entries<V> {
 
     ghost Value = { List (Bytes × V) };
 
-    ghost use Rattle.sentry_plain.specs.EntriesView.{entries_of, InOrder};
+    ghost use Rattle.sentry_plain.specs.EntriesView.{entries_of, IsCounted};
 
     ghost view = { λ a. entries_of a.body };
 
-    ghost invariant = { λ a. InOrder a.body };
+    ghost invariant = { λ a. IsCounted a.body a.count };
 }
 
 impl<V> Collection for Entries<V> {
@@ -61,214 +70,190 @@ impl<V> Collection for Entries<V> {
     fn new_empty(alloc: Global) -> Entries<V> {
         Entries {
             alloc,
-            body: Body::List(Vec::new(alloc)),
+            count: 0,
+            body: Body {
+                first: Part::new(alloc),
+                others: Vec::new(alloc),
+            },
         }
     }
 }
 
-// The order of two texts by their bytes.
-fn compare<'x>(one: &'x str, other: &'x str) -> Ordering
-    ensures { result ≡ text_cmp one.now other.now }
+// Removes the value at a key of a part, which is copied first where it is shared.
+fn remove_shared<V: PlainClone + Drop>(
+    share: &mut Shared<Part<V>>,
+    key: &str,
+) -> Result<Option<V>, AllocError>
+    requires { IsStrictlySortedBy text_cmp (keys_of share.old) }
+    ensures value { IfOk result (λ value. value ≡ value_at share.old key.now) }
+    ensures ok { OnOk result (share.new ≡ without share.old key.now) }
+    ensures err { OnErr result (share.new ≡ share.old) }
 {
-    Ord::cmp(&one, &other)
-}
-
-// Where a key stands in a list, or where it would.
-fn find<V>(entries: &[(Text, V)], key: &str) -> Result<usize, usize>
-    requires { IsStrictlySortedBy text_cmp (keys_of entries.now) }
-    ensures found { IfOk result (IsAt text_cmp entries.now key.now) }
-    ensures absent { IfErr result (IsGap text_cmp entries.now key.now) }
-{
-    entries.binary_search_by(
-        |entry: &(Text, V)| -> Ordering
-            ensures { result ≡ text_cmp entry.now.0 key.entry.now }
-        { compare(entry.0.as_str(), key) },
-    )
-}
-
-// The value at a key of a list.
-fn get_listed<'a, V>(entries: &'a [(Text, V)], key: &str) -> Option<&'a V>
-    requires { IsStrictlySortedBy text_cmp (keys_of entries.now) }
-    ensures { option_copied result ≡ value_at entries.now key.now }
-{
-    match find(entries, key) {
-        Ok(place) => Some(&entries[place].1),
-        Err(_) => None,
+    match share.make_mut() {
+        Ok(part) => Ok(part.remove(key)),
+        Err(error) => Err(error),
     }
 }
 
-// Puts a value at a key of a list.
-fn insert_listed<V: Drop>(
-    entries: &mut Vec<(Text, V)>,
+// Puts a value at a key of a part, which is copied first where it is shared. Returns how many entries there are more.
+fn insert_shared<V: PlainClone + Drop>(
+    share: &mut Shared<Part<V>>,
     key: Text,
     value: V,
+) -> Result<usize, AllocError>
+    requires { IsStrictlySortedBy text_cmp (keys_of share.old) }
+    ensures ok { OnOk result (share.new ≡ put share.old key value) }
+    ensures count { IfOk result (λ more. length share.new ≡ length share.old + more) }
+    ensures one { IfOk result (λ more. more ≤ 1) }
+    ensures err { OnErr result (share.new ≡ share.old) }
+{
+    match share.make_mut() {
+        Ok(part) => match part.insert(key, value) {
+            Ok(more) => Ok(more),
+            Err(error) => Err(error),
+        },
+        Err(error) => Err(error),
+    }
+}
+
+// Drops a part that is empty. The others aren't.
+fn drop_empty<V: Drop>(parts: &mut Vec<Shared<Part<V>>>, place: usize)
+    requires inside { place < length parts.old.items }
+    requires filled { AllFilled (remove parts.old.items place) }
+    ensures same { joined parts.new.items ≡ joined parts.old.items }
+    ensures filled { AllFilled parts.new.items }
+{
+    if parts[place].get().len() > 0 {
+        return;
+    }
+    drop(parts.remove(place));
+}
+
+// Removes the value at a key of one of several parts.
+fn remove_in<V: PlainClone + Drop>(
+    parts: &mut Vec<Shared<Part<V>>>,
+    place: usize,
+    key: &str,
+) -> Result<Option<V>, AllocError>
+    requires inside { place < length parts.old.items }
+    requires filled { AllFilled parts.old.items }
+    requires order { IsStrictlySortedBy text_cmp (keys_of (part_at parts.old.items place)) }
+    ensures value { IfOk result (λ value. value ≡ value_at (part_at parts.old.items place) key.now) }
+    ensures ok { OnOk result (joined parts.new.items ≡ joined (slice_set parts.old.items place (without (part_at parts.old.items place) key.now))) }
+    ensures err { OnErr result (parts.new.items ≡ parts.old.items) }
+    ensures filled { AllFilled parts.new.items }
+{
+    let value = remove_shared(&mut parts[place], key)?;
+    drop_empty(parts, place);
+    Ok(value)
+}
+
+// Divides a part that is full into halves.
+fn divide<V: PlainClone + Drop>(
+    alloc: Global,
+    parts: &mut Vec<Shared<Part<V>>>,
+    place: usize,
 ) -> Result<(), AllocError>
-    requires { IsStrictlySortedBy text_cmp (keys_of entries.old.items) }
-    ensures ok { OnOk result (entries.new.items ≡ put entries.old.items key value) }
-    ensures err { OnErr result (entries.new.items ≡ entries.old.items) }
+    requires inside { place < length parts.old.items }
+    requires filled { AllFilled parts.old.items }
+    ensures same { joined parts.new.items ≡ joined parts.old.items }
+    ensures filled { AllFilled parts.new.items }
 {
-    match find(entries.as_slice(), key.as_str()) {
-        Ok(place) => {
-            entries[place] = (key, value);
-            Ok(())
-        }
-        Err(place) => {
-            entries.insert(place, (key, value))?;
-            Ok(())
-        }
+    let entries = parts[place].get().as_slice();
+    if entries.len() < FULL {
+        return Ok(());
     }
-}
-
-// Removes the value at a key of a list.
-fn remove_listed<V>(entries: &mut Vec<(Text, V)>, key: &str) -> Option<V>
-    requires { IsStrictlySortedBy text_cmp (keys_of entries.old.items) }
-    ensures value { result ≡ value_at entries.old.items key.now }
-    ensures rest { entries.new.items ≡ without entries.old.items key.now }
-{
-    match find(entries.as_slice(), key) {
-        Ok(place) => {
-            let (_, value) = entries.remove(place);
-            Some(value)
-        }
-        Err(_) => None,
-    }
-}
-
-// A tree with clones of the entries of a list.
-fn tree_of<V: PlainClone + Drop>(
-    alloc: Global,
-    entries: &[(Text, V)],
-) -> Result<BTreeMap<String, V>, AllocError>
-    requires { IsStrictlySortedBy text_cmp (keys_of entries.now) }
-    ensures { IfOk result (λ tree. by_bytes (λ v. v) tree.entries ≡ entries.now) }
-{
-    let mut tree = BTreeMap::new(alloc);
-    for entry in entries {
-        let key = String::from_str(alloc, entry.0.as_str())?;
-        drop(tree.insert(key, entry.1.clone()?)?);
-    }
-    Ok(tree)
-}
-
-// Clones of the entries of a list.
-fn copy_listed<V: PlainClone + Drop>(
-    alloc: Global,
-    entries: &[(Text, V)],
-) -> Result<Vec<(Text, V)>, AllocError>
-    ensures { IfOk result (λ copies. copies.items ≡ entries.now) }
-{
-    let mut copies = Vec::with_capacity(alloc, entries.len())?;
-    for entry in entries {
-        copies.push((entry.0.clone()?, entry.1.clone()?))?;
-    }
-    Ok(copies)
+    let half = entries.len() / 2;
+    let lower = Shared::new(alloc, Part::of_clones(alloc, &entries[..half])?)?;
+    let upper = Shared::new(alloc, Part::of_clones(alloc, &entries[half..])?)?;
+    parts.insert(place + 1, upper)?;
+    parts[place] = lower;
+    Ok(())
 }
 
 impl<V> Body<V> {
+    // The part that a key belongs into: its place among the others, or `None` for the first.
+    fn place(&self, key: &str) -> Option<usize>
+        requires { InOrder self.now }
+        ensures { Belongs key.now self.now.first self.now.others.items result }
+    {
+        let begun = self.others.as_slice().partition_point(
+            |part: &Shared<Part<V>>| -> bool
+                ensures { result ≡ not (begins_after key.entry.now part.entry.now) }
+            { !part.get().begins_after(key) },
+        );
+        begun.checked_sub(1)
+    }
+
     fn get(&self, key: &str) -> Option<&V>
         requires { InOrder self.now }
         ensures { option_copied result ≡ value_at (entries_of self.now) key.now }
     {
-        match self {
-            Body::List(entries) => get_listed(entries.as_slice(), key),
-            Body::Tree(tree) => tree.get(key),
-        }
-    }
-
-    fn len(&self) -> usize
-        ensures { result ≡ length (entries_of self.now) }
-    {
-        match self {
-            Body::List(entries) => entries.len(),
-            Body::Tree(tree) => tree.len(),
-        }
-    }
-
-    fn remove(&mut self, key: &str) -> Option<V>
-        requires { InOrder self.old }
-        ensures value { result ≡ value_at (entries_of self.old) key.now }
-        ensures rest { entries_of self.new ≡ without (entries_of self.old) key.now }
-        ensures order { InOrder self.new }
-    {
-        match self {
-            Body::List(entries) => remove_listed(entries, key),
-            Body::Tree(tree) => tree.remove(key),
+        match self.place(key) {
+            None => self.first.get(key),
+            Some(place) => self.others[place].get().get(key),
         }
     }
 }
 
 impl<V: PlainClone + Drop> Body<V> {
-    // A tree, if a list has as many entries as it may have.
-    fn grown(&self, alloc: Global) -> Result<Option<Body<V>>, AllocError>
-        requires { InOrder self.now }
-        ensures { IfOk result (λ grown. IfSome grown (IsSameBody self.now)) }
-    {
-        match self {
-            Body::List(entries) if entries.len() >= LISTED => {
-                Ok(Some(Body::Tree(tree_of(alloc, entries.as_slice())?)))
-            }
-            _ => Ok(None),
-        }
-    }
-
-    fn copy(&self, alloc: Global) -> Result<Body<V>, AllocError>
+    fn copy(&self) -> Result<Body<V>, AllocError>
         requires { InOrder self.now }
         ensures { IfOk result (IsSameBody self.now) }
     {
-        match self {
-            Body::List(entries) => Ok(Body::List(copy_listed(alloc, entries.as_slice())?)),
-            Body::Tree(tree) => Ok(Body::Tree(tree.clone()?)),
-        }
+        Ok(Body {
+            first: self.first.clone()?,
+            others: self.others.clone()?,
+        })
     }
 
-    fn insert(&mut self, alloc: Global, key: Text, value: V) -> Result<(), AllocError>
+    // Puts the first part behind a share, if it is full.
+    fn share_first(&mut self, alloc: Global) -> Result<(), AllocError>
         requires { InOrder self.old }
-        ensures ok { OnOk result (entries_of self.new ≡ put (entries_of self.old) key value) }
-        ensures err { OnErr result (entries_of self.new ≡ entries_of self.old) }
-        ensures order { InOrder self.new }
+        ensures { IsSameBody self.old self.new }
     {
-        if let Some(grown) = self.grown(alloc)? {
-            *self = grown;
+        if self.first.len() < ALONE {
+            return Ok(());
         }
-        self.insert_in(key, value)?;
+        let whole = Shared::new(alloc, self.first.clone()?)?;
+        self.others.insert(0, whole)?;
+        self.first = Part::new(alloc);
         Ok(())
     }
 
-    fn insert_in(&mut self, key: Text, value: V) -> Result<(), AllocError>
+    // Divides the part that a key belongs into, if it is full.
+    fn make_room(&mut self, alloc: Global, key: &str) -> Result<(), AllocError>
         requires { InOrder self.old }
-        ensures ok { OnOk result (entries_of self.new ≡ put (entries_of self.old) key value) }
-        ensures err { OnErr result (entries_of self.new ≡ entries_of self.old) }
-        ensures order { InOrder self.new }
+        ensures { IsSameBody self.old self.new }
     {
-        match self {
-            Body::List(entries) => insert_listed(entries, key, value),
-            Body::Tree(tree) => {
-                drop(tree.insert(key.into_string()?, value)?);
-                Ok(())
-            }
-        }
-    }
-}
-
-impl<V> Body<V> {
-    // The entries of a list.
-    fn listed(&self) -> &[(Text, V)]
-        ensures { result.now ≡ listed_of self.now }
-    {
-        match self {
-            Body::List(entries) => entries.as_slice(),
-            Body::Tree(_) => &[],
+        match self.place(key) {
+            None => self.share_first(alloc),
+            Some(place) => divide(alloc, &mut self.others, place),
         }
     }
 
-    // The entries of a tree.
-    fn tree_iter(&self) -> Option<Iter<'_, String, V>>
-        ensures entries { left_of result ≡ in_tree self.now }
-        ensures ordered { IsStrictlySortedBy text_cmp (keys_of (in_tree self.now)) }
+    // Puts a value at a key, and returns how many entries there are more.
+    fn insert(&mut self, key: Text, value: V) -> Result<usize, AllocError>
+        requires { InOrder self.old }
+        ensures ok { IfOk result (HasPut self.old self.new key value) }
+        ensures err { OnErr result (IsSameBody self.old self.new) }
     {
-        match self {
-            Body::List(_) => None,
-            Body::Tree(tree) => Some(tree.iter()),
+        match self.place(key.as_str()) {
+            None => self.first.insert(key, value),
+            Some(place) => insert_shared(&mut self.others[place], key, value),
+        }
+    }
+
+    fn remove(&mut self, key: &str) -> Result<Option<V>, AllocError>
+        requires { InOrder self.old }
+        ensures value { IfOk result (λ value. value ≡ value_at (entries_of self.old) key.now) }
+        ensures rest { OnOk result (entries_of self.new ≡ without (entries_of self.old) key.now) }
+        ensures all { OnOk result (InOrder self.new) }
+        ensures err { OnErr result (IsSameBody self.old self.new) }
+    {
+        match self.place(key) {
+            None => Ok(self.first.remove(key)),
+            Some(place) => remove_in(&mut self.others, place, key),
         }
     }
 }
@@ -285,14 +270,14 @@ impl<V> Entries<V> {
     pub fn len(&self) -> usize
         ensures { result ≡ length self.now }
     {
-        self.body.len()
+        self.count
     }
 
     /// Returns `true` if there are no entries.
     pub fn is_empty(&self) -> bool
         ensures { result ≡ (length self.now == 0) }
     {
-        self.body.len() == 0
+        self.count == 0
     }
 
     /// The entries in the order of the keys' bytes.
@@ -300,15 +285,7 @@ impl<V> Entries<V> {
         ensures rest { result ≡ self.now }
         ensures ordered { IsStrictlySortedBy text_cmp (keys_of self.now) }
     {
-        TextMapIter::new(self.body.listed(), self.body.tree_iter())
-    }
-
-    /// Removes and returns the value at a key.
-    pub fn remove(&mut self, key: &str) -> Option<V>
-        ensures value { result ≡ value_at self.old key.now }
-        ensures rest { self.new ≡ without self.old key.now }
-    {
-        self.body.remove(key)
+        TextMapIter::new(self.body.first.as_slice(), self.body.others.as_slice())
     }
 }
 
@@ -317,12 +294,13 @@ impl<V: Drop> Entries<V> {
     pub fn of_one(alloc: Global, key: Text, value: V) -> Result<Entries<V>, AllocError>
         ensures { IfOk result (λ made. made ≡ (key, value) ∷ []) }
     {
-        let mut entries = Vec::new(alloc);
-        entries.reserve(1)?;
-        entries.push_reserved((key, value));
         Ok(Entries {
             alloc,
-            body: Body::List(entries),
+            count: 1,
+            body: Body {
+                first: Part::of_one(alloc, key, value)?,
+                others: Vec::new(alloc),
+            },
         })
     }
 }
@@ -333,9 +311,29 @@ impl<V: PlainClone + Drop> Entries<V> {
         ensures ok { OnOk result (self.new ≡ put self.old key value) }
         ensures err { OnErr result (self.new ≡ self.old) }
     {
+        if self.count == usize::MAX {
+            return Err(AllocError);
+        }
         let alloc = self.alloc;
-        self.body.insert(alloc, key, value)?;
+        self.body.make_room(alloc, key.as_str())?;
+        let more = self.body.insert(key, value)?;
+        self.count += more;
         Ok(())
+    }
+
+    /// Removes and returns the value at a key.
+    pub fn remove(&mut self, key: &str) -> Result<Option<V>, AllocError>
+        ensures value { IfOk result (λ value. value ≡ value_at self.old key.now) }
+        ensures ok { OnOk result (self.new ≡ without self.old key.now) }
+        ensures err { OnErr result (self.new ≡ self.old) }
+    {
+        match self.body.remove(key)? {
+            None => Ok(None),
+            Some(value) => {
+                self.count -= 1;
+                Ok(Some(value))
+            }
+        }
     }
 }
 
@@ -345,7 +343,8 @@ impl<V: PlainClone + Drop> Clone for Entries<V> {
     fn clone(&self) -> Result<Entries<V>, AllocError> {
         Ok(Entries {
             alloc: self.alloc,
-            body: self.body.copy(self.alloc)?,
+            count: self.count,
+            body: self.body.copy()?,
         })
     }
 }

@@ -1,27 +1,31 @@
-use Rattle.std.proofs.Common.{◌∙◌, ap, sym, subst}
-use Rattle.std.proofs.lemmas.Cmp.{nat_list_cmp_total}
-use Rattle.std.specs.List.Sorted.{IsStrictlySortedBy}
-use Rattle.std.specs.Map.{keys_of}
-use Rattle.sentry_plain.specs.EntriesView.{entries_of, InOrder}
-use Rattle.sentry_plain.specs.Texts.{by_bytes, text_cmp, value_at, without}
-use Rattle.sentry_plain.proofs.SortedLemmas.{sorted_without}
-use Rattle.sentry_plain.proofs.TextLemmas.{by_bytes-remove, lookup-by_bytes, option_map-same}
+use Rattle.std.proofs.Common.{◌∙◌, ◌∷◌, ◌++◌, refl, sym, zero}
+use Rattle.sentry_plain.proofs.BodyLemmas.{inside, order_without, removes_other, sorted_first, sorted_other}
+use Rattle.sentry_plain.proofs.PartLemmas.{value_in, without_in}
+use Rattle.sentry_plain.specs.Parts.{joined}
 use Rattle.sentry_plain.proofs.text_map.entries.Body.remove.Goals as goal
 
-pub returns-in-List-clause-order : goal.returns-in-List-clause-order
-returns-in-List-clause-order g c =
-    subst (λ m. IsStrictlySortedBy text_cmp (keys_of m)) (sym c.remove_listed.ensures.rest)
-    (sorted_without text_cmp nat_list_cmp_total c.in-List.entries.items c.args.key.now (subst InOrder c.in-List.is c.requires))
+pub remove-requires : goal.remove-requires
+remove-requires g c = sorted_first c.args.self.now c.requires
 
-pub returns-in-Tree-clause-value : goal.returns-in-Tree-clause-value
-returns-in-Tree-clause-value g c =
-    c.remove.ensures.value
-    ∙ sym (option_map-same _)
-    ∙ lookup-by_bytes (λ v. v) c.args.key.now c.in-Tree.tree.entries
-    ∙ ap (λ m. value_at m c.args.key.now) (sym (ap entries_of c.in-Tree.is))
+pub remove_in-requires-clause-inside : goal.remove_in-requires-clause-inside
+remove_in-requires-clause-inside g c = inside c.args.key.now c.args.self.now.first c.args.self.now.others.items c.in-Some.place c.in-Some.ensures
 
-pub returns-in-Tree-clause-rest : goal.returns-in-Tree-clause-rest
-returns-in-Tree-clause-rest g c =
-    ap (by_bytes (λ v. v)) c.remove.ensures.entries
-    ∙ by_bytes-remove (λ v. v) c.args.key.now c.in-Tree.tree.entries
-    ∙ ap (λ m. without m c.args.key.now) (sym (ap entries_of c.in-Tree.is))
+pub remove_in-requires-clause-order : goal.remove_in-requires-clause-order
+remove_in-requires-clause-order g c = sorted_other c.args.self.now c.in-Some.place c.requires
+
+pub returns-in-None : goal.returns-in-None
+returns-in-None g c =
+    let body = c.args.self.now in
+    let rest = (λ i. c.remove.ensures.rest i ++ joined body.others.items) ∙ sym (without_in c.args.key.now (body.first ∷ body.others.items) zero c.in-None.ensures) in
+    record {
+      value = c.remove.ensures.value ∙ sym (value_in c.args.key.now (body.first ∷ body.others.items) zero c.in-None.ensures);
+      rest = rest;
+      all = order_without body _ c.args.key.now c.requires rest c.requires.filled;
+      err = tt;
+    }
+
+pub returns-in-Some : goal.returns-in-Some
+returns-in-Some g c =
+    let less = c.remove_in.ensures in
+    let four = removes_other c.remove_in.result c.args.self.now _ c.args.key.now c.in-Some.place c.requires c.in-Some.ensures less.value less.ok less.err less.filled refl in
+    record { value = four.0; rest = four.1.0; all = four.1.1.0; err = four.1.1.1 }

@@ -3,7 +3,7 @@ use Rattle.std.proofs.lemmas.Cmp.{nat_list_cmp_total}
 use Rattle.sentry_plain.specs.Places.{IsAt, IsGap}
 use Rattle.sentry_plain.specs.Texts.{text_cmp}
 use Rattle.sentry_plain.proofs.SortedLemmas.{lookup_at, lookup_gap, without_at, without_gap}
-use Rattle.sentry_plain.proofs.text_map.entries.remove_listed.Goals as goal
+use Rattle.sentry_plain.proofs.text_map.part.remove_listed.Goals as goal
 
 pub returns-in-Ok-clause-value : goal.returns-in-Ok-clause-value
 returns-in-Ok-clause-value g c =

@@ -2,7 +2,7 @@ use Rattle.std.proofs.Common.{sym}
 use Rattle.std.proofs.lemmas.Cmp.{nat_list_cmp_total}
 use Rattle.sentry_plain.specs.Texts.{text_cmp}
 use Rattle.sentry_plain.proofs.SortedLemmas.{lookup_at, lookup_gap}
-use Rattle.sentry_plain.proofs.text_map.entries.get_listed.Goals as goal
+use Rattle.sentry_plain.proofs.text_map.part.get_listed.Goals as goal
 
 pub returns-in-Ok : goal.returns-in-Ok
 returns-in-Ok g c =

@@ -1,5 +1,5 @@
 use Rattle.std.proofs.Common.{◌≡◌, take}
-use Rattle.sentry_plain.proofs.text_map.entries.copy_listed.Given as goal
+use Rattle.sentry_plain.proofs.text_map.part.copy_listed.Given as goal
 
 -- the entries so far
 abbrev pub invariant-loop-entry : goal.invariant-loop-entry

@@ -3,7 +3,7 @@ use Rattle.std.proofs.lemmas.Fn.{always_returns_same}
 use Rattle.std.proofs.lemmas.Cmp.{nat_list_cmp_total}
 use Rattle.sentry_plain.specs.Texts.{text_cmp}
 use Rattle.sentry_plain.proofs.SortedLemmas.{searched}
-use Rattle.sentry_plain.proofs.text_map.entries.find.Goals as goal
+use Rattle.sentry_plain.proofs.text_map.part.find.Goals as goal
 
 -- each call compares a key with the one that is looked for
 pub returns : goal.returns

@@ -4,7 +4,7 @@ use Rattle.sentry_plain.specs.Places.{IsAt, IsGap}
 use Rattle.sentry_plain.specs.Texts.{text_cmp}
 use Rattle.sentry_plain.proofs.EntryLemmas.{set_here}
 use Rattle.sentry_plain.proofs.SortedLemmas.{put_gap}
-use Rattle.sentry_plain.proofs.text_map.entries.insert_listed.Goals as goal
+use Rattle.sentry_plain.proofs.text_map.part.insert_listed.Goals as goal
 
 pub returns-in-Ok-clause-ok : goal.returns-in-Ok-clause-ok
 returns-in-Ok-clause-ok g c =
