@@ -1,5 +1,5 @@
 -- What stands at each number after one is written.
-use Rattle.std.proofs.Common.{◌≡◌, ◌≢◌, refl, ap, ◌∙◌, sym, ℕ, ◌+◌, ◌-◌, ◌<◌, ◌≤◌, List, [], ◌∷◌, Bool, true, false, cond, arith, inl, inr, ⊎_elim}
+use Rattle.std.proofs.Common.{◌≡◌, ◌≢◌, refl, ap, ◌∙◌, sym, ℕ, ◌+◌, ◌-◌, ◌<◌, ◌≤◌, List, [], ◌∷◌, Bool, true, false, cond, arith, inl, inr}
 use Rattle.std.specs.Prelude.{Option, Some, None, unwrap_or, ◌==◌, nat_lt, ◌⊎◌}
 use Rattle.std.specs.Option.{IsSome, is_some, option_map}
 use Rattle.std.specs.Ordering.{nat_cmp, is_eq, match_ordering}
@@ -19,7 +19,7 @@ use Rattle.std.specs.Map.{values_of}
 use Rattle.sentry_plain.specs.Tables.{value_at, replace_at, put, without}
 use Rattle.sentry_hub_table.specs.declared.tally.Key.{Key}
 use Rattle.sentry_hub_table.specs.declared.tally.Tally.{Tally}
-use Rattle.sentry_hub_table.specs.Entries.{is_key, has_entry, AreApart}
+use Rattle.sentry_hub_table.specs.Entries.{is_key}
 use Rattle.sentry_hub_table.specs.Tallies.{count_at, one_if, tally_at, Keeps}
 use Rattle.std.proofs.lemmas.Bool.{lt-ltb}
 
@@ -236,55 +236,7 @@ more a b h = sym (lt-ltb 0 (a + b) (omega arith))
 
 -- ---- entries
 
-is_same_number : (n k : ℕ) → is_at (nat_cmp n) k ≡ true → n ≡ k
-is_same_number n k h = same_number n k (sym (nat_cmp_same n k) ∙ h)
-
 module _ {X : Type 0} where
-  there_replaced-at : (b d : Bool) (x y : X) (o p : Option X) → is_some o ≡ is_some p
-      → is_some (cond d (Some x) o) ≡ is_some (cond d (Some y) p)
-  there_replaced-at b true x y o p h = refl
-  there_replaced-at b false x y o p h = h
-
-  there_replaced-by : (b : Bool) (e : ℕ × X) (es rest : List (ℕ × X)) (n : ℕ) (x : X)
-      → is_some (value_at rest n) ≡ is_some (value_at es n)
-      → is_some (value_at (cond b ((e.0, x) ∷ es) (e ∷ rest)) n) ≡ is_some (value_at (e ∷ es) n)
-  there_replaced-by true e es rest n x h = there_replaced-at true (is_at (nat_cmp n) e.0) x e.1 (value_at es n) (value_at es n) refl
-  there_replaced-by false e es rest n x h = there_replaced-at false (is_at (nat_cmp n) e.0) e.1 e.1 (value_at rest n) (value_at es n) h
-
-  -- the same numbers have a value after one was written
-  pub there_replaced : (entries : List (ℕ × X)) (k : ℕ) (x : X) (n : ℕ)
-      → is_some (value_at (replace_at entries k x) n) ≡ is_some (value_at entries n)
-  there_replaced [] k x n = refl
-  there_replaced (e ∷ es) k x n = there_replaced-by (is_at (nat_cmp k) e.0) e es (replace_at es k x) n x (there_replaced es k x n)
-
-  there_put-first : (d : Bool) (x : X) (o : Option X) (same : Type 0) → (d ≡ true → same) → is_some (cond d (Some x) o) ≡ true
-      → same ⊎ (is_some o ≡ true)
-  there_put-first true x o same is h = inl (is refl)
-  there_put-first false x o same is h = inr h
-
-  there_put-next : (d : Bool) (x : X) (o p : Option X) (same : Type 0) → (is_some p ≡ true → same ⊎ (is_some o ≡ true))
-      → is_some (cond d (Some x) p) ≡ true → same ⊎ (is_some (cond d (Some x) o) ≡ true)
-  there_put-next true x o p same rest h = inr refl
-  there_put-next false x o p same rest h = rest h
-
-  there_put-at : (o : Ordering) (e : ℕ × X) (es : List (ℕ × X)) (k : ℕ) (x : X) (n : ℕ)
-      → (is_some (value_at (put es k x) n) ≡ true → (n ≡ k) ⊎ (is_some (value_at es n) ≡ true))
-      → is_some (value_at (match_ordering o ((k, x) ∷ e ∷ es) ((e.0, x) ∷ es) (e ∷ put es k x)) n) ≡ true
-      → (n ≡ k) ⊎ (is_some (value_at (e ∷ es) n) ≡ true)
-  there_put-at Less e es k x n rest h =
-      there_put-first (is_at (nat_cmp n) k) x (value_at (e ∷ es) n) (n ≡ k) (is_same_number n k) h
-  there_put-at Equal e es k x n rest h =
-      there_put-next (is_at (nat_cmp n) e.0) e.1 (value_at es n) (value_at es n) (n ≡ k) (λ some. inr some)
-      (sym (there_replaced-at true (is_at (nat_cmp n) e.0) x e.1 (value_at es n) (value_at es n) refl) ∙ h)
-  there_put-at Greater e es k x n rest h =
-      there_put-next (is_at (nat_cmp n) e.0) e.1 (value_at es n) (value_at (put es k x) n) (n ≡ k) rest h
-
-  -- a number that has a value after one came has it from before, or is that one's
-  pub there_put : (entries : List (ℕ × X)) (k : ℕ) (x : X) (n : ℕ) → is_some (value_at (put entries k x) n) ≡ true
-      → (n ≡ k) ⊎ (is_some (value_at entries n) ≡ true)
-  there_put [] k x n h = there_put-first (is_at (nat_cmp n) k) x None (n ≡ k) (is_same_number n k) h
-  there_put (e ∷ es) k x n h = there_put-at (nat_cmp k e.0) e es k x n (there_put es k x n) h
-
   here_put-at : (o : Ordering) (e : ℕ × X) (es : List (ℕ × X)) (k : ℕ) (x : X) → nat_cmp k e.0 ≡ o
       → is_some (value_at (put es k x) k) ≡ true
       → is_some (value_at (match_ordering o ((k, x) ∷ e ∷ es) ((e.0, x) ∷ es) (e ∷ put es k x)) k) ≡ true
@@ -298,84 +250,16 @@ module _ {X : Type 0} where
   here_put [] k x = ap (λ b. is_some (cond b (Some x) None)) (nat_cmp_same k k ∙ equal_to_itself k)
   here_put (e ∷ es) k x = here_put-at (nat_cmp k e.0) e es k x refl (here_put es k x)
 
-  gone_there-at : (b : Bool) (o : Option X) → is_some (cond b None o) ≡ true → is_some o ≡ true
-  gone_there-at true o h = absurd cc
-  gone_there-at false o h = h
-
-  -- a number that has a value after one went had it before
-  pub gone_there : (entries left : List (ℕ × X)) (k n : ℕ) → value_at left n ≡ cond (is_eq (nat_cmp k n)) None (value_at entries n)
-      → is_some (value_at left n) ≡ true → is_some (value_at entries n) ≡ true
-  gone_there entries left k n is h = gone_there-at (is_eq (nat_cmp k n)) (value_at entries n) (sym (ap is_some is) ∙ h)
-
--- the entries are those of the same numbers
-pub apart_kept : (tag : ℕ) (old new : List (ℕ × ℕ)) (late : List Key) → ((n : ℕ) → has_entry new n ≡ has_entry old n)
-    → AreApart tag old late → AreApart tag new late
-apart_kept tag old new late same apart n some = apart n (sym (same n) ∙ some)
-
-none_equal : (a b c : Bool) → (a ≡ true → b ≡ true → ⊥) → one_if (a && b) ≡ 0
-none_equal true true c clash = absurd (clash refl refl)
-none_equal true false c clash = refl
-none_equal false b c clash = refl
-
--- a key without an entry comes into the list
-pub apart_pushed : (tag : ℕ) (counts : List (ℕ × ℕ)) (late : List Key) (key : Key) → (key.tag ≡ tag → has_entry counts key.number ≡ false)
-    → AreApart tag counts late → AreApart tag counts (late ++ key ∷ [])
-apart_pushed tag counts late key none apart n some =
-    let so_far = apart n some in
-    let more = late_pushed late key (record { tag = tag; number = n }) in
-    let other : one_if (is_key (record { tag = tag; number = n }) key) ≡ 0 =
-    none_equal (key.tag == tag) (key.number == n) true (λ t e.
-    let gone : has_entry counts n ≡ false = ap (has_entry counts) (sym (same_number key.number n e)) ∙ none (same_number key.tag tag t) in
-    let clash : true ≡ false = sym some ∙ gone in cc) in
-    omega arith
-
--- a key goes out of the list
-pub apart_removed : (tag : ℕ) (counts : List (ℕ × ℕ)) (late : List Key) (i : ℕ) (name : Key) → i < length late → get_or late i name ≡ name
-    → AreApart tag counts late → AreApart tag counts (remove late i)
-apart_removed tag counts late i name inside is apart n some =
-    let so_far = apart n some in
-    let less = late_removed late i name (record { tag = tag; number = n }) inside is in
-    omega arith
-
--- an entry comes for a number whose key is not in the list
-pub apart_entered : (tag : ℕ) (counts : List (ℕ × ℕ)) (late : List Key) (number : ℕ)
-    → count_by (is_key (record { tag = tag; number = number })) late ≡ 0
-    → AreApart tag counts late → AreApart tag (put counts number 0) late
-apart_entered tag counts late number none apart n some =
-    ⊎_elim (λ is. ap (λ k. count_by (is_key (record { tag = tag; number = k })) late) is ∙ none) (λ there. apart n there)
-    (there_put counts number 0 n some)
-
--- an entry goes
-pub apart_forgotten : (tag : ℕ) (counts left : List (ℕ × ℕ)) (late : List Key) (number : ℕ)
-    → ((n : ℕ) → value_at left n ≡ cond (is_eq (nat_cmp number n)) None (value_at counts n))
-    → AreApart tag counts late → AreApart tag left late
-apart_forgotten tag counts left late number gone apart n some = apart n (gone_there counts left number n (gone n) some)
-
--- the number of a record that has an entry is what stands there
-pub entry_alone : (tally : Tally) (key : Key) (v : ℕ) → (key.tag == tally.tag) ≡ true → value_at tally.counts key.number ≡ Some v
-    → AreApart tally.tag tally.counts tally.late.items → tally_at tally key ≡ v
-entry_alone tally key v own is apart =
-    let same : record { tag = tally.tag; number = key.number } ≡ key = λ i. record { tag = sym (same_number key.tag tally.tag own) i; number = key.number } in
-    let none : count_by (is_key key) tally.late.items ≡ 0 =
-    ap (λ (k : Key). count_by (is_key k) tally.late.items) (sym same) ∙ apart key.number (ap is_some is) in
-    let here : cond (key.tag == tally.tag) (count_at tally.counts key.number) 0 ≡ v =
-    ap (λ b. cond b (count_at tally.counts key.number) 0) own ∙ ap (λ (o : Option ℕ). unwrap_or o 0) is in
-    omega arith
-
 foreign_none : (b : Bool) (n : ℕ) → (b ≡ true → n ≡ 0) → cond b n 0 ≡ 0
 foreign_none true n h = h refl
 foreign_none false n h = refl
 
-no_value : (o : Option ℕ) → is_some o ≡ false → unwrap_or o 0 ≡ 0
-no_value None h = refl
-no_value (Some v) h = absurd cc
-
--- the number of a record without an entry is how often its key stands in the list
-pub late_alone : (tally : Tally) (key : Key) → ((key.tag == tally.tag) ≡ true → has_entry tally.counts key.number ≡ false)
+-- where nothing stands at the number of a record, its number is how often its key stands in the list
+pub late_alone : (tally : Tally) (key : Key) → ((key.tag == tally.tag) ≡ true → count_at tally.counts key.number ≡ 0)
     → tally_at tally key ≡ count_by (is_key key) tally.late.items
 late_alone tally key none =
     let here : cond (key.tag == tally.tag) (count_at tally.counts key.number) 0 ≡ 0 =
-    foreign_none (key.tag == tally.tag) (count_at tally.counts key.number) (λ own. no_value (value_at tally.counts key.number) (none own)) in
+    foreign_none (key.tag == tally.tag) (count_at tally.counts key.number) none in
     omega arith
 
 -- what stands at a number is no more than all

@@ -1,5 +1,5 @@
 -- Which records have an entry of their own.
-use Rattle.std.specs.Prelude.{◌≡◌, ℕ, ◌==◌, ◌&&◌, Bool, true, List, count_by}
+use Rattle.std.specs.Prelude.{ℕ, ◌==◌, ◌&&◌, Bool, List}
 use Rattle.std.specs.Option.{is_some}
 use Rattle.sentry_plain.specs.Tables.{value_at}
 use Rattle.sentry_hub_table.specs.declared.tally.Key.{Key}
@@ -10,8 +10,3 @@ is_key key other = (other.tag == key.tag) && (other.number == key.number)
 
 abbrev pub has_entry : List (ℕ × ℕ) → ℕ → Bool
 has_entry counts n = is_some (value_at counts n)
-
--- the list has no key of a record that has an entry
-abbrev pub AreApart : ℕ → List (ℕ × ℕ) → List Key → Type 0
-AreApart tag counts late =
-    (n : ℕ) → has_entry counts n ≡ true → count_by (is_key (record { tag = tag; number = n })) late ≡ 0

@@ -244,10 +244,11 @@ impl<P: Drop> HubTable<P> {
         let Some(layers) = self.layers.checked_add(1) else {
             return Err(AllocError);
         };
-        self.names.reserve(layers)?;
         let Some(hub) = self.hubs.get_mut(number) else {
             unreachable!()
         };
+        let session = session_name(hub.stack.top.session);
+        self.names.reserve(layers, session)?;
         hub.stack.push()?;
         let depth = hub.stack.depth();
         let names = layer_names(&hub.stack.top);
@@ -287,8 +288,8 @@ impl<P: Drop> HubTable<P> {
         let Some(layers) = self.layers.checked_add(1) else {
             return Err(AllocError);
         };
-        self.names.reserve(layers)?;
         let names = layer_names(&hub.stack.top);
+        self.names.reserve(layers, names.session)?;
         self.hubs.insert(number, hub)?;
         self.layers = layers;
         self.names.raise(names);
@@ -347,6 +348,9 @@ impl<P: Drop> HubTable<P> {
     pub fn expect_session(&mut self, number: u64) -> Result<(), AllocError>
         ensures { self.new ≡ self.old }
     {
+        if self.names.sessions.is_short() {
+            return Ok(());
+        }
         self.names.sessions.expect(number)
     }
 

@@ -116,12 +116,13 @@ impl Names {
         }
     }
 
-    /// Makes room for the names of this many layers.
-    pub fn reserve(&mut self, layers: usize) -> Result<(), AllocError>
+    /// Makes room for the names of this many layers, one of which comes and names this session.
+    pub fn reserve(&mut self, layers: usize, session: Option<Key>) -> Result<(), AllocError>
         ensures keeps { KeepsNames self.old self.new }
         ensures ok { OnOk result (HasRoomFor self.new layers) }
     {
         self.clients.reserve(layers)?;
+        self.sessions.expect_name(session)?;
         self.sessions.reserve(layers)?;
         self.transactions.reserve(layers)?;
         self.spans.reserve(layers)?;

@@ -1,8 +1,4 @@
 //! How many layers name each record of a kind.
-ghost use Rattle.std.specs.Prelude.{◌≡◌};
-ghost use Rattle.sentry_hub_table.specs.declared.tally.Key.{Key};
-ghost use Rattle.sentry_hub_table.specs.Entries.{AreApart};
-
 mod counting;
 
 use sentry_plain::Table;
@@ -14,12 +10,11 @@ pub(crate) struct Key {
     pub number: u64,
 }
 
-/// How many layers name each record of a kind: what stands at its number, if it is of the engine with the tag and has an
-/// entry, and else as often as its key stands in the list.
+/// How many layers name each record of a kind: what stands at its number, if it is of the engine with the tag, and as
+/// often as its key stands in the list.
 #[derive(Drop)]
 pub(crate) struct Tally {
     pub tag: u64,
     pub counts: Table<u128>,
     pub late: Vec<Key>,
-    ghost apart: { AreApart tag counts late.items },
 }

@@ -1,24 +1,38 @@
 -- What is sent of a session that ends.
 use Rattle.std.proofs.Common.{◌≡◌, refl, sym, ap, ◌∙◌, ℕ, Bool, true, false, cond, ◌∷◌}
 use Rattle.std.specs.Option.{option_map}
-use Rattle.std.specs.Prelude.{Option, Some, None, is_some, if◌then◌else◌}
+use Rattle.std.specs.Prelude.{Option, Some, None, is_some, ◌==◌, if◌then◌else◌}
 use Rattle.sentry_base.specs.declared.protocol.keys.ClientKey.{ClientKey}
 use Rattle.sentry_base.specs.declared.protocol.keys.SessionKey.{SessionKey}
 use Rattle.sentry_base.specs.declared.protocol.session.SessionStatus.{SessionStatus}
 use Rattle.sentry_base.specs.declared.protocol.session.SessionUpdate.{SessionUpdate}
-use Rattle.sentry_plain.specs.Tables.{without}
+use Rattle.sentry_plain.specs.Tables.{value_at, without}
 use Rattle.sentry_sessions.specs.SessionQueues.{enqueued, envelopes_on}
 use Rattle.sentry_sessions.specs.declared.session.record.Session.{Session}
 use Rattle.sentry_sessions.specs.Sessions.{closed, session_of, pending_update}
 use Rattle.sentry_state.specs.Outcomes.{client_at, named_session, session_at}
 use Rattle.sentry_sending.specs.Sending.{Sending, send, send_nothing, send_some, queue_update, end_session, end_unnamed_session, is_session_named}
 use Rattle.sentry_state.specs.Changes.{with_client_history, with_client_entry}
-use Rattle.sentry_state.specs.Worlds.{World, ClientHistory, SessionHistory, stored_session}
+use Rattle.sentry_state.specs.Worlds.{World, ClientHistory, SessionHistory, Stands, stored_session}
+use Rattle.sentry_state.specs.declared.state.State.{State}
+use Rattle.sentry_state.proofs.Keeping.{session_in_world}
 
 -- no session was found where none is kept
 pub none_found : (o : Option SessionHistory) (kept : Option Session) → kept ≡ option_map stored_session o → is_some kept ≡ false → o ≡ None
 none_found None kept is none = refl
 none_found (Some session) kept is none = absurd (let here : true ≡ false = sym (ap is_some is) ∙ none in cc)
+
+under_table : {X : Type 0} (b : Bool) (o : Option X) (x : X) → cond b o None ≡ Some x → o ≡ Some x
+under_table true o x h = h
+under_table false o x h = absurd cc
+
+module _ {P C : Type 0} where
+  -- a session of the world is held
+  pub session_held : (state : State P C) (world : World P C) → Stands state world → (key : SessionKey) (session : SessionHistory)
+      → session_at world key ≡ Some session → value_at state.sessions key.number ≡ Some (stored_session session)
+  session_held state world s key session at =
+      session_in_world state world s key.number
+      ∙ ap (option_map stored_session) (under_table (key.tag == world.tag) (value_at world.sessions key.number) session at)
 
 module _ {P C : Type 0} where
   -- an update that is queued at a client that is not closed
@@ -60,6 +74,12 @@ module _ {P C : Type 0} where
       → session_at world key ≡ Some session → pending_update (session_of session.start (closed status now ∷ session.history)) ≡ Some update
       → end_session key status now world ≡ forget key (queue_update session.start.client update world)
   end_session_is key status now world session update at pending = ended_is key status now world session (Some update) at pending
+
+  -- a session that ends and of which nothing is to be told
+  pub end_session_untold : (key : SessionKey) (status : Option SessionStatus) (now : ℕ) (world : World P C) (session : SessionHistory)
+      → session_at world key ≡ Some session → pending_update (session_of session.start (closed status now ∷ session.history)) ≡ None
+      → end_session key status now world ≡ forget key (send_nothing world)
+  end_session_untold key status now world session at pending = ended_is key status now world session None at pending
 
   either_nothing : (b : Bool) (world : World P C) (ending : Sending P C) → ending ≡ send_nothing world
       → (if b then send_nothing world else ending) ≡ send_nothing world

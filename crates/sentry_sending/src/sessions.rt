@@ -64,7 +64,7 @@ pub fn replace_session<P: Drop, C: Callbacks>(
             Ok(sent)
         }
         Err(error) => {
-            state.sessions.remove(number);
+            state.remove_session(number);
             Err(error)
         }
     }

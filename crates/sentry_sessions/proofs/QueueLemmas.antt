@@ -173,6 +173,12 @@ module _ (mode : SessionMode) (u : SessionUpdate) (history : List QueueEntry) wh
   pub envelopes_on_is : envelopes_on_enqueue u (queue_of mode history) ≡ envelopes_on mode u history
   envelopes_on_is = envelopes_by (is_aggregated mode u) refl
 
+-- an update that is neither counted nor the hundredth
+pub appended_is : (u : SessionUpdate) (queue : Waiting) → is_aggregated queue.mode u ≡ false → lacks_one queue ≡ false
+    → append u queue ≡ enqueue u queue
+appended_is u queue counted last =
+    sym (ap (λ b. cond b (aggregate u queue) (append_or_clear u queue)) counted ∙ ap (λ b. cond b (clear queue) (append u queue)) last)
+
 both_hold : (a l : Bool) → (not a && l) ≡ true → (a ≡ false) × (l ≡ true)
 both_hold true l h = absurd cc
 both_hold false l h = (refl, h)

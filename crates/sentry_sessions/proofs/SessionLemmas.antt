@@ -9,7 +9,7 @@ use Rattle.sentry_base.specs.declared.protocol.session.SessionStatus.{SessionSta
 use Rattle.sentry_base.specs.declared.protocol.session.SessionStatus.TheVariants as session_status
 use Rattle.sentry_sessions.specs.declared.session.record.Session.{Session}
 use Rattle.sentry_sessions.specs.declared.session.record.SessionStart.{SessionStart}
-use Rattle.sentry_sessions.specs.Sessions.{SessionEntry, event_reached, handed_out, closed, SessionEnd, crash, closing, end_by, end_of, end_status, end_duration, closing_status, counted_entries, is_crash, is_error, is_error_entry, is_change, since_hand_out, was_handed_out, session_of, update_of, pending_update}
+use Rattle.sentry_sessions.specs.Sessions.{SessionEntry, event_reached, handed_out, closed, SessionEnd, crash, closing, end_by, end_of, end_status, end_duration, closing_status, counted_entries, is_crash, is_error, is_error_entry, is_change, since_hand_out, was_handed_out, session_of, pending_update}
 use Rattle.sentry_sessions.specs.SessionLaws.{EndedStatusStays}
 use Rattle.sentry_sessions.specs.SessionSteps.{has_ended, count_event, end_at, update_from_event, close, mark_handed_out}
 
@@ -116,11 +116,19 @@ close_counted status now session start history goes_on is =
     ap (λ (b : Bool). cond b session (end_at status now session)) (sym goes_on)
     ∙ (ap (close status now) is ∙ close_is status now start history)
 
--- the update of a session that goes on, once it is closed
+-- the update of a session once it is closed
 pub told_at_end : (status : Option SessionStatus) (now : ℕ) (session : Session) (start : SessionStart) (history : List SessionEntry)
-    → has_ended session.status ≡ false → session ≡ session_of start history
-    → Some (update_of (end_at status now session)) ≡ pending_update (session_of start (closed status now ∷ history))
-told_at_end status now session start history goes_on is = ap pending_update (close_counted status now session start history goes_on is)
+    → session ≡ session_of start history
+    → pending_update (close status now session) ≡ pending_update (session_of start (closed status now ∷ history))
+told_at_end status now session start history is = ap pending_update (ap (close status now) is ∙ close_is status now start history)
+
+-- a closing is not handed out
+pub close_init : (status : Option SessionStatus) (now : ℕ) (session : Session) → (close status now session).init ≡ session.init
+close_init status now session = by_end (has_ended session.status)
+  where
+    by_end : (b : Bool) → (if b then session else end_at status now session).init ≡ session.init
+    by_end true = refl
+    by_end false = refl
 
 -- a hand-out
 pub mark_handed_out_is : (start : SessionStart) (history : List SessionEntry)

@@ -10,6 +10,9 @@ use crate::tally::{Key, Tally};
 use sentry_plain::Table;
 use std::alloc::{AllocError, Global};
 
+// Of a list with fewer keys, each is found as fast as an entry.
+const FEW: usize = 8;
+
 impl Key {
     fn is(self, other: Key) -> bool
         ensures { result ≡ is_key self other }
@@ -36,7 +39,6 @@ fn raise_entry(counts: &mut Table<u128>, number: u64, most: usize) -> bool
     requires { count_at counts.old number < most }
     ensures each { OnTrue result ((n : ℕ) → count_at counts.new n ≡ count_at counts.old n + one_if (number == n)) }
     ensures total { OnTrue result (sum (values_of counts.new) ≡ sum (values_of counts.old) + 1) }
-    ensures entries { (n : ℕ) → has_entry counts.new n ≡ has_entry counts.old n }
     ensures none { OnFalse result ((has_entry counts.old number ≡ false) × (counts.new ≡ counts.old)) }
 {
     let Some(count) = counts.get_mut(number) else {
@@ -46,19 +48,31 @@ fn raise_entry(counts: &mut Table<u128>, number: u64, most: usize) -> bool
     true
 }
 
-// Counts one less at a number, and returns whether it has an entry.
+// Counts one less at a number, unless it counts none, and returns whether it did.
+#[tactic(auto, using(crate::proofs::TallyLemmas::changed_same))]
 fn lower_entry(counts: &mut Table<u128>, number: u64) -> bool
-    requires { has_entry counts.old number ≡ true → 0 < count_at counts.old number }
     ensures each { OnTrue result ((n : ℕ) → count_at counts.old n ≡ count_at counts.new n + one_if (number == n)) }
     ensures total { OnTrue result (sum (values_of counts.old) ≡ sum (values_of counts.new) + 1) }
-    ensures entries { (n : ℕ) → has_entry counts.new n ≡ has_entry counts.old n }
-    ensures none { OnFalse result ((has_entry counts.old number ≡ false) × (counts.new ≡ counts.old)) }
+    ensures none { OnFalse result ((count_at counts.old number ≡ 0) × (counts.new ≡ counts.old)) }
 {
     let Some(count) = counts.get_mut(number) else {
         return false;
     };
+    if *count == 0 {
+        return false;
+    }
     *count -= 1;
     true
+}
+
+// What stands at a number.
+fn count_at(counts: &Table<u128>, number: u64) -> u128
+    ensures { result ≡ count_at counts.now number }
+{
+    match counts.get(number) {
+        Some(count) => *count,
+        None => 0,
+    }
 }
 
 impl Tally {
@@ -78,10 +92,8 @@ impl Tally {
     pub fn is_named(&self, key: Key) -> bool
         ensures { result ≡ nat_lt 0 (tally_at self.now key) }
     {
-        if key.tag == self.tag {
-            if let Some(count) = self.counts.get(key.number) {
-                return *count > 0;
-            }
+        if key.tag == self.tag && count_at(&self.counts, key.number) > 0 {
+            return true;
         }
         match find_late(self.late.as_slice(), key) {
             None => false,
@@ -129,8 +141,12 @@ impl Tally {
         self.late.remove(i);
     }
 
-    /// Makes an entry for a number, so that names of it are counted there. If out of memory, or if a layer names the
-    /// record before it has an entry, there is none.
+    /// Whether the list is so short that names may as well stand there.
+    pub fn is_short(&self) -> bool {
+        self.late.len() < FEW
+    }
+
+    /// Makes an entry for a number, so that further names of it are counted there.
     pub fn expect(&mut self, number: u64) -> Result<(), AllocError>
         ensures keeps { Keeps self.old self.new }
         ensures ok { OnOk result (has_entry self.new.counts number ≡ true) }
@@ -138,15 +154,21 @@ impl Tally {
         if let Some(_count) = self.counts.get(number) {
             return Ok(());
         }
-        let key = Key {
-            tag: self.tag,
-            number,
-        };
-        if let Some(_place) = find_late(self.late.as_slice(), key) {
-            return Err(AllocError);
-        }
         self.counts.insert(number, 0)?;
         Ok(())
+    }
+
+    /// The same for the record of a name, if it is of this engine.
+    pub fn expect_name(&mut self, name: Option<Key>) -> Result<(), AllocError>
+        ensures { Keeps self.old self.new }
+    {
+        let Some(key) = name else {
+            return Ok(());
+        };
+        if key.tag != self.tag {
+            return Ok(());
+        }
+        self.expect(key.number)
     }
 
     /// Gives up the entry of a number that no layer names. It takes no memory.

@@ -1,5 +1,5 @@
 //! How a session starts, goes on and ends.
-ghost use Rattle.std.specs.Prelude.{◌≡◌, ◌∷◌, List, IfOk, OnOk, OnErr, option_copied};
+ghost use Rattle.std.specs.Prelude.{◌≡◌, ◌∷◌, ℕ, Option, List, IfOk, OnOk, OnErr, option_copied};
 ghost use Rattle.std.specs.Option.{option_or};
 ghost use Rattle.sentry_sessions.specs.declared.session.record.SessionStart.{SessionStart};
 ghost use Rattle.sentry_sessions.specs.Sessions.{SessionEntry, event_reached, handed_out, closed};
@@ -191,55 +191,53 @@ impl Session {
         })
     }
 
-    // The update, if the server doesn't know all.
-    fn pending_update(&self) -> Result<Option<SessionUpdate>, AllocError>
-        ensures { IfOk result (λ update. update ≡ pending_update self.now) }
+    // The status once the session is closed.
+    fn status_at_end(&self, status: Option<SessionStatus>) -> SessionStatus
+        ensures { (now : ℕ) → result ≡ (steps.close status now self.now).status }
     {
-        if !self.dirty {
-            return Ok(None);
+        if self.has_ended() {
+            return self.status;
         }
-        let update = self.update()?;
-        Ok(Some(update))
+        closing_status(status)
     }
 
-    // The update of a session that goes on, once it is closed.
-    fn update_at_end(
+    // The duration once the session is closed.
+    fn duration_at_end(&self, now: u64) -> Option<u64>
+        ensures { (status : Option SessionStatus) → result ≡ (steps.close status now self.now).duration }
+    {
+        if self.has_ended() {
+            return self.duration;
+        }
+        Some(now.saturating_sub(self.start.started))
+    }
+
+    /// Whether the server is to get an update once the session is closed.
+    pub fn is_dirty_at_end(&self) -> bool
+        ensures { (status : Option SessionStatus) (now : ℕ) → result ≡ (steps.close status now self.now).dirty }
+    {
+        self.dirty || !self.has_ended()
+    }
+
+    /// The update of the session once it is closed at a moment, in nanoseconds since the epoch.
+    #[inline(always)]
+    pub fn update_at_end(
         &self,
         status: Option<SessionStatus>,
         now: u64,
     ) -> Result<SessionUpdate, AllocError>
-        ensures { IfOk result (λ update. update ≡ update_of (steps.end_at status now self.now)) }
+        ensures { IfOk result (λ update. update ≡ update_of (steps.close status now self.now)) }
     {
         let start = &self.start;
         Ok(SessionUpdate {
             session_id: start.session_id,
             started: start.started,
             init: self.init,
-            duration: Some(now.saturating_sub(start.started)),
-            status: closing_status(status),
+            duration: self.duration_at_end(now),
+            status: self.status_at_end(status),
             errors: self.errors,
             distinct_id: start.distinct_id.clone()?,
             attributes: start.attributes.clone()?,
         })
-    }
-
-    /// The update that is to be handed out once the session is closed at a moment, in nanoseconds since the epoch, or
-    /// `None` if the server then knows all. The session stays as it is.
-    pub fn closing_update(
-        &self,
-        status: Option<SessionStatus>,
-        now: u64,
-    ) -> Result<Option<SessionUpdate>, AllocError>
-        ensures { IfOk result (λ update. (start : SessionStart) (history : List SessionEntry)
-            → self.now ≡ session_of start history
-            → update ≡ pending_update (session_of start (closed status now ∷ history))) }
-    {
-        if self.has_ended() {
-            let pending = self.pending_update()?;
-            return Ok(pending);
-        }
-        let update = self.update_at_end(status, now)?;
-        Ok(Some(update))
     }
 
     /// Marks the update as handed out.

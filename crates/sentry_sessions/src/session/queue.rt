@@ -1,5 +1,5 @@
 //! The ended sessions of a client that wait to be sent.
-ghost use Rattle.std.specs.Prelude.{◌≡◌, ◌<◌, ◌≤◌, ◌+◌, ◌∷◌, ◌++◌, [], true, false, List, IfOk, OnOk, OnErr, length, map, option_map, vec_len, vec_capacity};
+ghost use Rattle.std.specs.Prelude.{◌≡◌, ◌<◌, ◌≤◌, ◌+◌, ◌∷◌, ◌++◌, ◌&&◌, not, ℕ, [], true, false, List, IfOk, OnOk, OnErr, length, map, option_map, Option, vec_len, vec_capacity};
 ghost use Rattle.sentry_base.specs.declared.protocol.envelope.EnvelopeItem.{EnvelopeItem};
 ghost use Rattle.sentry_base.specs.declared.protocol.envelope.EnvelopeItem.TheVariants as item;
 ghost use Rattle.sentry_options.specs.declared.clientoptions.choices.SessionMode.{SessionMode};
@@ -7,13 +7,16 @@ ghost use Rattle.sentry_sessions.specs.SessionQueues.{Waiting, QueueEntry, enque
 ghost use Rattle.sentry_sessions.specs.SessionQueues.{aggregates_of, aggregates_items, envelope_if_any};
 ghost use Rattle.sentry_sessions.specs.SessionQueues.{envelopes_of, envelopes_on};
 ghost use Rattle.sentry_sessions.specs.QueueSteps as steps;
+ghost use Rattle.sentry_sessions.specs.Sessions.{update_of};
+ghost use Rattle.sentry_sessions.specs.SessionSteps.{close};
 ghost use Rattle.sentry_sessions.specs.TakenSessions.{taken_envelopes, HasRoom};
 
 use crate::session::aggregates::{AggregateCounts, AggregateKey, MAX_INDIVIDUAL};
 use crate::session::counting::{aggregate_items, count};
+use crate::session::record::Session;
 use crate::session::taken::TakenSessions;
 use sentry_base::protocol::{
-    Envelope, EnvelopeItem, SessionAggregates, SessionAttributes, SessionUpdate,
+    Envelope, EnvelopeItem, SessionAggregates, SessionAttributes, SessionStatus, SessionUpdate,
 };
 use sentry_options::SessionMode;
 use sentry_plain::{Items, Shared};
@@ -30,7 +33,7 @@ pub struct SessionQueue {
     counts: BTreeMap<AggregateKey, AggregateCounts>,
     // Those of the first session that is counted.
     attributes: Option<Shared<SessionAttributes>>,
-    individual: Items<SessionUpdate>,
+    individual: Vec<SessionUpdate>,
 }
 
 impl Drop for SessionQueue {
@@ -59,7 +62,7 @@ impl Model for SessionQueue {
       mode = a.mode;
       counts = a.counts.entries;
       attributes = a.attributes;
-      individual = map item.SessionUpdate a.individual;
+      individual = map item.SessionUpdate a.individual.items;
     } };
 }
 
@@ -133,17 +136,24 @@ impl SessionQueue {
             mode,
             counts: BTreeMap::new(alloc),
             attributes: None,
-            individual: Items::new(alloc),
+            individual: Vec::new(alloc),
+        }
+    }
+
+    // Whether a session of which nothing was sent, or something, is counted.
+    fn counts_session(&self, init: bool) -> bool
+        ensures { (update : SessionUpdate) → update.init ≡ init → result ≡ is_aggregated self.now.mode update }
+    {
+        match self.mode {
+            SessionMode::Application => false,
+            SessionMode::Request => init,
         }
     }
 
     fn is_aggregated(&self, update: &SessionUpdate) -> bool
         ensures { result ≡ is_aggregated self.now.mode update.now }
     {
-        match self.mode {
-            SessionMode::Application => false,
-            SessionMode::Request => update.init,
-        }
+        self.counts_session(update.init)
     }
 
     // Whether the next individual update is the one that sends all.
@@ -154,6 +164,7 @@ impl SessionQueue {
     }
 
     // Counts an update.
+    #[inline(never)]
     fn aggregate(&mut self, update: &SessionUpdate) -> Result<(), AllocError>
         ensures ok { OnOk result (self.new ≡ steps.aggregate update.now self.old) }
         ensures err { OnErr result (self.new ≡ self.old) }
@@ -176,7 +187,7 @@ impl SessionQueue {
             return Ok(None);
         };
         Ok(Some(SessionAggregates {
-            aggregates: aggregate_items(self.individual.allocator(), &self.counts)?,
+            aggregates: aggregate_items(*self.individual.allocator(), &self.counts)?,
             attributes: attributes.clone()?,
         }))
     }
@@ -185,7 +196,7 @@ impl SessionQueue {
     fn individual_items(&self) -> Result<Items<EnvelopeItem>, AllocError>
         ensures { IfOk result (λ items. items ≡ self.now.individual) }
     {
-        let items = copied_items(self.individual.allocator(), self.individual.as_slice())?;
+        let items = copied_items(*self.individual.allocator(), self.individual.as_slice())?;
         Ok(Items::from_vec(items))
     }
 
@@ -194,7 +205,7 @@ impl SessionQueue {
         ensures { IfOk result (λ envelopes. envelopes
             ≡ envelope_if_any (aggregates_items (aggregates_of self.now)) ++ envelope_if_any individual) }
     {
-        let alloc = self.individual.allocator();
+        let alloc = *self.individual.allocator();
         let counted = aggregates_items(alloc, self.aggregates()?)?;
         let mut envelopes = Items::new(alloc);
         push_envelope_if_any(&mut envelopes, alloc, counted)?;
@@ -214,11 +225,11 @@ impl SessionQueue {
         Ok(envelopes)
     }
 
-    // Whether this update is the hundredth that is sent as it is.
-    fn is_hundredth(&self, update: &SessionUpdate) -> bool
-        ensures { result ≡ steps.fills_queue update.now self.now }
+    // Whether the last update of a session of which nothing was sent, or something, is the hundredth that is sent as it is.
+    fn is_hundredth(&self, init: bool) -> bool
+        ensures { (update : SessionUpdate) → update.init ≡ init → result ≡ steps.fills_queue update self.now }
     {
-        !self.is_aggregated(update) && self.lacks_one()
+        !self.counts_session(init) && self.lacks_one()
     }
 
     // The item that sends the counts, if there are any, with room for one more.
@@ -227,7 +238,7 @@ impl SessionQueue {
         ensures room { IfOk result (λ items. vec_len items < vec_capacity items) }
     {
         let aggregates = self.aggregates()?;
-        let mut items = aggregates_items(self.individual.allocator(), aggregates)?.into_vec();
+        let mut items = aggregates_items(*self.individual.allocator(), aggregates)?.into_vec();
         items.reserve(1)?;
         Ok(items)
     }
@@ -239,10 +250,10 @@ impl SessionQueue {
         ensures after { OnOk result (self.new ≡ record self.old { individual = [] }) }
         ensures err { OnErr result (self.new ≡ self.old) }
     {
-        let alloc = self.individual.allocator();
+        let alloc = *self.individual.allocator();
         let mut items = Vec::with_capacity(alloc, self.individual.as_slice().len() + 2)?;
-        let updates = mem::replace(&mut self.individual, Items::new(alloc));
-        fill_items(updates.into_vec(), &mut items);
+        let updates = mem::replace(&mut self.individual, Vec::new(alloc));
+        fill_items(updates, &mut items);
         Ok(items)
     }
 
@@ -268,10 +279,10 @@ impl SessionQueue {
         ensures { IfOk result (λ envelopes. envelopes ≡ steps.envelopes_on_enqueue update.now self.now) }
     {
         if self.is_aggregated(update) {
-            return Ok(Items::new(self.individual.allocator()));
+            return Ok(Items::new(*self.individual.allocator()));
         }
         if !self.lacks_one() {
-            return Ok(Items::new(self.individual.allocator()));
+            return Ok(Items::new(*self.individual.allocator()));
         }
         let envelopes = self.envelopes_with_last(update)?;
         Ok(envelopes)
@@ -289,7 +300,63 @@ impl SessionQueue {
             self.clear();
             return Ok(());
         }
-        self.individual.push(update)
+        self.individual.reserve(1)?;
+        self.individual.push_reserved(update);
+        Ok(())
+    }
+
+    // Counts the last update of a session, or forgets all that waits where it sends it.
+    #[inline(never)]
+    fn keep_other(
+        &mut self,
+        session: &Session,
+        status: Option<SessionStatus>,
+        now: u64,
+    ) -> Result<(), AllocError>
+        ensures after { OnOk result (self.new ≡ steps.enqueue (update_of (close status now session.now)) self.old) }
+        ensures unchanged { OnErr result (self.new ≡ self.old) }
+    {
+        let update = session.update_at_end(status, now)?;
+        self.keep(update)?;
+        Ok(())
+    }
+
+    // Keeps the last update of a session.
+    fn append(
+        &mut self,
+        session: &Session,
+        status: Option<SessionStatus>,
+        now: u64,
+    ) -> Result<(), AllocError>
+        ensures after { OnOk result (self.new ≡ steps.append (update_of (close status now session.now)) self.old) }
+        ensures unchanged { OnErr result (self.new ≡ self.old) }
+    {
+        self.individual.reserve(1)?;
+        let update = session.update_at_end(status, now)?;
+        self.individual.push_reserved(update);
+        Ok(())
+    }
+
+    // The same as `keep` of the last update of a session, which is written where it waits.
+    fn keep_closed(
+        &mut self,
+        session: &Session,
+        status: Option<SessionStatus>,
+        now: u64,
+    ) -> Result<(), AllocError>
+        ensures after { OnOk result (self.new ≡ steps.enqueue (update_of (close status now session.now)) self.old) }
+        ensures unchanged { OnErr result (self.new ≡ self.old) }
+    {
+        if self.counts_session(session.init) {
+            self.keep_other(session, status, now)?;
+            return Ok(());
+        }
+        if self.lacks_one() {
+            self.keep_other(session, status, now)?;
+            return Ok(());
+        }
+        self.append(session, status, now)?;
+        Ok(())
     }
 
     /// Returns the envelopes that are to be sent when a session ends with this update, at most two: none, unless it is
@@ -313,14 +380,32 @@ impl SessionQueue {
         Ok(())
     }
 
-    /// Whether a session that ends with this update sends all that waits: it is the hundredth individual update since the
-    /// last flush.
-    pub fn fills_queue(&self, update: &SessionUpdate) -> bool
-        ensures test { result ≡ steps.fills_queue update.now self.now }
-        ensures none { (mode : SessionMode) (history : List QueueEntry) → self.now ≡ queue_of mode history
-            → result ≡ false → envelopes_on mode update.now history ≡ [] }
+    /// Adds the last update of a session that is closed now, whose envelopes are handed out. If out of memory, the queue
+    /// stays as it was.
+    pub fn mark_closed(
+        &mut self,
+        session: &Session,
+        status: Option<SessionStatus>,
+        now: u64,
+    ) -> Result<(), AllocError>
+        ensures after { OnOk result ((mode : SessionMode) (history : List QueueEntry) → self.old ≡ queue_of mode history
+            → self.new ≡ queue_of mode (enqueued (update_of (close status now session.now)) ∷ history)) }
+        ensures unchanged { OnErr result (self.new ≡ self.old) }
     {
-        let sends = self.is_hundredth(update);
+        self.keep_closed(session, status, now)?;
+        Ok(())
+    }
+
+    /// Whether the last update of a session that is closed now sends all that waits: it is the hundredth individual update
+    /// since the last flush.
+    pub fn fills_queue_at_end(&self, session: &Session) -> bool
+        ensures test { (status : Option SessionStatus) (now : ℕ)
+            → result ≡ steps.fills_queue (update_of (close status now session.now)) self.now }
+        ensures none { (mode : SessionMode) (history : List QueueEntry) (status : Option SessionStatus) (now : ℕ)
+            → self.now ≡ queue_of mode history → result ≡ false
+            → envelopes_on mode (update_of (close status now session.now)) history ≡ [] }
+    {
+        let sends = self.is_hundredth(session.init);
         sends
     }
 
@@ -364,7 +449,7 @@ impl SessionQueue {
     fn clear(&mut self)
         ensures { self.new ≡ steps.clear self.old }
     {
-        *self = SessionQueue::nothing(self.individual.allocator(), self.mode);
+        *self = SessionQueue::nothing(*self.individual.allocator(), self.mode);
     }
 
     /// Forgets all that waits, once it was handed out.

@@ -4,13 +4,16 @@ ghost use Rattle.sentry_plain.specs.Tables.{value_at};
 ghost use Rattle.sentry_batches.specs.Batches.{accept, batch_on, next_fills_queue};
 ghost use Rattle.sentry_sessions.specs.QueueSteps.{fills_queue};
 ghost use Rattle.sentry_sessions.specs.SessionQueues.{enqueued, envelopes_on};
+ghost use Rattle.sentry_sessions.specs.Sessions.{update_of};
+ghost use Rattle.sentry_sessions.specs.SessionSteps.{close};
+ghost use Rattle.sentry_sessions.specs.declared.session.record.Session.{Session};
 ghost use Rattle.sentry_sessions.specs.TakenSessions.{taken_envelopes, HasRoom};
 ghost use Rattle.sentry_state.specs.declared.state.ClientState.{ClientState};
 ghost use Rattle.sentry_state.specs.Changes.{ChangesClient, with_client_entry, with_log_entry, with_metric_entry};
 ghost use Rattle.sentry_state.specs.Worlds.{ClientHistory, stored_client};
 
 use crate::state::{ClientState, State};
-use sentry_base::protocol::{Log, Metric, SessionUpdate};
+use sentry_base::protocol::{Log, Metric, SessionStatus, SessionUpdate};
 use sentry_options::Callbacks;
 use sentry_plain::Items;
 use sentry_sessions::TakenSessions;
@@ -33,20 +36,31 @@ impl<C> ClientState<C> {
 }
 
 impl<P: Drop, C: Callbacks> State<P, C> {
-    /// Puts the last update of a session into the queue of a client that is held. If out of memory, nothing has
-    /// changed.
+    /// Puts the last update of a session that is held, and closed now, into the queue of a client that is held. If out of
+    /// memory, nothing has changed.
     #[tactic(auto, using(crate::proofs::Keeping::changed_same))]
-    pub fn enqueue_update(&mut self, number: u64, update: SessionUpdate) -> Result<(), AllocError>
-        requires { is_some (value_at self.old.clients number) ≡ true }
-        ensures in_world { OnOk result (ChangesClient self.old self.new number (with_client_entry (enqueued update))) }
+    pub fn enqueue_closed(
+        &mut self,
+        number: u64,
+        session: u64,
+        status: Option<SessionStatus>,
+        now: u64,
+    ) -> Result<(), AllocError>
+        requires client { is_some (value_at self.old.clients number) ≡ true }
+        requires session { is_some (value_at self.old.sessions session) ≡ true }
+        ensures in_world { OnOk result ((held : Session) → value_at self.old.sessions session ≡ Some held →
+            ChangesClient self.old self.new number (with_client_entry (enqueued (update_of (close status now held))))) }
         ensures hubs { self.new.hubs ≡ self.old.hubs }
         ensures next { self.new.next ≡ self.old.next }
         ensures err { OnErr result (self.new ≡ self.old) }
     {
+        let Some(held) = self.sessions.get(session) else {
+            unreachable!()
+        };
         let Some(client) = self.clients.get_mut(number) else {
             unreachable!()
         };
-        client.queues.sessions.mark_enqueued(update)?;
+        client.queues.sessions.mark_closed(held, status, now)?;
         Ok(())
     }
 

@@ -65,10 +65,12 @@ impl<P: Drop, C: Callbacks> State<P, C> {
     }
 
     /// Removes a session.
+    #[inline(never)]
     #[tactic(auto, using(crate::proofs::Keeping::without_map_values))]
     pub fn remove_session(&mut self, number: u64)
         ensures in_world { (world : World P C) → Stands self.old world →
             Stands self.new (record world { sessions = without world.sessions number }) }
+        ensures engine { self.new ≡ record self.old { sessions = without self.old.sessions number } }
         ensures hubs { self.new.hubs ≡ self.old.hubs }
         ensures next { self.new.next ≡ self.old.next }
     {

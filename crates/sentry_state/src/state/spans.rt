@@ -1,7 +1,7 @@
 //! How transactions and spans are held, found and finished.
 ghost use Rattle.std.specs.Prelude.{◌≡◌, ◌<◌, ◌-◌, ◌^◌, IfOk, OnOk, OnErr, Some, None, true, is_some, [], option_copied};
 ghost use Rattle.sentry_plain.specs.Tables.{value_at, without};
-ghost use Rattle.sentry_span_table.specs.SpanLists.{TransactionHistory, stored_transaction, fate_of, with_span_finished};
+ghost use Rattle.sentry_span_table.specs.SpanLists.{TransactionHistory, left_to_send, stored_transaction, fate_of, with_span_finished};
 ghost use Rattle.sentry_span_table.specs.SpanTables.{is_held, span_in, transaction_in};
 ghost use Rattle.sentry_span_table.specs.declared.table.records.SpanFate.TheVariants.{Kept};
 ghost use Rattle.sentry_span_table.specs.declared.table.records.SpanRecord.{SpanRecord};
@@ -12,9 +12,9 @@ ghost use Rattle.sentry_state.specs.SpanChanges.{with_transaction, with_span, wi
 ghost use Rattle.sentry_state.specs.Worlds.{World, Stands, span_table};
 
 use crate::state::State;
-use sentry_base::protocol::{Span, SpanKey, TransactionKey, TransactionOrSpanKey};
+use sentry_base::protocol::{Span, SpanKey, Transaction, TransactionKey, TransactionOrSpanKey};
 use sentry_options::Callbacks;
-use sentry_plain::{Boxed, Items};
+use sentry_plain::Boxed;
 use sentry_span_table::{SpanRecord, SpanTable, TransactionRecord};
 use std::alloc::AllocError;
 
@@ -135,14 +135,15 @@ impl<P: Drop, C: Callbacks> State<P, C> {
         Ok(())
     }
 
-    /// A transaction is finished, if it is held. Returns the spans that it kept. It takes no memory.
-    pub fn close_transaction(&mut self, key: TransactionKey) -> Items<Span>
+    /// A transaction is finished, if it is held. Returns what was to be sent of it, with the spans that it kept. It takes no
+    /// memory.
+    pub fn close_transaction(&mut self, key: TransactionKey) -> Option<Boxed<Transaction>>
         ensures in_world { (world : World P C) → Stands self.old world → Stands self.new (with_transaction_finished key world) }
         ensures kept { (held : TransactionRecord) → transaction_in self.old.spans key ≡ Some held →
-            result ≡ held.spans }
+            result ≡ left_to_send held }
     {
         let Some(_held) = self.transaction_at(key) else {
-            return Items::new(self.alloc);
+            return None;
         };
         self.spans.close_transaction(key.number)
     }

@@ -7,11 +7,11 @@ use Rattle.sentry_hub_table.proofs.TallyLemmas.{late_found, more}
 use Rattle.sentry_hub_table.proofs.tally.Tally.is_named.Goals as goal
 
 -- its key stands in the list
-pub returns-in-Some-find_late : goal.returns-in-Some-find_late
-returns-in-Some-find_late c =
+pub returns-in-Some : goal.returns-in-Some
+returns-in-Some c =
     let tally = c.args.self.now in
     let key = c.args.key in
     let counted : 0 < count_by (is_key key) tally.late.items =
     subst (λ (late : List Key). 0 < count_by (is_key key) late) c.as_slice.ensures.value
-    (late_found c.as_slice.result.now c.in-Some-find_late._place key c.in-Some-find_late.ensures.0 (c.in-Some-find_late.ensures.1 key)) in
+    (late_found c.as_slice.result.now c.in-Some._place key c.in-Some.ensures.0 (c.in-Some.ensures.1 key)) in
     more (cond (key.tag == tally.tag) (count_at tally.counts key.number) 0) (count_by (is_key key) tally.late.items) counted

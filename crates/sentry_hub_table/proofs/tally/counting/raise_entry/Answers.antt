@@ -1,5 +1,5 @@
 use Rattle.std.proofs.Common.{sym, arith, ◌+◌}
-use Rattle.sentry_hub_table.proofs.TallyLemmas.{count_raised, sum_replaced, there_replaced}
+use Rattle.sentry_hub_table.proofs.TallyLemmas.{count_raised, sum_replaced}
 use Rattle.sentry_hub_table.proofs.tally.counting.raise_entry.Goals as goal
 
 -- one more at the number
@@ -11,6 +11,3 @@ pub returns-clause-total : goal.returns-clause-total
 returns-clause-total c =
     let up = sum_replaced c.args.counts.now c.args.number c.in-Some.count.now (c.in-Some.count.now + 1) (sym c.in-Some.ensures.value) in
     omega arith
-
-pub returns-clause-entries : goal.returns-clause-entries
-returns-clause-entries c = λ n. there_replaced c.args.counts.now c.args.number (c.in-Some.count.now + 1) n
