@@ -39,7 +39,7 @@ fn edit_unfinished(unfinished: &mut Unfinished, edit: SpanEdit) -> Result<(), Al
     ensures ok { OnOk result (unfinished.new ≡ edit_unfinished edit unfinished.old) }
     ensures err { OnErr result (unfinished.new ≡ unfinished.old) }
 {
-    edit_sent(&mut unfinished.transaction, edit)?;
+    edit_sent(unfinished.transaction.get_mut(), edit)?;
     Ok(())
 }
 

@@ -1,6 +1,7 @@
 -- How a transaction that was sampled is sent.
 use Rattle.std.proofs.Common.{◌≡◌, refl, ap, ◌∙◌, sym, subst, true}
-use Rattle.std.specs.Prelude.{ℕ, Some, Ok, Err, List, [], ◌∷◌, is_ok}
+use Rattle.std.specs.Prelude.{ℕ, Some, Ok, Err, List, [], ◌∷◌, is_ok, unwrap_or}
+use Rattle.std.specs.Option.{option_map}
 use Rattle.sentry_base.specs.declared.protocol.context.TraceContext.{TraceContext}
 use Rattle.sentry_base.specs.declared.protocol.envelope.Envelope.{Envelope}
 use Rattle.sentry_base.specs.declared.protocol.envelope.EnvelopeItem.TheVariants as item
@@ -12,10 +13,11 @@ use Rattle.sentry_base.specs.declared.protocol.transaction.Transaction.{Transact
 use Rattle.sentry_hub_table.specs.declared.hub.HubState.{HubState}
 use Rattle.sentry_options.specs.declared.clientoptions.ClientOptions.{ClientOptions}
 use Rattle.sentry_sending.specs.Sending.{after_sending, for_client}
+use Rattle.sentry_span_table.specs.SpanLists.{left_to_send}
 use Rattle.sentry_span_table.specs.declared.table.records.TracingState.TheVariants.{Enabled}
 use Rattle.sentry_span_table.specs.declared.table.records.TransactionRecord.{TransactionRecord}
 use Rattle.sentry_span_table.specs.declared.table.records.Unfinished.{Unfinished}
-use Rattle.sentry_spans.specs.Prepared.{prepared_envelope}
+use Rattle.sentry_spans.specs.Prepared.{filled, prepared_envelope}
 use Rattle.sentry_spans.specs.declared.prepared.Prepared.{Prepared}
 use Rattle.sentry_spans.specs.Spans.{finish_transaction, sent_transaction, transaction_envelope}
 use Rattle.sentry_state.specs.Books.{pending_report}
@@ -26,18 +28,32 @@ use Rattle.sentry_state.specs.Outcomes.{IsAnswer, memory, Outcome, hub_at, store
 use Rattle.sentry_state.specs.SpanChanges.{with_transaction_finished}
 use Rattle.sentry_state.specs.Worlds.{Stands, World}
 
--- the envelope that was prepared, once the transaction has its spans
+-- the envelope that was prepared, once the transaction has its spans and what it takes on
 pub prepared_is : {C : Type 0} (mine options : ClientOptions C) → mine ≡ options → (prepared : Prepared)
-    (context : TraceContext) (rate : ℕ) (sent : List Span → Transaction)
-    → ((spans : List Span) → record prepared.transaction { spans = spans } ≡ sent spans)
-    → ((transaction : Transaction) → Some prepared.trace ≡ (transaction_envelope mine context rate transaction).header.trace)
-    → (spans : List Span) → prepared_envelope prepared spans ≡ transaction_envelope options context rate (sent spans)
-prepared_is mine options is prepared context rate sent same trace spans =
+    (context : TraceContext) (rate : ℕ) (transaction : Transaction) (sent : List Span → ℕ → Transaction)
+    → ((spans : List Span) (moment : ℕ) → filled prepared.filling moment (record transaction { spans = spans })
+    ≡ sent spans moment)
+    → ((other : Transaction) → Some prepared.trace ≡ (transaction_envelope mine context rate other).header.trace)
+    → (spans : List Span) (moment : ℕ) → prepared_envelope prepared moment (record transaction { spans = spans })
+    ≡ transaction_envelope options context rate (sent spans moment)
+prepared_is mine options is prepared context rate transaction sent same trace spans moment =
     (λ i. record {
-      header = record { event_id = Some (same spans i).event_id; trace = trace (sent spans) i };
-      items = item.Transaction (same spans i) ∷ [];
+      header = record { event_id = Some (same spans moment i).event_id; trace = trace (sent spans moment) i };
+      items = item.Transaction (same spans moment i) ∷ [];
     })
-    ∙ ap (λ o. transaction_envelope o context rate (sent spans)) is
+    ∙ ap (λ o. transaction_envelope o context rate (sent spans moment)) is
+
+-- what is left to be sent of a transaction that was found unfinished
+pub left_is : (held : TransactionRecord) (unfinished : Unfinished) → held.unfinished ≡ Some unfinished
+    → left_to_send held ≡ Some (record unfinished.transaction { spans = held.spans })
+left_is held unfinished is = ap (option_map (λ found. record found.transaction { spans = held.spans })) is
+
+-- what was handed out of it
+pub handed_out : (held : TransactionRecord) (unfinished : Unfinished) (transaction : Transaction)
+    → held.unfinished ≡ Some unfinished → Some transaction ≡ left_to_send held
+    → transaction ≡ record unfinished.transaction { spans = held.spans }
+handed_out held unfinished transaction is same =
+    ap (λ o. unwrap_or o transaction) (same ∙ left_is held unfinished is)
 
 module _ {P C : Type 0} where
   -- the envelope of a transaction that finishes

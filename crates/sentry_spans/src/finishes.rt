@@ -1,11 +1,11 @@
 //! How transactions and spans finish.
-ghost use Rattle.std.specs.Prelude.{◌≡◌, ◌<◌, [], ◌∷◌, List, IfOk, OnOk, OnErr, Some, true, is_some, codes, vec_len, vec_capacity};
-ghost use Rattle.sentry_plain.specs.Texts.{put};
+ghost use Rattle.std.specs.Prelude.{◌≡◌, ◌<◌, ℕ, [], ◌∷◌, List, IfOk, OnOk, OnErr, Some, true, is_some, codes, vec_len, vec_capacity};
+ghost use Rattle.sentry_plain.specs.Texts.{merge, put};
 ghost use Rattle.sentry_base.specs.Envelopes.{with_report};
 ghost use Rattle.sentry_base.specs.declared.protocol.span.Span.{Span};
 ghost use Rattle.sentry_base.specs.declared.protocol.transaction.Transaction.{Transaction};
 ghost use Rattle.sentry_sending.specs.Sending.{for_client};
-ghost use Rattle.sentry_spans.specs.Prepared.{HasRoom, prepared_envelope};
+ghost use Rattle.sentry_spans.specs.Prepared.{HasRoom, filled, prepared_envelope};
 ghost use Rattle.sentry_state.specs.Books.{pending_report};
 ghost use Rattle.sentry_base.specs.declared.protocol.context.Context.TheVariants as context_of;
 ghost use Rattle.sentry_client_reports.specs.LossBooks.{engine_losses};
@@ -14,20 +14,20 @@ ghost use Rattle.sentry_span_table.specs.SpanTables.{span_in, transaction_in};
 ghost use Rattle.sentry_span_table.specs.declared.table.records.SpanFate.TheVariants.{Kept};
 ghost use Rattle.sentry_span_table.specs.declared.table.records.SpanRecord.{SpanRecord};
 ghost use Rattle.sentry_spans.specs.Spans.{span_loss, transaction_loss, sent_transaction, transaction_envelope, with_client_loss, with_span_in};
-ghost use Rattle.std.specs.Option.{option_map};
+ghost use Rattle.std.specs.Option.{option_map, option_or};
 ghost use Rattle.sentry_spans.specs.Spans as call;
 ghost use Rattle.sentry_state.specs.Outcomes.{Does, span_at, transaction_at};
 ghost use Rattle.sentry_state.specs.SpanChanges.{finished_span, with_span};
 ghost use Rattle.sentry_state.specs.Worlds.{World, Stands};
 
-use crate::prepared::Prepared;
+use crate::prepared::{Filling, Prepared};
 use sentry_base::protocol::{
     Category, ClientKey, ClientReport, Context, DynamicSamplingContext, Envelope, EnvelopeHeaders,
     EnvelopeItem, HubKey, Losses, Reason, Refusal, SampleRate, Span, SpanKey, TraceContext,
-    Transaction, TransactionKey, Uuid,
+    Transaction, TransactionKey, User, Uuid, ValueMap,
 };
 use sentry_options::{Callbacks, ClientOptions};
-use sentry_plain::{Boxed, Items, Text};
+use sentry_plain::{Boxed, Items, Text, TextMap};
 use sentry_scope::Scope;
 use sentry_sending::sending::mark_sent;
 use sentry_span_table::{SpanFate, TracingState, TransactionRecord};
@@ -162,31 +162,55 @@ fn unsampled_losses(held: &TransactionRecord, transaction: &Transaction) -> Loss
     losses
 }
 
-// Gives a transaction its end and its place in the trace.
-fn end_transaction(
-    alloc: Global,
-    held: &TransactionRecord,
-    moment: u64,
-    transaction: &mut Transaction,
-) -> Result<(), AllocError>
-    ensures { OnOk result (transaction.new ≡ record transaction.old {
-      timestamp = Some moment;
-      contexts = put transaction.old.contexts (codes "trace") (context_of.Trace held.now.context);
-    }) }
+// The user that a scope gives to a transaction, if that has none.
+fn user_for<P: Drop>(
+    scope: &Scope<P>,
+    transaction: &Transaction,
+) -> Result<Option<User>, AllocError>
+    ensures { IfOk result (λ user. option_or transaction.now.user user ≡ option_or transaction.now.user scope.now.user) }
 {
-    transaction.timestamp = Some(moment);
-    let key = Text::new(alloc, "trace")?;
-    let context = Context::Trace(held.context.clone()?);
-    transaction.contexts.insert(key, context)?;
-    Ok(())
+    if transaction.user.is_some() {
+        return Ok(None);
+    }
+    match scope.user() {
+        None => Ok(None),
+        Some(user) => {
+            let copy = user.clone()?;
+            Ok(Some(copy))
+        }
+    }
 }
 
-// Says of a transaction what its client says of itself.
-fn describe_client<C>(
-    client: &ClientState<C>,
-    transaction: &mut Transaction,
+// The maps of a transaction with its place in the trace, and with what the scope sets. Where nothing is set they share
+// the entries.
+fn fill_maps<P: Drop>(
+    alloc: Global,
+    scope: &Scope<P>,
+    held: &TransactionRecord,
+    transaction: &Transaction,
+    filling: &mut Filling,
 ) -> Result<(), AllocError>
-    ensures { OnOk result (transaction.new ≡ record transaction.old {
+    ensures { OnOk result (filling.new ≡ record filling.old {
+      extra = merge scope.now.extra transaction.now.extra;
+      tags = merge scope.now.tags transaction.now.tags;
+      contexts = merge scope.now.contexts
+          (put transaction.now.contexts (codes "trace") (context_of.Trace held.now.context));
+    }) }
+{
+    filling.extra = transaction.extra.clone()?;
+    scope.extra.merge_into(&mut filling.extra)?;
+    filling.tags = transaction.tags.clone()?;
+    filling.tags.merge(&scope.tags)?;
+    filling.contexts = transaction.contexts.clone()?;
+    let key = Text::new(alloc, "trace")?;
+    let context = Context::Trace(held.context.clone()?);
+    filling.contexts.insert(key, context)?;
+    filling.contexts.merge(&scope.contexts)
+}
+
+// What a client says of itself.
+fn describe_client<C>(client: &ClientState<C>, filling: &mut Filling) -> Result<(), AllocError>
+    ensures { OnOk result (filling.new ≡ record filling.old {
       release = client.now.options.plain.release;
       environment = client.now.options.plain.environment;
       sdk = Some client.now.sdk;
@@ -194,31 +218,30 @@ fn describe_client<C>(
     }) }
 {
     let options = &client.options.get().plain;
-    transaction.release = options.release.clone()?;
-    transaction.environment = options.environment.clone()?;
-    transaction.sdk = Some(client.sdk.clone()?);
-    transaction.server_name = options.server_name.clone()?;
+    filling.release = options.release.clone()?;
+    filling.environment = options.environment.clone()?;
+    filling.sdk = Some(client.sdk.clone()?);
+    filling.server_name = options.server_name.clone()?;
     Ok(())
 }
 
-// A transaction as it is sent, once it has its spans.
-fn sent_transaction<P: Drop, C>(
+// What a transaction takes on as it is sent. The transaction stays as it is.
+fn filling_of<P: Drop, C>(
     alloc: Global,
     client: &ClientState<C>,
     scope: &Scope<P>,
     held: &TransactionRecord,
-    moment: u64,
     transaction: &Transaction,
-) -> Result<Boxed<Transaction>, AllocError>
-    ensures { IfOk result (λ sent. (spans : List Span) → record sent { spans = spans }
+) -> Result<Filling, AllocError>
+    ensures { IfOk result (λ filling. (spans : List Span) (moment : ℕ) →
+        filled filling moment (record transaction.now { spans = spans })
         ≡ sent_transaction client.now scope.now held.now.context spans moment transaction.now) }
 {
-    let mut sent = transaction.clone()?;
-    end_transaction(alloc, held, moment, &mut sent)?;
-    scope.apply_to_transaction(&mut sent)?;
-    describe_client(client, &mut sent)?;
-    let boxed = Boxed::new(alloc, sent)?;
-    Ok(boxed)
+    let mut filling = Filling::new(alloc);
+    filling.user = user_for(scope, transaction)?;
+    fill_maps(alloc, scope, held, transaction, &mut filling)?;
+    describe_client(client, &mut filling)?;
+    Ok(filling)
 }
 
 // How the trace of a transaction was sampled, at a rate.
@@ -256,8 +279,8 @@ fn public_key_of<C: Callbacks>(
     }
 }
 
-// What is made of a transaction of a client that finishes at a moment under a scope, sampled at a rate, before it is
-// sent.
+// What is made before a transaction of a client is sent that finishes under a scope, sampled at a rate: all that takes
+// memory. The transaction stays as it is.
 fn prepare<P: Drop, C: Callbacks>(
     state: &State<P, C>,
     client: &ClientState<C>,
@@ -265,12 +288,12 @@ fn prepare<P: Drop, C: Callbacks>(
     held: &TransactionRecord,
     transaction: &Transaction,
     rate: SampleRate,
-    moment: u64,
 ) -> Result<Prepared, AllocError>
     ensures room { IfOk result HasRoom }
     ensures report { IfOk result (λ made. (world : World P C) → Stands state.now world →
         made.report ≡ pending_report world client.now.label) }
-    ensures envelope { IfOk result (λ made. (spans : List Span) → prepared_envelope made spans
+    ensures envelope { IfOk result (λ made. (spans : List Span) (moment : ℕ) →
+        prepared_envelope made moment (record transaction.now { spans = spans })
         ≡ transaction_envelope client.now.options held.now.context rate
         (sent_transaction client.now scope.now held.now.context spans moment transaction.now)) }
 {
@@ -280,9 +303,9 @@ fn prepare<P: Drop, C: Callbacks>(
     let report = state.pending_report(client.label)?;
     let sent = Vec::with_capacity(alloc, 1)?;
     let items = Vec::with_capacity(alloc, 2)?;
-    let transaction = sent_transaction(alloc, client, scope, held, moment, transaction)?;
+    let filling = filling_of(alloc, client, scope, held, transaction)?;
     Ok(Prepared {
-        transaction,
+        filling,
         trace,
         report,
         items,
@@ -328,19 +351,24 @@ fn reported_envelope(
     }
 }
 
-// What leaves a client that sends a transaction with these spans. It takes no memory.
-fn send_prepared(prepared: Prepared, key: ClientKey, spans: Items<Span>) -> Sent
+// What leaves a client that sends a transaction that finishes at a moment. It takes no memory.
+fn send_prepared(
+    prepared: Prepared,
+    key: ClientKey,
+    mut transaction: Boxed<Transaction>,
+    moment: u64,
+) -> Sent
     requires { HasRoom prepared }
-    ensures { result ≡ for_client key prepared.report (prepared_envelope prepared spans ∷ []) }
+    ensures { result ≡ for_client key prepared.report (prepared_envelope prepared moment transaction ∷ []) }
 {
     let Prepared {
-        mut transaction,
+        filling,
         trace,
         report,
         mut items,
         mut sent,
     } = prepared;
-    transaction.get_mut().spans = spans;
+    filling.fill(transaction.get_mut(), moment);
     let event_id = transaction.get().event_id;
     items.push_reserved(EnvelopeItem::Transaction(transaction));
     let envelope = reported_envelope(event_id, trace, items, report);
@@ -371,7 +399,7 @@ pub fn finish_transaction<P: Drop, C: Callbacks>(
         return Ok(state.out(()));
     };
     let name = unfinished.client;
-    let transaction = &unfinished.transaction;
+    let transaction = unfinished.transaction.get();
     match held.tracing {
         TracingState::Disabled(_) => {
             drop(state.close_transaction(key));
@@ -397,9 +425,11 @@ pub fn finish_transaction<P: Drop, C: Callbacks>(
                 return Ok(state.out(()));
             }
             let scope = &under.stack.top.scope;
-            let prepared = prepare(state, client, scope, held, transaction, rate, moment)?;
-            let spans = state.close_transaction(key);
-            let sent = send_prepared(prepared, name, spans);
+            let prepared = prepare(state, client, scope, held, transaction, rate)?;
+            let Some(transaction) = state.close_transaction(key) else {
+                unreachable!()
+            };
+            let sent = send_prepared(prepared, name, transaction, moment);
             mark_sent(state, label, &sent);
             Ok(Out { reply: (), sent })
         }

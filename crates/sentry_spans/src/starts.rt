@@ -71,6 +71,7 @@ fn unfinished(
 {
     let name = context.name.clone()?;
     let transaction = Transaction::new(alloc, fresh.uuid, name, start)?;
+    let transaction = Boxed::new(alloc, transaction)?;
     Ok(Unfinished {
         client,
         transaction,

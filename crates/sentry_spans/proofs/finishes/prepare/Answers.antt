@@ -6,7 +6,7 @@ pub returns-clause-envelope : goal.returns-clause-envelope
 returns-clause-envelope g c =
     prepared_is c.get-options.result.now c.args.client.now.options c.get-options.ensures
     (record {
-      transaction = c.in_ok-transaction.transaction;
+      filling = c.in_ok-filling.filling;
       trace = c.in_ok-trace.trace;
       report = c.in_ok-report.report;
       items = c.in_ok-items.items;
@@ -14,5 +14,6 @@ returns-clause-envelope g c =
     })
     c.args.held.now.context
     c.args.rate
-    (λ spans. sent_transaction c.args.client.now c.args.scope.now c.args.held.now.context spans c.args.moment c.args.transaction.now)
-    c.in_ok-transaction.ensures c.in_ok-trace.ensures
+    c.args.transaction.now
+    (λ spans moment. sent_transaction c.args.client.now c.args.scope.now c.args.held.now.context spans moment c.args.transaction.now)
+    c.in_ok-filling.ensures c.in_ok-trace.ensures

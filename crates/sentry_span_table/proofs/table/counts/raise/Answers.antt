@@ -1,4 +1,4 @@
-use Rattle.std.proofs.Common.{◌≡◌, ◌∙◌, ap, sym, subst, ℕ, ◌+◌, List, Some, None}
+use Rattle.std.proofs.Common.{◌≡◌, sym, subst, ℕ, ◌+◌, List, Some, None}
 use Rattle.std.specs.Prelude.{Option, Result, Ok, Err, OnOk}
 use Rattle.sentry_plain.specs.Tables.{value_at, put, replace_at}
 use Rattle.sentry_span_table.specs.Counts.{Raises}

@@ -1,4 +1,4 @@
-use Rattle.std.proofs.Common.{◌≡◌, ◌∙◌, ap, sym, subst, ℕ, Some, None}
+use Rattle.std.proofs.Common.{◌≡◌, ◌∙◌, ap, sym, subst, ℕ, Some}
 use Rattle.std.specs.Prelude.{Option}
 use Rattle.sentry_plain.specs.Tables.{value_at}
 use Rattle.sentry_span_table.specs.Counts.{Lowers}
