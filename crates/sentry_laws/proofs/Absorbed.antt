@@ -27,14 +27,16 @@ use Rattle.sentry_calls.specs.declared.call.hubs.HubCall.TheVariants.{NewHub, Ne
 use Rattle.sentry_calls.specs.declared.call.Reply.{Reply}
 use Rattle.sentry_calls.specs.declared.call.Reply.TheVariants as reply
 use Rattle.sentry_calls.specs.Steps.{step}
-use Rattle.sentry_laws.proofs.Effects.{Effect, client_added, client_cloned, hub_made, hub_made_from, hub_changed, hub_released, losses_absorbed, report_taken, session_begun, client_dropped, came_to_queues, effects, client_effects, hub_effects, on_client, on_hub, on_report}
-use Rattle.sentry_laws.proofs.Trails.{is_own, own_effects, TellsBy}
+use Rattle.sentry_laws.specs.OwnCalls.{client_added}
+use Rattle.sentry_laws.proofs.Effects.{Effect, seen, losses_absorbed, effects, client_effects, hub_effects}
+use Rattle.sentry_laws.proofs.Tests.{any_first, any_second}
+use Rattle.sentry_laws.proofs.Trails.{own_any, TellsBy}
 use Rattle.sentry_laws.proofs.Calls.{told_step}
 use Rattle.sentry_laws.specs.SentItems.{handed_in}
 use Rattle.sentry_laws.proofs.Changes.{Change, Changes, nothing, one, both, after_arrival, envelopes_on_arrival, makes_hub, makes_hub_from, changes_hub, leaves_hub, notes_event_id, releases_hub, adds_client, clones_client, drops_client, arrives, accepts, accepts_none, mails, loses, takes_report, absorbs, starts_none, starts_session, changes_session, ends_session, starts_transaction, starts_span, changes_spans}
 use Rattle.sentry_laws.specs.Losses.{absorbed, leaves_absorbed}
 use Rattle.sentry_laws.proofs.Increasing.{IsIncreasing, increasing_replaced, increasing_without, without_if}
-use Rattle.sentry_laws.proofs.Found.{found_replaced, same_number}
+use Rattle.sentry_laws.proofs.Found.{found_replaced, same_number, left_over}
 use Rattle.std.specs.Ordering.{nat_cmp}
 use Rattle.std.specs.BTreeMap.{is_at}
 
@@ -96,11 +98,6 @@ module _ where
         (own_value books n k held at) (sym (found_replaced books n k (entry ∷ held) held at) ∙ found);
   }
 
-  gone_same : (b : Bool) (o : Option (List LossEntry)) (now : List LossEntry) → (if b then None else o) ≡ Some now
-      → o ≡ Some now
-  gone_same true o now at = absurd cc
-  gone_same false o now at = at
-
   removed : (b : Bool) (books : List (ℕ × List LossEntry)) (n : ℕ)
       → KeepsBooks books (if b then books else without books n)
   removed true books n = unchanged books
@@ -108,7 +105,7 @@ module _ where
     increasing = λ b. increasing_without 0 n books b;
     same = λ b k now found. (
       now,
-      gone_same (k == n) (value_at books k) now (sym (without_if 0 n k books b) ∙ found),
+      left_over (k == n) (value_at books k) now (sym (without_if 0 n k books b) ∙ found),
       λ
           i. refl,
     );
@@ -129,40 +126,15 @@ module _ where
 
 module _ {P C : Type 0} where
   abbrev pub is_loud : Effect P C → Bool
-  is_loud (client_added key options) = true
+  is_loud (seen (client_added key options)) = true
   is_loud (losses_absorbed label losses) = true
   is_loud _ = false
-
-  quiet_first : (first second : List (Effect P C)) → list_any is_loud (first ++ second) ≡ false
-      → list_any is_loud first ≡ false
-  quiet_first [] second h = refl
-  quiet_first (effect ∷ rest) second h = quiet_at (is_loud effect) _ _ h (quiet_first rest second)
-    where
-      quiet_at : (a b c : Bool) → (a || b) ≡ false → (b ≡ false → c ≡ false) → (a || c) ≡ false
-      quiet_at true b c h k = h
-      quiet_at false b c h k = k h
-
-  quiet_second : (first second : List (Effect P C)) → list_any is_loud (first ++ second) ≡ false
-      → list_any is_loud second ≡ false
-  quiet_second [] second h = h
-  quiet_second (effect ∷ rest) second h = quiet_second rest second (quiet_rest (is_loud effect) _ h)
-    where
-      quiet_rest : (a b : Bool) → (a || b) ≡ false → b ≡ false
-      quiet_rest true b h = absurd cc
-      quiet_rest false b h = h
 
 module _ {P C : Type 0} {meanings : C → Meanings} where
   books_change : {f : Option Envelope} {old new : World P C} {some : List (Effect P C)} {sent : List
       (ClientKey × Envelope)} → Change meanings f old some sent new
       → list_any is_loud some ≡ false → KeepsBooks old.books new.books
-  books_change (makes_hub world client scope held active) h = unchanged world.books
-  books_change (makes_hub_from world maker hub found) h = unchanged world.books
-  books_change (changes_hub world number old new change found fits allowed) h = unchanged world.books
-  books_change (leaves_hub world number hub change found fits) h = unchanged world.books
-  books_change (notes_event_id world number old new found same) h = unchanged world.books
-  books_change (releases_hub world number hub found alone) h = unchanged world.books
   books_change (adds_client world client now queues open_ of_engine) h = absurd cc
-  books_change (clones_client world original client now found) h = unchanged world.books
   books_change (drops_client world key client label found same none) h = removed _ world.books label.number
   books_change (arrives world key client arrival is_off found open_ came) h =
       sending_books client.label (send key client (envelopes_on_arrival arrival client)
@@ -178,14 +150,7 @@ module _ {P C : Type 0} {meanings : C → Meanings} where
       (λ history i. refl)
   books_change (takes_report world label has) h = with_silent world label report_point (λ history i. refl)
   books_change (absorbs world label losses has) h = absurd cc
-  books_change (starts_none world number id) h = unchanged world.books
-  books_change (accepts_none world kind) h = unchanged world.books
-  books_change (starts_session world number start) h = unchanged world.books
-  books_change (changes_session world number old new later found same) h = unchanged world.books
-  books_change (ends_session world number) h = unchanged world.books
-  books_change (starts_transaction world state new_) h = unchanged world.books
-  books_change (starts_span world parent place held found of_ traced) h = unchanged world.books
-  books_change (changes_spans world transactions spans change) h = unchanged world.books
+  books_change _ h = unchanged _
 
   pub books_changes : {f : Option Envelope} {old new : World P C} {some : List (Effect P C)} {sent : List
       (ClientKey × Envelope)} → Changes meanings f old some sent new
@@ -193,71 +158,28 @@ module _ {P C : Type 0} {meanings : C → Meanings} where
   books_changes (nothing world) h = unchanged world.books
   books_changes (one c) h = books_change c h
   books_changes (both {old = old} {middle = middle} {new = new} {first = first} {second = second} t u) h =
-      then_keeps old.books middle.books new.books (books_changes t (quiet_first first second h))
-      (books_changes u (quiet_second first second h))
+      then_keeps old.books middle.books new.books (books_changes t (any_first is_loud first second h))
+      (books_changes u (any_second is_loud first second h))
 
 -- ---- calls
 
 module _ {P C : Type 0} where
-  silent_own : (effect : Effect P C) → is_own effect ≡ false → is_loud effect ≡ false
-  silent_own (hub_changed number change) h = refl
-  silent_own (client_added key options) h = absurd cc
-  silent_own (client_cloned key original) h = refl
-  silent_own (hub_made number stack) h = refl
-  silent_own (hub_made_from number maker) h = refl
-  silent_own (hub_released number) h = refl
-  silent_own (losses_absorbed label losses) h = absurd cc
-  silent_own (report_taken label report) h = absurd cc
-  silent_own (session_begun number id) h = refl
-  silent_own (client_dropped number) h = refl
-  silent_own (came_to_queues kind) h = refl
-
-  loud-by : (b : Bool) (effect : Effect P C) (rest own : List (Effect P C)) → is_own effect ≡ b
-      → (list_any is_loud own ≡ false → list_any is_loud rest ≡ false)
-      → list_any is_loud (cond b (effect ∷ own) own) ≡ false → list_any is_loud (effect ∷ rest) ≡ false
-  loud-by true effect rest own e k h = either (is_loud effect) _ _ h k
-    where
-      either : (a b c : Bool) → (a || b) ≡ false → (b ≡ false → c ≡ false) → (a || c) ≡ false
-      either true b c h k = h
-      either false b c h k = k h
-  loud-by false effect rest own e k h = ap (λ b. b || list_any is_loud rest) (silent_own effect e) ∙ k h
-
-  quiet_all : (some : List (Effect P C)) → list_any is_loud (own_effects some) ≡ false → list_any is_loud some ≡ false
-  quiet_all [] h = refl
-  quiet_all (effect ∷ rest) h = loud-by (is_own effect) effect rest (own_effects rest) refl (quiet_all rest) h
-
-  client_quiet : (made : Reply P C) (original : ClientKey)
-      → list_any is_loud (on_client made (λ key. client_cloned key original)) ≡ false
-  client_quiet (reply.Client key) original = refl
-  client_quiet _ original = refl
-
-  report_quiet : (made : Reply P C) (label : Label)
-      → list_any is_loud (on_report {P = P} {C = C} made (λ report. report_taken label report)) ≡ false
-  report_quiet (reply.Report report) label = refl
-  report_quiet _ label = refl
-
-  hub_quiet : (made : Reply P C) (stack : Stack P)
-      → list_any is_loud (on_hub {P = P} {C = C} made (λ number. hub_made number stack)) ≡ false
-  hub_quiet (reply.Hub key) stack = refl
-  hub_quiet _ stack = refl
-
-  hub_from_quiet : (made : Reply P C) (maker : ℕ)
-      → list_any is_loud (on_hub {P = P} {C = C} made (λ number. hub_made_from number maker)) ≡ false
-  hub_from_quiet (reply.Hub key) maker = refl
-  hub_from_quiet _ maker = refl
-
   client_call_quiet : (meanings : C → Meanings) (call : ClientCall P C) (made : Reply P C)
       → leaves_absorbed (group.Client call) ≡ true → list_any is_loud (client_effects meanings call made) ≡ false
   client_call_quiet meanings (AddClient options transport label now) made h = absurd cc
   client_call_quiet meanings (Absorb label losses) made h = absurd cc
-  client_call_quiet meanings (CloneClient client now) made h = client_quiet made client
-  client_call_quiet meanings (TakeReport label) made h = report_quiet made label
+  client_call_quiet meanings (CloneClient client now) (reply.Client key) h = refl
+  client_call_quiet meanings (CloneClient client now) _ h = refl
+  client_call_quiet meanings (TakeReport label) (reply.Report report) h = refl
+  client_call_quiet meanings (TakeReport label) _ h = refl
   client_call_quiet meanings call made h = refl
 
   hub_call_quiet : (meanings : C → Meanings) (call : HubCall P) (made : Reply P C)
       → list_any is_loud (hub_effects {C = C} meanings call made) ≡ false
-  hub_call_quiet meanings (NewHub client scope) made = hub_quiet made (one_layer client scope)
-  hub_call_quiet meanings (NewHubFromTop hub) made = hub_from_quiet made hub.number
+  hub_call_quiet meanings (NewHub client scope) (reply.Hub key) = refl
+  hub_call_quiet meanings (NewHub client scope) _ = refl
+  hub_call_quiet meanings (NewHubFromTop hub) (reply.Hub key) = refl
+  hub_call_quiet meanings (NewHubFromTop hub) _ = refl
   hub_call_quiet meanings call made = refl
 
   call_quiet : (meanings : C → Meanings) (call : Call P C) (made : Reply P C) → leaves_absorbed call ≡ true
@@ -271,7 +193,8 @@ module _ {P C : Type 0} where
       → ((made : Reply P C) → list_any is_loud (own made) ≡ false) → TellsBy meanings f world own answer after
       → KeepsBooks world.books after.books
   told_keeps meanings f world own (Ok out) after quiet tells =
-      books_changes tells.changes (quiet_all tells.effects (ap (list_any is_loud) tells.same ∙ quiet out.reply))
+      books_changes tells.changes
+      (sym (own_any is_loud (λ number session. refl) tells.effects) ∙ (ap (list_any is_loud) tells.same ∙ quiet out.reply))
   told_keeps meanings f world own (Err refusal) after quiet tells =
       subst (λ (w : World P C). KeepsBooks world.books w.books) (sym tells) (unchanged world.books)
 

@@ -1,6 +1,7 @@
 -- What a client accepts is what the calls bring to it.
 use Rattle.std.proofs.Common.{◌≡◌, ◌<◌, refl, ap, ◌∙◌, sym, subst, ℕ, ◌+◌, List, [], ◌∷◌, ◌++◌, Bool, true, false, arith, ◌⊎◌, inl, inr}
 use Rattle.std.proofs.lemmas.List.{append-nil}
+use Rattle.std.proofs.Math.Bool.{and-false}
 use Rattle.std.specs.Prelude.{Option, Some, None, Result, Ok, Err, if◌then◌else◌, ◌==◌, ◌&&◌, ◌||◌, not}
 use Rattle.std.specs.List.{list_any}
 use Rattle.std.specs.Option.{option_map, option_to_list}
@@ -251,10 +252,6 @@ module _ {T C : Type 0} (history : QueueHistories → List (BatchEntry T)) (arri
   no_item true = refl
   no_item false = refl
 
-  and_closed : (b : Bool) → (b && false) ≡ false
-  and_closed true = refl
-  and_closed false = refl
-
   kept_brings : (n : ℕ) (key : ClientKey) (client : ClientHistory C) (o : Option T) (old : Option (ClientHistory C))
       → ((n == key.number) ≡ true → old ≡ Some client)
       → BringsAt n old (kept_client n key client o old)
@@ -266,7 +263,7 @@ module _ {T C : Type 0} (history : QueueHistories → List (BatchEntry T)) (arri
       by_case : (closed own : Bool) → (own ≡ true → old ≡ Some client)
           → BringsAt n old (if closed then old else (if own then Some (after_arrival (arrival_of x) client) else old))
           (if own && not closed then x ∷ [] else [])
-      by_case true own here = unchanged n old _ (ap (λ b. if b then x ∷ [] else []) (and_closed own))
+      by_case true own here = unchanged n old _ (ap (λ b. if b then x ∷ [] else []) (and-false own))
       by_case false false here = unchanged n old [] refl
       by_case false true here = λ after found. (
         λ before held.

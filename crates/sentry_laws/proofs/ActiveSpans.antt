@@ -38,15 +38,16 @@ use Rattle.sentry_state.specs.Worlds.{World, map_values, span_table, starting_wo
 use Rattle.sentry_calls.specs.Runs.{Run}
 use Rattle.sentry_calls.specs.declared.call.Call.{Call}
 use Rattle.sentry_calls.specs.declared.call.Reply.{Reply}
-use Rattle.sentry_laws.proofs.Effects.{Effect, LayerChange, scope_edited, breadcrumbs_came, client_bound, layer_pushed, layer_popped, session_named, change_layers, add_under}
-use Rattle.sentry_laws.proofs.Changes.{Change, SpanChange, changes_transaction, changes_span, keeps_span, drops_transaction, drops_span, held_options, IsAllowed, after_arrival, envelopes_on_arrival, makes_hub, makes_hub_from, changes_hub, leaves_hub, notes_event_id, releases_hub, adds_client, clones_client, drops_client, arrives, accepts, accepts_none, mails, loses, takes_report, absorbs, starts_none, starts_session, changes_session, ends_session, starts_transaction, starts_span, changes_spans}
+use Rattle.sentry_laws.specs.OwnCalls.{LayerChange, scope_edited, breadcrumbs_came, client_bound, layer_pushed, layer_popped, change_layers, add_under}
+use Rattle.sentry_laws.proofs.Effects.{Effect}
+use Rattle.sentry_laws.proofs.Changes.{Change, SpanChange, changes_transaction, changes_span, keeps_span, drops_transaction, drops_span, held_options, IsAllowed, after_arrival, envelopes_on_arrival, makes_hub, makes_hub_from, changes_hub, leaves_hub, sets_session, notes_event_id, releases_hub, adds_client, clones_client, drops_client, arrives, accepts, accepts_none, mails, loses, takes_report, absorbs, starts_none, starts_session, changes_session, ends_session, starts_transaction, starts_span, changes_spans}
 use Rattle.sentry_laws.specs.Reachable.{ActiveSpansAreHeld}
-use Rattle.sentry_laws.proofs.Found.{same_number, found_put, found_replaced, found_without, all_by, all_without}
+use Rattle.sentry_laws.proofs.Found.{same_number, found_put, found_replaced, found_without, all_by, all_without, own_number}
 use Rattle.sentry_laws.proofs.Keeping.{kept_by_run}
-use Rattle.sentry_laws.proofs.LabelBooks.{own_number}
 use Rattle.sentry_laws.proofs.Layers.{AllLayers, all_map, all_pushed, all_popped}
 use Rattle.sentry_laws.proofs.Numbered.{IsNumbered, client_numbered, numbered_change, none_numbered}
-use Rattle.sentry_laws.proofs.Tests.{fails_found, or_left, or_right, and_left, and_right}
+use Rattle.std.proofs.lemmas.Bool.{and_parts, or_parts}
+use Rattle.sentry_laws.proofs.Tests.{fails_found}
 use Rattle.sentry_laws.proofs.Traces.{value_mapped}
 use Rattle.sentry_laws.proofs.Trails.{found_under}
 
@@ -66,27 +67,14 @@ module _ {P : Type 0} (spans : SpanTable) where
       → is_held spans (edit by scope).span ≡ true
   edit_held (edit_of.SetSpan span) scope named h = named
   edit_held (edit_of.Clear trace_id span_id) scope named h = refl
-  edit_held (edit_of.SetLevel level) scope named h = h
-  edit_held (edit_of.SetFingerprint fingerprint) scope named h = h
-  edit_held (edit_of.SetTransaction transaction) scope named h = h
-  edit_held (edit_of.SetUser user) scope named h = h
-  edit_held (edit_of.SetTag key value) scope named h = h
-  edit_held (edit_of.RemoveTag key) scope named h = h
-  edit_held (edit_of.SetExtra key value) scope named h = h
-  edit_held (edit_of.RemoveExtra key) scope named h = h
-  edit_held (edit_of.SetContext key context) scope named h = h
-  edit_held (edit_of.RemoveContext key) scope named h = h
-  edit_held edit_of.ClearBreadcrumbs scope named h = h
-  edit_held (edit_of.AddAttachment attachment) scope named h = h
-  edit_held edit_of.ClearAttachments scope named h = h
-  edit_held (edit_of.AddEventProcessor processor) scope named h = h
+  edit_held _ scope named h = h
 
   edits_held : (edits : List (ScopeEdit P)) (scope : Scope P) → all_name_held_spans spans edits ≡ true
       → is_held spans scope.span ≡ true → is_held spans (edit_all edits scope).span ≡ true
   edits_held [] scope named h = h
   edits_held (first ∷ rest) scope named h =
-      edits_held rest (edit first scope) (and_right (names_held_span spans first) _ named)
-      (edit_held first scope (and_left (names_held_span spans first) _ named) h)
+      edits_held rest (edit first scope) (and_parts (names_held_span spans first) _ named).1
+      (edit_held first scope (and_parts (names_held_span spans first) _ named).0 h)
 
 module _ {P C : Type 0} (meanings : C → Meanings) where
   crumbs_held : (spans : SpanTable) (b : Bool) (o : Option (ClientOptions C)) (breadcrumbs : List Breadcrumb)
@@ -96,7 +84,7 @@ module _ {P C : Type 0} (meanings : C → Meanings) where
   crumbs_held spans false None breadcrumbs stack h = h
   crumbs_held spans false (Some options) breadcrumbs stack h = h
 
-  change_held : (world : World P C) (change : LayerChange P) (stack : Stack P) → IsAllowed world stack change
+  change_held : (world : World P C) (change : LayerChange P) (stack : Stack P) → IsAllowed world change
       → AllLayers (IsActiveHeld (span_table world)) stack
       → AllLayers (IsActiveHeld (span_table world)) (change_layers meanings (held_options world) change stack)
   change_held world (scope_edited edits) stack allowed h =
@@ -106,8 +94,7 @@ module _ {P C : Type 0} (meanings : C → Meanings) where
       breadcrumbs stack h
   change_held world (client_bound client) stack allowed h = h
   change_held world layer_pushed stack allowed h = (h.0, all_pushed (IsActiveHeld (span_table world)) stack h)
-  change_held world (layer_popped given) stack allowed h = all_popped (IsActiveHeld (span_table world)) stack h
-  change_held world (session_named session) stack allowed h = h
+  change_held world layer_popped stack allowed h = all_popped (IsActiveHeld (span_table world)) stack h
 
 -- ---- what is held
 
@@ -244,8 +231,8 @@ module _ {P C : Type 0} where
       → AllByRecursion (IsActiveHeld (span_table world)) layers → AllByRecursion (IsActiveHeld (span_table new)) layers
   unnamed_layers world new dropped keeps [] none h = tt
   unnamed_layers world new dropped keeps (layer ∷ rest) none h = (
-    by_name layer.scope.span (or_left (is_named dropped layer.scope.span) _ none) h.0,
-    unnamed_layers world new dropped keeps rest (or_right (is_named dropped layer.scope.span) _ none) h.1,
+    by_name layer.scope.span (or_parts (is_named dropped layer.scope.span) _ none).0 h.0,
+    unnamed_layers world new dropped keeps rest (or_parts (is_named dropped layer.scope.span) _ none).1 h.1,
   )
     where
       by_name : (name : Option TransactionOrSpanKey) → is_named dropped name ≡ false → is_held (span_table world)
@@ -295,7 +282,7 @@ module _ {P C : Type 0} where
       keeps (key_of.Transaction other) apart held =
           let was : ((other.tag == world.tag) && is_some (value_at world.transactions other.number)) ≡ true =
           sym (held_transaction world other) ∙ held in
-          let tag = and_left (other.tag == world.tag) _ was in
+          let tag = (and_parts (other.tag == world.tag) _ was).0 in
           let number = apart_numbers world.tag key.tag key.number other.tag other.number
           (key_tag world.tag world.transactions key.tag key.number state at) tag apart in
           held_transaction new other
@@ -315,7 +302,7 @@ module _ {P C : Type 0} where
       keeps (key_of.Span other) apart held =
           let was : ((other.tag == world.tag) && is_some (value_at world.spans other.number)) ≡ true =
           sym (held_span world other) ∙ held in
-          let tag = and_left (other.tag == world.tag) _ was in
+          let tag = (and_parts (other.tag == world.tag) _ was).0 in
           let number = apart_numbers world.tag key.tag key.number other.tag other.number
           (key_tag world.tag world.spans key.tag key.number found_ at) tag apart in
           held_span new other ∙ (ap (λ o. (other.tag == world.tag) && is_some o)
@@ -334,7 +321,8 @@ module _ {P C : Type 0} (meanings : C → Meanings) where
     held = hub_replaced world number old new found (subst (AllLayers (IsActiveHeld (span_table world))) (sym fits)
         (change_held meanings world change old.stack allowed (h.held number old found))) h;
   }
-  held_by (leaves_hub world number hub change found fits) n h = h
+  held_by (sets_session world number hub session found given) n h =
+      record { numbers = n; held = hub_replaced world number hub _ found (h.held number hub found) h }
   held_by (notes_event_id world number old new found same) n h = record {
     numbers = n;
     held = hub_replaced world number old new found (subst (AllLayers (IsActiveHeld (span_table world))) (sym same)
@@ -346,9 +334,6 @@ module _ {P C : Type 0} (meanings : C → Meanings) where
         other (value_at world.hubs k) (λ z zat. h.held k z zat)
         (sym (found_without 0 world.next.hub world.hubs number k h.numbers.hubs) ∙ at);
   }
-  held_by (adds_client world client now queues open_ of_engine) n h = record { numbers = n; held = h.held }
-  held_by (clones_client world original client now found) n h = record { numbers = n; held = h.held }
-  held_by (drops_client world key client label found same none) n h = record { numbers = n; held = h.held }
   held_by (arrives world key client arrival is_off found open_ came) n h =
       held_sending client.label (send key client (envelopes_on_arrival arrival client)
       (with_client_history world key (after_arrival arrival client))).sent
@@ -359,15 +344,6 @@ module _ {P C : Type 0} (meanings : C → Meanings) where
       (with_client_history world key (after_arrival arrival client))).sent
       (with_client_history world key (after_arrival arrival client)) n
       (record { numbers = client_numbered world key (after_arrival arrival client) h.numbers; held = h.held })
-  held_by (mails world key client envelope found occupied plain told_) n h = record { numbers = n; held = h.held }
-  held_by (loses world key client losses found) n h = record { numbers = n; held = h.held }
-  held_by (takes_report world label has) n h = record { numbers = n; held = h.held }
-  held_by (absorbs world label losses has) n h = record { numbers = n; held = h.held }
-  held_by (starts_none world number id) n h = record { numbers = n; held = h.held }
-  held_by (accepts_none world kind) n h = record { numbers = n; held = h.held }
-  held_by (starts_session world number start) n h = record { numbers = n; held = h.held }
-  held_by (changes_session world number old new later found same) n h = record { numbers = n; held = h.held }
-  held_by (ends_session world number) n h = record { numbers = n; held = h.held }
   held_by (starts_transaction world state new_) n h =
       spans_changed world (with_new_transaction state world) refl
       (λ name held. keeps_more world (put world.transactions world.next.transaction state) world.spans 0
@@ -377,6 +353,7 @@ module _ {P C : Type 0} (meanings : C → Meanings) where
       (put world.spans world.next.span held) 0 (λ k held. held) (λ k. some_put world.spans world.next.span k held)
       name was) n h
   held_by (changes_spans world transactions spans change) n h = spans_kept world transactions spans change n h
+  held_by _ n h = record { numbers = n; held = h.held }
 
   held_change : {given : Option Envelope} {old new : World P C} {some : List (Effect P C)} {sent : List
       (ClientKey × Envelope)} → Change meanings given old some sent new → HoldsActive old → HoldsActive new

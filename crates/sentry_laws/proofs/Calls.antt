@@ -1,5 +1,6 @@
 -- Each call is a sequence of changes.
 use Rattle.std.proofs.Common.{◌≡◌, refl, ap, ◌∙◌, sym, ℕ, ◌-◌, ◌^◌, List, [], ◌∷◌, Bool, true, false, inl, length, arith}
+use Rattle.std.proofs.lemmas.Bool.{and_parts, not-true}
 use Rattle.std.proofs.lemmas.Bool.Decides.{nat_tests}
 use Rattle.std.specs.Prelude.{Option, Some, None, if◌then◌else◌, nat_lt, ◌==◌, ◌&&◌, not}
 use Rattle.std.specs.List.{list_any}
@@ -63,7 +64,8 @@ use Rattle.sentry_calls.specs.Losses as losses
 use Rattle.sentry_calls.specs.Sessions as sessions
 use Rattle.sentry_calls.specs.Telemetry as telemetry
 use Rattle.sentry_calls.specs.Steps.{step, client_step, hub_step}
-use Rattle.sentry_laws.proofs.Effects.{Came, a_log, a_metric, a_close, Effect, scope_edited, breadcrumbs_came, client_bound, layer_pushed, layer_popped, hub_changed, hub_released, losses_absorbed, report_taken, session_begun, client_dropped, came_to_queues, effects, client_effects, hub_effects, change_layers, add_under}
+use Rattle.sentry_laws.specs.OwnCalls.{scope_edited, breadcrumbs_came, client_bound, layer_pushed, layer_popped, hub_changed, hub_released, change_layers, add_under}
+use Rattle.sentry_laws.proofs.Effects.{Came, a_log, a_metric, a_close, Effect, seen, losses_absorbed, report_taken, session_begun, client_dropped, came_to_queues, effects, client_effects, hub_effects}
 use Rattle.sentry_laws.proofs.Changes.{one, held_options, makes_hub, makes_hub_from, changes_hub, leaves_hub, notes_event_id, releases_hub, adds_client, clones_client, drops_client, mails, takes_report, absorbs, starts_none, accepts_none}
 use Rattle.sentry_laws.specs.SentItems.{handed_in}
 use Rattle.sentry_laws.proofs.SpanTrails.{quiet_names, told_span_step}
@@ -72,18 +74,9 @@ use Rattle.sentry_laws.proofs.SendingTrails.{flushes, closes_queues, flush_hubs,
 use Rattle.sentry_laws.proofs.Naming.{hub_replaced_named}
 use Rattle.sentry_laws.proofs.Releases.{all_released_named, popped_named, hub_released_named, renamed_named, replaced_named}
 use Rattle.sentry_laws.proofs.CaptureTrails.{fate_of, captures, captures_with_session, loses_if_any, found_captured}
-use Rattle.sentry_laws.proofs.Tests.{and_left}
 
 abbrev quiet : {P C T : Type 0} → T → List (Effect P C)
 quiet reply = []
-
-and_right : (a b : Bool) → (a && b) ≡ true → b ≡ true
-and_right true b e = e
-and_right false b e = absurd cc
-
-not_true : (b : Bool) → not b ≡ true → b ≡ false
-not_true true e = absurd cc
-not_true false e = refl
 
 popped_same : {P : Type 0} (below : List (StackLayer P)) (one_ other : Stack P) → nat_lt 0 (length below) ≡ true
     → stack_of_any below one_ ≡ stack_of_any below other
@@ -92,16 +85,13 @@ popped_same (lowest ∷ above) one_ other h = refl
 
 above_ground : (deep given : ℕ) → (deep == given && nat_lt 0 given) ≡ true → nat_lt 0 deep ≡ true
 above_ground deep given top =
-    let same : (deep == given) ≡ true = and_left (deep == given) (nat_lt 0 given) top in
-    let above : nat_lt 0 given ≡ true = and_right (deep == given) (nat_lt 0 given) top in
+    let both : ((deep == given) ≡ true) × (nat_lt 0 given ≡ true) = and_parts (deep == given) (nat_lt 0 given) top in
+    let same = both.0 in
+    let above = both.1 in
     grind (arith, nat_tests)
 
 none_below : (deep : ℕ) → (deep == 0) ≡ true → deep ≡ 0
 none_below deep e = grind (arith, nat_tests)
-
-same_depth : (deep given : ℕ) → (deep == given && nat_lt 0 given) ≡ true → deep ≡ given
-same_depth deep given top = let same : (deep == given) ≡ true = and_left (deep == given) (nat_lt 0 given) top in grind
-    (arith, nat_tests)
 
 module _ {P C : Type 0} (meanings : C → Meanings) where
   found_hub : (key : HubKey) (world : World P C) (hub : HubState P) → hub_at world key ≡ Some hub
@@ -141,7 +131,7 @@ module _ {P C : Type 0} (meanings : C → Meanings) where
       let left = flushed_client All key world client found in
       told_trail meanings None tt (quiet_last meanings None (flushes meanings All refl key world).changes
       (drops_client (flush_queues All key world).after key left.0 client.label left.1 left.2
-      (ap (is_client_named key) (flush_hubs All key world) ∙ not_true _ unnamed))) refl refl))))
+      (ap (is_client_named key) (flush_hubs All key world) ∙ not-true _ unnamed))) refl refl))))
 
   told_options : (key : ClientKey) (world : World P C) → Told meanings None world quiet (clients.options key world)
   unfolding clients.options
@@ -394,7 +384,7 @@ module _ {P C : Type 0} (meanings : C → Meanings) where
       o) breadcrumbs hub.stack) held)
 
   told_breadcrumbs : (key : HubKey) (breadcrumbs : List Breadcrumb) (world : World P C)
-      → Told meanings None world (λ _. hub_changed key.number (breadcrumbs_came breadcrumbs) ∷ [])
+      → Told meanings None world (λ _. seen (hub_changed key.number (breadcrumbs_came breadcrumbs)) ∷ [])
       (add_breadcrumbs meanings key breadcrumbs world)
   unfolding add_breadcrumbs
   told_breadcrumbs key breadcrumbs world =
@@ -419,7 +409,7 @@ module _ {P C : Type 0} (meanings : C → Meanings) where
       (sym (came_client world breadcrumbs hub client_key (Some client) some named_ held)) tt)) refl refl))))
 
   told_configure : (key : HubKey) (edits : List (ScopeEdit P)) (now : ℕ) (world : World P C)
-      → Told meanings None world (λ _. hub_changed key.number (scope_edited edits) ∷ [])
+      → Told meanings None world (λ _. seen (hub_changed key.number (scope_edited edits)) ∷ [])
       (hubs.configure key edits now world)
   unfolding hubs.configure
   told_configure key edits now world =
@@ -444,7 +434,7 @@ module _ {P C : Type 0} (meanings : C → Meanings) where
       here refl active)) renames) refl refl)))
 
   told_push : (key : HubKey) (world : World P C)
-      → Told meanings None world (λ _. hub_changed key.number layer_pushed ∷ []) (layers.push_scope key world)
+      → Told meanings None world (λ _. seen (hub_changed key.number layer_pushed) ∷ []) (layers.push_scope key world)
   unfolding layers.push_scope
   told_push key world =
       told_some meanings None Stale (hub_at world key) (λ hub found.
@@ -453,7 +443,7 @@ module _ {P C : Type 0} (meanings : C → Meanings) where
       (found_hub key world hub found) refl tt)) refl refl)
 
   told_pop : (key : HubKey) (given now : ℕ) (world : World P C)
-      → Told meanings None world (λ _. hub_changed key.number (layer_popped given) ∷ [])
+      → Told meanings None world (λ _. seen (hub_changed key.number layer_popped) ∷ [])
       (layers.pop_scope key given now world)
   unfolding layers.pop_scope pop
   told_pop key given now world =
@@ -461,13 +451,13 @@ module _ {P C : Type 0} (meanings : C → Meanings) where
       let here = found_hub key world hub found in
       told_require meanings None OutOfOrder (depth hub.stack == given && nat_lt 0 given) (λ top.
       told_named meanings None tt (quiet_last meanings None (releases meanings key.number hub now world here).changes
-      (changes_hub _ key.number (with_session hub None) (with_stack hub (pop hub.stack)) (layer_popped given)
+      (changes_hub _ key.number (with_session hub None) (with_stack hub (pop hub.stack)) layer_popped
       (found_released key.number hub now world here)
       (popped_same hub.stack.below hub.stack (with_session hub None).stack (above_ground (depth hub.stack) given top))
-      (same_depth (depth hub.stack) given top))) refl (popped_named key.number hub now world here) (λ n h. absurd cc)))
+      tt)) refl (popped_named key.number hub now world here) (λ n h. absurd cc)))
 
   told_release : (key : HubKey) (now : ℕ) (world : World P C)
-      → Told meanings None world (λ _. hub_released key.number ∷ []) (layers.release_hub key now world)
+      → Told meanings None world (λ _. seen (hub_released key.number) ∷ []) (layers.release_hub key now world)
   unfolding layers.release_hub
   told_release key now world =
       told_some meanings None Stale (hub_at world key) (λ hub found.
@@ -481,7 +471,7 @@ module _ {P C : Type 0} (meanings : C → Meanings) where
       (none_below (depth hub.stack) alone)) (λ n h. absurd cc)))
 
   told_bind : (key : HubKey) (client : Option ClientKey) (world : World P C)
-      → Told meanings None world (λ _. hub_changed key.number (client_bound client) ∷ [])
+      → Told meanings None world (λ _. seen (hub_changed key.number (client_bound client)) ∷ [])
       (layers.bind_client key client world)
   unfolding layers.bind_client
   told_bind key client world =

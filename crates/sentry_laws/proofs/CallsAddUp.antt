@@ -17,10 +17,10 @@ use Rattle.sentry_calls.specs.declared.call.Reply.{Reply}
 use Rattle.sentry_laws.specs.Losses.{came_in}
 use Rattle.sentry_laws.specs.LossesByCalls.{losses_in, losses_by_answer, brought_since, CallsAddUp}
 use Rattle.sentry_laws.specs.Reports.{history_of}
-use Rattle.sentry_laws.proofs.LabelBooks.{HasBooks, no_books}
-use Rattle.sentry_laws.proofs.LossesByCalls.{kept_books, kept_tag, records_call}
+use Rattle.sentry_laws.proofs.LabelBooks.{HasBooks, no_books, kept_books}
+use Rattle.sentry_laws.proofs.LossesByCalls.{kept_tag, records_call}
 use Rattle.sentry_laws.proofs.Reports.{reports_add_up}
-use Rattle.sentry_laws.proofs.Tests.{and_left}
+use Rattle.std.proofs.lemmas.Bool.{and_parts}
 
 -- what came to a book, reports aside
 came_but : (history : List LossEntry) (i : ℕ) → came_in history i ≡ came_in (losses_in history) i
@@ -80,7 +80,7 @@ module _ {P C : Type 0} (gives : P → Partial) (meanings : C → Meanings) (lab
       (brought + came_in (losses_by_answer gives meanings label world call answer) i) next books refl (λ has.
       let own : (label.tag == world.tag) ≡ true =
       ap (λ t. label.tag == t) (sym (kept_tag gives meanings call answer world next may))
-      ∙ and_left (label.tag == next.tag) _ (books.same label ∙ has) in
+      ∙ (and_parts (label.tag == next.tag) _ (books.same label ∙ has)).0 in
       let some = losses_by_answer gives meanings label world call answer in
       ap (λ n. n + came_in some i) (came_so_far brought world b own ∙ came_but (history_of world label) i)
       ∙ (sym (came_after some (losses_in (history_of world label)) i)

@@ -26,6 +26,7 @@ use Rattle.sentry_scope.specs.Stacks.{one_layer, top_alone, depth}
 use Rattle.sentry_sessions.specs.SessionQueues.{enqueued, envelopes_on}
 use Rattle.sentry_sessions.specs.Sessions.{SessionEntry}
 use Rattle.sentry_sessions.specs.declared.session.record.SessionStart.{SessionStart}
+use Rattle.sentry_hub_table.specs.Hubs.{with_session}
 use Rattle.sentry_hub_table.specs.declared.hub.HubState.{HubState}
 use Rattle.sentry_state.specs.Worlds.{World, ClientHistory, SessionHistory, span_table}
 use Rattle.sentry_base.specs.declared.protocol.keys.SpanKey.{SpanKey}
@@ -47,7 +48,8 @@ use Rattle.sentry_telemetry.specs.declared.flushes.Flush.{Flush}
 use Rattle.sentry_telemetry.specs.Flushes.{is_closing, after_flush, flushed_envelopes, batch_envelopes}
 use Rattle.sentry_laws.specs.Statuses.{status_of}
 use Rattle.sentry_laws.specs.Traces.{trace_named}
-use Rattle.sentry_laws.proofs.Effects.{Came, a_log, a_metric, a_close, Effect, LayerChange, client_added, client_cloned, hub_made, hub_made_from, hub_changed, hub_released, losses_absorbed, report_taken, session_begun, client_dropped, came_to_queues, scope_edited, client_bound, layer_popped, session_named, change_layers}
+use Rattle.sentry_laws.specs.OwnCalls.{LayerChange, client_added, client_cloned, hub_made, hub_made_from, hub_changed, hub_released, scope_edited, client_bound, change_layers}
+use Rattle.sentry_laws.proofs.Effects.{Came, a_log, a_metric, a_close, Effect, seen, session_named, losses_absorbed, report_taken, session_begun, client_dropped, came_to_queues}
 
 -- ---- what comes to the queues of a client
 
@@ -134,14 +136,11 @@ module _ {P C : Type 0} where
   abbrev pub held_options : World P C → ClientKey → Option (ClientOptions C)
   held_options world key = option_map (λ (client : ClientHistory C). client.options) (client_at world key)
 
-  -- the change of these layers names no client and no span that isn't held, no session that wasn't started, and pops
-  -- no layer of another depth
-  abbrev pub IsAllowed : World P C → Stack P → LayerChange P → Type 0
-  IsAllowed world stack (client_bound client) = is_held_or_none world client ≡ true
-  IsAllowed world stack (scope_edited edits) = all_name_held_spans (span_table world) edits ≡ true
-  IsAllowed world stack (layer_popped given) = depth stack ≡ given
-  IsAllowed world stack (session_named session) = IsGiven world.tag world.next.session session
-  IsAllowed world stack _ = Unit {0}
+  -- the change of layers names no client and no span that isn't held
+  abbrev pub IsAllowed : World P C → LayerChange P → Type 0
+  IsAllowed world (client_bound client) = is_held_or_none world client ≡ true
+  IsAllowed world (scope_edited edits) = all_name_held_spans (span_table world) edits ≡ true
+  IsAllowed world _ = Unit {0}
 
 -- one change of the transactions and spans that are held, which starts none
 pub data SpanChange {P C : Type 0} (world : World P C) : List (ℕ × TransactionHistory) → List (ℕ × SpanRecord)
@@ -170,38 +169,43 @@ pub data Change {P C : Type 0} (meanings : C → Meanings) (given : Option Envel
   -- a hub under the next number
   makes_hub : (world : World P C) (client : Option ClientKey) (scope : Scope P) → is_held_or_none world client ≡ true
       → is_held (span_table world) scope.span ≡ true
-      → Change meanings given world (hub_made world.next.hub (one_layer client scope) ∷ []) []
+      → Change meanings given world (seen (hub_made world.next.hub (one_layer client scope)) ∷ []) []
       (with_new_hub (one_layer client scope) world)
   makes_hub_from : (world : World P C) (maker : ℕ) (hub : HubState P) → value_at world.hubs maker ≡ Some hub
-      → Change meanings given world (hub_made_from world.next.hub maker ∷ []) []
+      → Change meanings given world (seen (hub_made_from world.next.hub maker) ∷ []) []
       (with_new_hub (top_alone hub.stack) world)
   changes_hub : (world : World P C) (number : ℕ) (old new : HubState P) (change : LayerChange P)
       → value_at world.hubs number ≡ Some old
-      → new.stack ≡ change_layers meanings (held_options world) change old.stack → IsAllowed world old.stack change
-      → Change meanings given world (hub_changed number change ∷ []) []
+      → new.stack ≡ change_layers meanings (held_options world) change old.stack → IsAllowed world change
+      → Change meanings given world (seen (hub_changed number change) ∷ []) []
       (record world { hubs = replace_at world.hubs number new })
   -- a change that leaves the hub as it was
   leaves_hub : (world : World P C) (number : ℕ) (hub : HubState P) (change : LayerChange P)
       → value_at world.hubs number ≡ Some hub
       → change_layers meanings (held_options world) change hub.stack ≡ hub.stack
-      → Change meanings given world (hub_changed number change ∷ []) [] world
+      → Change meanings given world (seen (hub_changed number change) ∷ []) [] world
+  -- the top layer of a hub names a session that was started, or none
+  sets_session : (world : World P C) (number : ℕ) (hub : HubState P) (session : Option SessionKey)
+      → value_at world.hubs number ≡ Some hub → IsGiven world.tag world.next.session session
+      → Change meanings given world (session_named number session ∷ []) []
+      (record world { hubs = replace_at world.hubs number (with_session hub session) })
   notes_event_id : (world : World P C) (number : ℕ) (old new : HubState P) → value_at world.hubs number ≡ Some old
       → new.stack ≡ old.stack
       → Change meanings given world [] [] (record world { hubs = replace_at world.hubs number new })
   releases_hub : (world : World P C) (number : ℕ) (hub : HubState P) → value_at world.hubs number ≡ Some hub
       → depth hub.stack ≡ 0
-      → Change meanings given world (hub_released number ∷ []) [] (record world { hubs = without world.hubs number })
+      → Change meanings given world (seen (hub_released number) ∷ []) [] (record world { hubs = without world.hubs number })
   -- a client under the next number
   adds_client : (world : World P C) (client : ClientHistory C) (now : ℕ) → client.queues ≡ queues_from now
       → client.closed ≡ false → (client.label.tag == world.tag) ≡ true
-      → Change meanings given world (client_added (next_client_key world) client.options ∷ []) [] (record world {
+      → Change meanings given world (seen (client_added (next_client_key world) client.options) ∷ []) [] (record world {
         next = record world.next { client = world.next.client + 1 };
         clients = put world.clients world.next.client client;
         books = with_book world.books client.label.number;
       })
   clones_client : (world : World P C) (original : ClientKey) (client : ClientHistory C) (now : ℕ)
       → client_at world original ≡ Some client
-      → Change meanings given world (client_cloned (next_client_key world) original ∷ []) [] (record world {
+      → Change meanings given world (seen (client_cloned (next_client_key world) original) ∷ []) [] (record world {
         next = record world.next { client = world.next.client + 1 };
         clients = put world.clients world.next.client (clone_from now client);
       })

@@ -1,5 +1,6 @@
 -- A client is held until it is dropped.
 use Rattle.std.proofs.Common.{◌≡◌, refl, ap, ◌∙◌, ℕ, List, [], ◌∷◌, Bool, true, false}
+use Rattle.std.proofs.lemmas.Bool.{or_parts}
 use Rattle.std.specs.Prelude.{Option, Some, None, is_some, if◌then◌else◌, ◌==◌, ◌||◌}
 use Rattle.std.specs.List.{list_any}
 use Rattle.sentry_plain.specs.Tables.{value_at}
@@ -19,12 +20,12 @@ use Rattle.sentry_calls.specs.declared.call.hubs.HubCall.{HubCall}
 use Rattle.sentry_calls.specs.declared.call.hubs.HubCall.TheVariants.{NewHub, NewHubFromTop}
 use Rattle.sentry_calls.specs.declared.call.Reply.{Reply}
 use Rattle.sentry_calls.specs.declared.call.Reply.TheVariants as reply
-use Rattle.sentry_laws.proofs.Effects.{Effect, scope_edited, breadcrumbs_came, client_bound, layer_pushed, layer_popped, session_named, hub_changed, client_dropped, came_to_queues, client_added, client_cloned, hub_made, hub_made_from, hub_released, losses_absorbed, report_taken, session_begun, effects, client_effects, hub_effects}
+use Rattle.sentry_laws.proofs.Effects.{Effect, client_dropped, effects, client_effects, hub_effects}
 use Rattle.sentry_laws.proofs.Changes.{Change, Changes, nothing, one, both, after_arrival, envelopes_on_arrival, makes_hub, makes_hub_from, changes_hub, leaves_hub, notes_event_id, releases_hub, adds_client, clones_client, drops_client, arrives, accepts, accepts_none, mails, loses, takes_report, absorbs, starts_none, starts_session, changes_session, ends_session, starts_transaction, starts_span, changes_spans}
 use Rattle.sentry_laws.proofs.Found.{found_put, found_replaced, found_without}
 use Rattle.sentry_laws.proofs.Numbered.{IsNumbered, numbered_changes}
-use Rattle.sentry_laws.proofs.Tests.{or_left, any_first, any_second}
-use Rattle.sentry_laws.proofs.Trails.{found_under, own_effects}
+use Rattle.sentry_laws.proofs.Tests.{any_first, any_second}
+use Rattle.sentry_laws.proofs.Trails.{found_under, own_effects, own_any}
 
 module _ {C : Type 0} where
   held_if : (b : Bool) (client : ClientHistory C) (o : Option (ClientHistory C)) → is_some o ≡ true
@@ -55,12 +56,6 @@ module _ (n : ℕ) {P C : Type 0} where
     held_change : {f : Option Envelope} {old new : World P C} {some : List (Effect P C)} {sent : List
         (ClientKey × Envelope)} → Change meanings f old some sent new → IsNumbered old
         → list_any is_dropped some ≡ false → IsHeld old → IsHeld new
-    held_change (makes_hub world client scope held active) m d h = h
-    held_change (makes_hub_from world maker hub found) m d h = h
-    held_change (changes_hub world number old new change found fits allowed) m d h = h
-    held_change (leaves_hub world number hub change found fits) m d h = h
-    held_change (notes_event_id world number old new found same) m d h = h
-    held_change (releases_hub world number hub found alone) m d h = h
     held_change (adds_client world client now queues open_ of_engine) m d h =
         ap is_some (found_put world.clients world.next.client n client)
         ∙ held_if (n == world.next.client) client (value_at world.clients n) h
@@ -69,7 +64,7 @@ module _ (n : ℕ) {P C : Type 0} where
         ∙ held_if (n == world.next.client) (clone_from now client) (value_at world.clients n) h
     held_change (drops_client world key client label found same unnamed) m d h =
         ap is_some (found_without 0 world.next.client world.clients key.number n m.clients)
-        ∙ held_unless (n == key.number) (value_at world.clients n) (or_left (n == key.number) _ d) h
+        ∙ held_unless (n == key.number) (value_at world.clients n) (or_parts (n == key.number) _ d).0 h
     held_change (arrives world key client arrival is_off found open_ came) m d h =
         held_sending client.label (send key client (envelopes_on_arrival arrival client)
         (with_client_history world key (after_arrival arrival client))).sent
@@ -84,18 +79,7 @@ module _ (n : ℕ) {P C : Type 0} where
         (ap is_some (found_replaced world.clients key.number n (after_arrival arrival client) client
         (found_under world.tag world.clients key.tag key.number client found))
         ∙ held_if (n == key.number) (after_arrival arrival client) (value_at world.clients n) h)
-    held_change (mails world key client envelope found occupied plain told_) m d h = h
-    held_change (loses world key client losses found) m d h = h
-    held_change (takes_report world label has) m d h = h
-    held_change (absorbs world label losses has) m d h = h
-    held_change (starts_none world number id) m d h = h
-    held_change (accepts_none world kind) m d h = h
-    held_change (starts_session world number start) m d h = h
-    held_change (changes_session world number old new later found same) m d h = h
-    held_change (ends_session world number) m d h = h
-    held_change (starts_transaction world state new_) m d h = h
-    held_change (starts_span world parent place held found of_ traced) m d h = h
-    held_change (changes_spans world transactions spans change) m d h = h
+    held_change _ m d h = h
 
     -- a client that no change drops is held
     pub held_changes : {f : Option Envelope} {old new : World P C} {some : List (Effect P C)} {sent : List
@@ -109,23 +93,7 @@ module _ (n : ℕ) {P C : Type 0} where
 
     -- what calls tell of drops is what is dropped
     pub own_dropped : (some : List (Effect P C)) → list_any is_dropped (own_effects some) ≡ list_any is_dropped some
-    own_dropped [] = refl
-    own_dropped (session_begun number other ∷ rest) = own_dropped rest
-    own_dropped (client_dropped number ∷ rest) = ap (λ b. (n == number) || b) (own_dropped rest)
-    own_dropped (hub_changed number (session_named session) ∷ rest) = own_dropped rest
-    own_dropped (hub_changed number (scope_edited edits) ∷ rest) = own_dropped rest
-    own_dropped (hub_changed number (breadcrumbs_came breadcrumbs) ∷ rest) = own_dropped rest
-    own_dropped (hub_changed number (client_bound client) ∷ rest) = own_dropped rest
-    own_dropped (hub_changed number layer_pushed ∷ rest) = own_dropped rest
-    own_dropped (hub_changed number (layer_popped given) ∷ rest) = own_dropped rest
-    own_dropped (client_added key options ∷ rest) = own_dropped rest
-    own_dropped (client_cloned key original ∷ rest) = own_dropped rest
-    own_dropped (hub_made number stack ∷ rest) = own_dropped rest
-    own_dropped (hub_made_from number maker ∷ rest) = own_dropped rest
-    own_dropped (hub_released number ∷ rest) = own_dropped rest
-    own_dropped (losses_absorbed label losses ∷ rest) = own_dropped rest
-    own_dropped (report_taken label report ∷ rest) = own_dropped rest
-    own_dropped (came_to_queues kind ∷ rest) = own_dropped rest
+    own_dropped = own_any is_dropped (λ number session. refl)
 
     -- the call drops the client
     abbrev pub Drops : Call P C → Type 0

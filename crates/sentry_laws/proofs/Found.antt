@@ -10,10 +10,21 @@ use Rattle.sentry_laws.proofs.Tables.{AreBelow, own_put, others_put, own_replace
 pub same_number : (k n : ℕ) → (k == n) ≡ true → k ≡ n
 same_number k n e = grind (arith, nat_tests)
 
-other_number : (k n : ℕ) → (k == n) ≡ false → k ≢ n
+pub other_number : (k n : ℕ) → (k == n) ≡ false → k ≢ n
 other_number k n e = grind (arith, nat_tests)
 
+pub own_number : (n : ℕ) → (n == n) ≡ true
+own_number n = grind (arith, nat_tests)
+
+pub other_way : (a b : ℕ) → (a == b) ≡ (b == a)
+other_way a b = grind (arith, nat_tests)
+
 module _ {X : Type 0} where
+  -- what is found although something may be gone
+  pub left_over : (b : Bool) (o : Option X) (x : X) → (if b then None else o) ≡ Some x → o ≡ Some x
+  left_over true o x h = absurd cc
+  left_over false o x h = h
+
   put-at : (b : Bool) (m : List (ℕ × X)) (n k : ℕ) (x : X) → (k == n) ≡ b → value_at (put m n x) k ≡
       (if b then Some x else value_at m k)
   put-at true m n k x e = ap (value_at (put m n x)) (same_number k n e) ∙ own_put m n x

@@ -7,23 +7,17 @@ use Rattle.std.specs.declared.cmp.Ordering.TheVariants.{Less, Equal, Greater}
 use Rattle.std.specs.Ordering.{match_ordering, nat_cmp}
 use Rattle.std.specs.BTreeMap.{is_at}
 use Rattle.sentry_plain.specs.Tables.{value_at, put, replace_at, without}
-use Rattle.sentry_laws.proofs.Found.{same_number}
-use Rattle.sentry_laws.proofs.Tables.{others_without}
+use Rattle.sentry_laws.proofs.Found.{same_number, other_number}
+use Rattle.sentry_laws.proofs.Tables.{others_without, at_same}
 
 lower_ : (a b : ℕ) → nat_cmp a b ≡ Less → a < b
 lower_ a b e = grind (arith, nat_tests)
-
-equal_ : (a b : ℕ) → nat_cmp a b ≡ Equal → a ≡ b
-equal_ a b e = grind (arith, nat_tests)
 
 greater_ : (a b : ℕ) → nat_cmp a b ≡ Greater → b < a
 greater_ a b e = grind (arith, nat_tests)
 
 apart_at : (k n : ℕ) → k < n → is_at (nat_cmp k) n ≡ false
 apart_at k n h = grind (arith, nat_tests)
-
-same_at : (k n : ℕ) → is_at (nat_cmp k) n ≡ true → k ≡ n
-same_at k n h = grind (arith, nat_tests)
 
 module _ {X : Type 0} where
   -- the numbers increase from the low one on
@@ -78,7 +72,7 @@ module _ {X : Type 0} where
 
   gone-at : (b : Bool) (n : ℕ) (e : ℕ × X) (es : List (ℕ × X)) → is_at (nat_cmp n) e.0 ≡ b → IsIncreasing (e.0 + 1) es
       → value_at (without es n) n ≡ None → value_at (cond b es (e ∷ without es n)) n ≡ None
-  gone-at true n e es q b rest = let same = same_at n e.0 q in absent_ n (e.0 + 1) es (omega (arith, same)) b
+  gone-at true n e es q b rest = let same = at_same n e.0 q in absent_ n (e.0 + 1) es (omega (arith, same)) b
   gone-at false n e es q b rest = ap (λ t. cond t (Some e.1) (value_at (without es n) n)) q ∙ rest
 
   pub gone_ : (low n : ℕ) (m : List (ℕ × X)) → IsIncreasing low m → value_at (without m n) n ≡ None
@@ -88,10 +82,7 @@ module _ {X : Type 0} where
   without_if-at : (b : Bool) (low n k : ℕ) (m : List (ℕ × X)) → IsIncreasing low m → (k == n) ≡ b
       → value_at (without m n) k ≡ (if b then None else value_at m k)
   without_if-at true low n k m i e = ap (value_at (without m n)) (same_number k n e) ∙ gone_ low n m i
-  without_if-at false low n k m i e = others_without m n k (λ p. differs k n e p)
-    where
-      differs : (k n : ℕ) → (k == n) ≡ false → k ≡ n → ⊥
-      differs k n e p = grind (arith, nat_tests)
+  without_if-at false low n k m i e = others_without m n k (other_number k n e)
 
   pub without_if : (low n k : ℕ) (m : List (ℕ × X)) → IsIncreasing low m → value_at (without m n) k ≡
       (if k == n then None else value_at m k)

@@ -1,5 +1,6 @@
 -- Each hub has the layers that its own accepted calls give it.
 use Rattle.std.proofs.Common.{◌≡◌, refl, ap, ◌∙◌, sym, subst, ℕ, ◌+◌, List, [], ◌∷◌, ◌++◌, Bool, true, false, cond, length, arith, map}
+use Rattle.std.proofs.lemmas.Bool.{or_parts}
 use Rattle.std.proofs.lemmas.Bool.Decides.{nat_tests}
 use Rattle.std.specs.Prelude.{Option, Some, None, Result, Ok, Err, if◌then◌else◌, ◌==◌, ◌&&◌, ◌||◌, is_some}
 use Rattle.std.specs.List.{list_any, AllByRecursion}
@@ -17,6 +18,7 @@ use Rattle.sentry_options.specs.declared.clientoptions.ClientOptions.{ClientOpti
 use Rattle.sentry_scope.specs.declared.scope.stack.Stack.{Stack}
 use Rattle.sentry_scope.specs.declared.scope.stack.StackLayer.{StackLayer}
 use Rattle.sentry_scope.specs.Stacks.{one_layer, pop, top_alone, stack_of, stack_of_any, is_client, names_client}
+use Rattle.sentry_hub_table.specs.Hubs.{with_session}
 use Rattle.sentry_hub_table.specs.declared.hub.HubState.{HubState}
 use Rattle.sentry_state.specs.declared.state.Out.{Out}
 use Rattle.sentry_state.specs.Worlds.{World, ClientHistory, starting_world}
@@ -25,22 +27,26 @@ use Rattle.sentry_state.specs.Clients.{is_client_named, clone_from}
 use Rattle.sentry_state.specs.Changes.{with_client_history, with_new_hub}
 use Rattle.sentry_sending.specs.Sending.{after_sending}
 use Rattle.sentry_calls.specs.declared.call.Call.{Call}
+use Rattle.sentry_calls.specs.declared.call.Call.TheVariants as group
+use Rattle.sentry_calls.specs.declared.call.clients.ClientCall.{ClientCall}
+use Rattle.sentry_calls.specs.declared.call.clients.ClientCall.TheVariants.{TakeReport}
+use Rattle.sentry_calls.specs.declared.call.hubs.HubCall.{HubCall}
+use Rattle.sentry_calls.specs.declared.call.hubs.HubCall.TheVariants.{StartSession}
 use Rattle.sentry_calls.specs.declared.call.Reply.{Reply}
+use Rattle.sentry_calls.specs.declared.call.Reply.TheVariants as reply
 use Rattle.sentry_calls.specs.Runs.{StepsTo, Run}
-use Rattle.sentry_calls.specs.Steps.{step}
-use Rattle.sentry_laws.proofs.Effects.{Came, came_to_queues, Effect, LayerChange, scope_edited, breadcrumbs_came, client_bound, layer_pushed, layer_popped, session_named, hub_changed, hub_made, hub_made_from, hub_released, client_added, client_cloned, effects, onto, all_effects, change_layers, add_under, options_after, layers_after}
-use Rattle.sentry_laws.specs.OwnCalls.{nameless, without_sessions}
-use Rattle.sentry_laws.proofs.Changes.{Change, Changes, nothing, one, both, held_options, IsAllowed, after_arrival, Arrival, log_came, metric_came, session_ended, flush_came, makes_hub, makes_hub_from, changes_hub, leaves_hub, notes_event_id, releases_hub, adds_client, clones_client, drops_client, arrives, accepts, accepts_none, mails, loses, takes_report, absorbs, starts_none, starts_session, changes_session, ends_session, starts_transaction, starts_span, changes_spans}
+use Rattle.sentry_laws.specs.OwnCalls as own
+use Rattle.sentry_laws.specs.OwnCalls.{LayerChange, scope_edited, breadcrumbs_came, client_bound, layer_pushed, layer_popped, hub_changed, hub_made, hub_made_from, hub_released, client_added, client_cloned, onto, all_effects, change_layers, add_under, options_after, layers_after, nameless, without_sessions, IsIsolated, KeepsOptions}
+use Rattle.sentry_laws.proofs.Effects.{Effect, seen, effects, client_effects, hub_effects}
+use Rattle.sentry_laws.proofs.Changes.{Change, Changes, nothing, one, both, held_options, IsAllowed, after_arrival, Arrival, log_came, metric_came, session_ended, flush_came, makes_hub, makes_hub_from, changes_hub, leaves_hub, sets_session, notes_event_id, releases_hub, adds_client, clones_client, drops_client, arrives, accepts}
 use Rattle.std.specs.BTreeMap.{is_at}
 use Rattle.std.specs.Ordering.{nat_cmp}
 use Rattle.sentry_client_reports.specs.LossBooks.{LossEntry}
 use Rattle.sentry_laws.proofs.Tables.{AreBelow, below_put, below_replaced, below_without}
 use Rattle.sentry_laws.proofs.Found.{same_number, found_put, found_replaced, found_without, all_by, all_without}
-use Rattle.sentry_laws.proofs.Trails.{found_under, is_own, own_effects, Trail, TellsBy}
-use Rattle.sentry_laws.specs.SentItems.{handed_in}
+use Rattle.sentry_laws.proofs.Trails.{found_under, seen_in, own_seen}
+use Rattle.sentry_laws.proofs.Keeping.{trail_of}
 use Rattle.sentry_laws.proofs.SendingTrails.{own_tag}
-use Rattle.sentry_laws.proofs.Calls.{told_step}
-use Rattle.sentry_laws.proofs.Tests.{or_left, or_right}
 
 -- ---- sessions left out
 
@@ -183,19 +189,18 @@ module _ {P C : Type 0} (meanings : C → Meanings) where
   add_held world (Some options) breadcrumbs false stack h = h
 
   change_held : (world : World P C) (options : ClientKey → Option (ClientOptions C)) (change : LayerChange P)
-      (stack : Stack P) → IsAllowed world stack change → AreHeld world stack
+      (stack : Stack P) → IsAllowed world change → AreHeld world stack
       → AreHeld world (change_layers meanings options change stack)
   change_held world options (scope_edited edits) stack n h = h
   change_held world options (breadcrumbs_came breadcrumbs) stack n h =
       add_held world (option_and_then options stack.top.client) breadcrumbs (length breadcrumbs == 0) stack h
   change_held world options (client_bound client) stack n h = (n, h.1)
   change_held world options layer_pushed stack n h = (h.0, all_append world stack.below stack.top h.1 h.0)
-  change_held world options (layer_popped given) stack n h = pop_held world stack h
-  change_held world options (session_named session) stack n h = h
+  change_held world options layer_popped stack n h = pop_held world stack h
 
   -- ---- the world agrees with what its calls changed
 
-  pub record Agrees (told : List (Effect P C)) (world : World P C) : Type 0 where
+  pub record Agrees (told : List (own.Effect P C)) (world : World P C) : Type 0 where
     pub layers : (number : ℕ) → option_map bare (value_at world.hubs number) ≡ layers_after meanings told number
     pub options : (key : ClientKey) (client : ClientHistory C) → client_at world key ≡ Some client
         → options_after told key ≡ Some client.options
@@ -205,34 +210,33 @@ module _ {P C : Type 0} (meanings : C → Meanings) where
 
   -- ---- one change
 
-  same_options : (told : List (Effect P C)) (world : World P C) (client : Option ClientKey) → Agrees told world
+  same_options : (told : List (own.Effect P C)) (world : World P C) (client : Option ClientKey) → Agrees told world
       → is_held_or_none world client ≡ true
       → option_and_then (held_options world) client ≡ option_and_then (options_after told) client
   same_options told world None a h = refl
   same_options told world (Some key) a h = held_option told world key a (client_at world key) refl h
     where
-      held_option : (told : List (Effect P C)) (world : World P C) (key : ClientKey) → Agrees told world
+      held_option : (told : List (own.Effect P C)) (world : World P C) (key : ClientKey) → Agrees told world
           → (o : Option (ClientHistory C)) → client_at world key ≡ o → is_some o ≡ true
           → option_map (λ (client : ClientHistory C). client.options) o ≡ options_after told key
       held_option told world key a None found h = absurd cc
       held_option told world key a (Some client) found h = sym (a.options key client found)
 
   -- what changes in the layers changes likewise where sessions are left out
-  changed_bare : (told : List (Effect P C)) (world : World P C) (change : LayerChange P) (stack : Stack P)
-      → is_own {C = C} (hub_changed 0 change) ≡ true → Agrees told world → AreHeld world stack
+  changed_bare : (told : List (own.Effect P C)) (world : World P C) (change : LayerChange P) (stack : Stack P)
+      → Agrees told world → AreHeld world stack
       → without_sessions (change_layers meanings (held_options world) change stack) ≡ change_layers meanings
       (options_after told) change (without_sessions stack)
-  changed_bare told world (scope_edited edits) stack own a h = refl
-  changed_bare told world (breadcrumbs_came breadcrumbs) stack own a h =
+  changed_bare told world (scope_edited edits) stack a h = refl
+  changed_bare told world (breadcrumbs_came breadcrumbs) stack a h =
       came_bare meanings (length breadcrumbs == 0) (option_and_then (held_options world) stack.top.client)
       breadcrumbs stack
       ∙ ap (λ (o : Option (ClientOptions C)). if length breadcrumbs == 0 then without_sessions stack else add_under meanings o breadcrumbs (without_sessions stack)) (same_options told world stack.top.client a h.0)
-  changed_bare told world (client_bound client) stack own a h = refl
-  changed_bare told world layer_pushed stack own a h =
+  changed_bare told world (client_bound client) stack a h = refl
+  changed_bare told world layer_pushed stack a h =
       ap (λ (l : List (StackLayer P)). record { top = nameless stack.top; below = l })
       (nameless-append stack.below stack.top)
-  changed_bare told world (layer_popped given) stack own a h = pop_bare stack
-  changed_bare told world (session_named session) stack own a h = absurd cc
+  changed_bare told world layer_popped stack a h = pop_bare stack
 
   mapped_if : (b : Bool) (x : HubState P) (o : Option (HubState P)) → option_map bare (if b then Some x else o) ≡
       (if b then Some (bare x) else option_map bare o)
@@ -253,11 +257,11 @@ module _ {P C : Type 0} (meanings : C → Meanings) where
   kept_bare false k n hubs x old found same e = refl
 
   -- the hub's layers, as its calls give them
-  layers_at : (told : List (Effect P C)) (world : World P C) (number : ℕ) (hub : HubState P) → Agrees told world
+  layers_at : (told : List (own.Effect P C)) (world : World P C) (number : ℕ) (hub : HubState P) → Agrees told world
       → value_at world.hubs number ≡ Some hub → layers_after meanings told number ≡ Some (bare hub)
   layers_at told world number hub a found = sym (a.layers number) ∙ ap (option_map bare) found
 
-  changed_if : (b : Bool) (told : List (Effect P C)) (world : World P C) (k n : ℕ) (new old : HubState P)
+  changed_if : (b : Bool) (told : List (own.Effect P C)) (world : World P C) (k n : ℕ) (new old : HubState P)
       (change : LayerChange P) → Agrees told world → value_at world.hubs n ≡ Some old → (k == n) ≡ b
       → bare new ≡ change_layers meanings (options_after told) change (bare old)
       → (if b then Some (bare new) else option_map bare (value_at world.hubs k))
@@ -268,7 +272,7 @@ module _ {P C : Type 0} (meanings : C → Meanings) where
       (ap (layers_after meanings told) (same_number k n e) ∙ layers_at told world n old a found))
   changed_if false told world k n new old change a found e same = a.layers k
 
-  left_if : (b : Bool) (told : List (Effect P C)) (world : World P C) (k n : ℕ) (hub : HubState P) (change : LayerChange P)
+  left_if : (b : Bool) (told : List (own.Effect P C)) (world : World P C) (k n : ℕ) (hub : HubState P) (change : LayerChange P)
       → Agrees told world → value_at world.hubs n ≡ Some hub → (k == n) ≡ b
       → bare hub ≡ change_layers meanings (options_after told) change (bare hub)
       → option_map bare (value_at world.hubs k) ≡
@@ -282,7 +286,7 @@ module _ {P C : Type 0} (meanings : C → Meanings) where
   left_if false told world k n hub change a found e same = a.layers k
 
   -- a hub is replaced by one whose layers, sessions left out, are as they were
-  agrees_renamed : (told : List (Effect P C)) (world : World P C) (number : ℕ) (old new : HubState P)
+  agrees_renamed : (told : List (own.Effect P C)) (world : World P C) (number : ℕ) (old new : HubState P)
       → value_at world.hubs number ≡ Some old → bare new ≡ bare old → AreHeld world new.stack
       → Agrees told world → Agrees told (record world { hubs = replace_at world.hubs number new })
   agrees_renamed told world number old new found same h a = record {
@@ -296,17 +300,16 @@ module _ {P C : Type 0} (meanings : C → Meanings) where
     clients = a.clients;
   }
 
-  agrees_changed : (told : List (Effect P C)) (world : World P C) (number : ℕ) (old new : HubState P)
+  agrees_changed : (told : List (own.Effect P C)) (world : World P C) (number : ℕ) (old new : HubState P)
       (change : LayerChange P) → value_at world.hubs number ≡ Some old
-      → new.stack ≡ change_layers meanings (held_options world) change old.stack → IsAllowed world old.stack change
-      → is_own {C = C} (hub_changed 0 change) ≡ true
+      → new.stack ≡ change_layers meanings (held_options world) change old.stack → IsAllowed world change
       → Agrees told world → Agrees (hub_changed number change ∷ told)
       (record world { hubs = replace_at world.hubs number new })
-  agrees_changed told world number old new change found fits names own a = record {
+  agrees_changed told world number old new change found fits names a = record {
     layers = λ k. ap (option_map bare) (found_replaced world.hubs number k new old found)
         ∙ (mapped_if (k == number) new (value_at world.hubs k)
         ∙ changed_if (k == number) told world k number new old change a found refl
-        (ap without_sessions fits ∙ changed_bare told world change old.stack own a (a.held number old found)));
+        (ap without_sessions fits ∙ changed_bare told world change old.stack a (a.held number old found)));
     options = a.options;
     held = λ k hub at. all_by (λ (x : HubState P). AreHeld world x.stack) (k == number) new hub (value_at world.hubs k)
         (subst (AreHeld world) (sym fits) (change_held world (held_options world) change old.stack names
@@ -316,13 +319,13 @@ module _ {P C : Type 0} (meanings : C → Meanings) where
     clients = a.clients;
   }
 
-  agrees_left : (told : List (Effect P C)) (world : World P C) (number : ℕ) (hub : HubState P) (change : LayerChange P)
+  agrees_left : (told : List (own.Effect P C)) (world : World P C) (number : ℕ) (hub : HubState P) (change : LayerChange P)
       → value_at world.hubs number ≡ Some hub
-      → change_layers meanings (held_options world) change hub.stack ≡ hub.stack → is_own {C = C} (hub_changed 0 change)
-      ≡ true → Agrees told world → Agrees (hub_changed number change ∷ told) world
-  agrees_left told world number hub change found fits own a = record {
+      → change_layers meanings (held_options world) change hub.stack ≡ hub.stack
+      → Agrees told world → Agrees (hub_changed number change ∷ told) world
+  agrees_left told world number hub change found fits a = record {
     layers = λ k. left_if (k == number) told world k number hub change a found refl (sym (ap without_sessions fits)
-        ∙ changed_bare told world change hub.stack own a (a.held number hub found));
+        ∙ changed_bare told world change hub.stack a (a.held number hub found));
     options = a.options;
     held = a.held;
     hubs = a.hubs;
@@ -330,7 +333,7 @@ module _ {P C : Type 0} (meanings : C → Meanings) where
   }
 
   -- one more hub
-  agrees_made : (told : List (Effect P C)) (world : World P C) (stack : Stack P) (effect : Effect P C)
+  agrees_made : (told : List (own.Effect P C)) (world : World P C) (stack : Stack P) (effect : own.Effect P C)
       → AreHeld world stack
       → ((k : ℕ) → (if k == world.next.hub then Some (without_sessions stack) else layers_after meanings told k)
       ≡ layers_after meanings (effect ∷ told) k)
@@ -350,7 +353,7 @@ module _ {P C : Type 0} (meanings : C → Meanings) where
     clients = a.clients;
   }
 
-  agrees_released : (told : List (Effect P C)) (world : World P C) (number : ℕ) → Agrees told world
+  agrees_released : (told : List (own.Effect P C)) (world : World P C) (number : ℕ) → Agrees told world
       → Agrees (hub_released number ∷ told) (record world { hubs = without world.hubs number })
   agrees_released told world number a = record {
     layers = λ k. ap (option_map bare) (found_without 0 world.next.hub world.hubs number k a.hubs)
@@ -365,7 +368,7 @@ module _ {P C : Type 0} (meanings : C → Meanings) where
 
   -- ---- clients
 
-  agrees_added : (told : List (Effect P C)) (world : World P C) (client : ClientHistory C) (effect : Effect P C)
+  agrees_added : (told : List (own.Effect P C)) (world : World P C) (client : ClientHistory C) (effect : own.Effect P C)
       (books : List (ℕ × List LossEntry))
       → ((key : ClientKey) → options_after (effect ∷ told) key ≡
       (if is_client (record { tag = world.tag; number = world.next.client }) (Some key)
@@ -402,7 +405,7 @@ module _ {P C : Type 0} (meanings : C → Meanings) where
         clients = below_put world.next.client client world.clients a.clients;
       }
 
-  agrees_client : (told : List (Effect P C)) (world : World P C) (key : ClientKey) (old new : ClientHistory C)
+  agrees_client : (told : List (own.Effect P C)) (world : World P C) (key : ClientKey) (old new : ClientHistory C)
       → client_at world key ≡ Some old → new.options ≡ old.options
       → Agrees told world → Agrees told (with_client_history world key new)
   agrees_client told world key old new found same a =
@@ -439,8 +442,8 @@ module _ {P C : Type 0} (meanings : C → Meanings) where
       → value_at hubs n ≡ Some hub → names_client key hub.stack ≡ false
   unnamed key [] n hub h e = absurd cc
   unnamed key (entry ∷ rest) n hub h e =
-      unnamed-at (is_at (nat_cmp n) entry.0) key entry.1 hub (value_at rest n) (or_left _ _ h)
-      (λ found. unnamed key rest n hub (or_right _ _ h) found) e
+      unnamed-at (is_at (nat_cmp n) entry.0) key entry.1 hub (value_at rest n) (or_parts _ _ h).0
+      (λ found. unnamed key rest n hub (or_parts _ _ h).1 found) e
 
   dropped_name : (world : World P C) (key : ClientKey) (clients : List (ℕ × ClientHistory C)) → (key.tag == world.tag)
       ≡ true
@@ -461,11 +464,11 @@ module _ {P C : Type 0} (meanings : C → Meanings) where
       → AllHeld world layers → AllHeld (record world { clients = clients }) layers
   dropped_all world key clients own at_ [] apart h = tt
   dropped_all world key clients own at_ (layer ∷ rest) apart h = (
-    dropped_name world key clients own at_ layer.client (or_left _ _ apart) h.0,
-    dropped_all world key clients own at_ rest (or_right _ _ apart) h.1,
+    dropped_name world key clients own at_ layer.client (or_parts _ _ apart).0 h.0,
+    dropped_all world key clients own at_ rest (or_parts _ _ apart).1 h.1,
   )
 
-  agrees_dropped : (told : List (Effect P C)) (world : World P C) (key : ClientKey) → (key.tag == world.tag) ≡ true
+  agrees_dropped : (told : List (own.Effect P C)) (world : World P C) (key : ClientKey) → (key.tag == world.tag) ≡ true
       → is_client_named key world.hubs ≡ false
       → Agrees told world → Agrees told (record world { clients = without world.clients key.number })
   agrees_dropped told world key own none a =
@@ -486,7 +489,7 @@ module _ {P C : Type 0} (meanings : C → Meanings) where
         clients = below_without 0 world.next.client key.number world.clients a.clients;
       }
 
-  agrees_sending : (told : List (Effect P C)) (label : Label) (sent : List (ClientKey × Envelope)) (world : World P C)
+  agrees_sending : (told : List (own.Effect P C)) (label : Label) (sent : List (ClientKey × Envelope)) (world : World P C)
       → Agrees told world → Agrees told (after_sending label sent world)
   agrees_sending told label [] world a = a
   agrees_sending told label (first ∷ rest) world a = record {
@@ -500,48 +503,7 @@ module _ {P C : Type 0} (meanings : C → Meanings) where
 
   -- ---- all changes
 
-  -- effects after earlier ones, sessions aside
-  abbrev own_onto : List (Effect P C) → List (Effect P C) → List (Effect P C)
-  own_onto [] told = told
-  own_onto (effect ∷ rest) told = own_onto rest (cond (is_own effect) (effect ∷ told) told)
-
-  hub_case : (told : List (Effect P C)) (world : World P C) (number : ℕ) (old new : HubState P) (change : LayerChange P)
-      → value_at world.hubs number ≡ Some old
-      → new.stack ≡ change_layers meanings (held_options world) change old.stack → IsAllowed world old.stack change
-      → Agrees told world
-      → Agrees (own_onto (hub_changed number change ∷ []) told)
-      (record world { hubs = replace_at world.hubs number new })
-  hub_case told world number old new (scope_edited edits) found fits names a =
-      agrees_changed told world number old new (scope_edited edits) found fits names refl a
-  hub_case told world number old new (breadcrumbs_came breadcrumbs) found fits names a =
-      agrees_changed told world number old new (breadcrumbs_came breadcrumbs) found fits names refl a
-  hub_case told world number old new (client_bound client) found fits names a =
-      agrees_changed told world number old new (client_bound client) found fits names refl a
-  hub_case told world number old new layer_pushed found fits names a =
-      agrees_changed told world number old new layer_pushed found fits names refl a
-  hub_case told world number old new (layer_popped given) found fits names a =
-      agrees_changed told world number old new (layer_popped given) found fits names refl a
-  hub_case told world number old new (session_named session) found fits names a =
-      agrees_renamed told world number old new found (ap without_sessions fits)
-      (subst (AreHeld world) (sym fits) (a.held number old found)) a
-
-  left_case : (told : List (Effect P C)) (world : World P C) (number : ℕ) (hub : HubState P) (change : LayerChange P)
-      → value_at world.hubs number ≡ Some hub
-      → change_layers meanings (held_options world) change hub.stack ≡ hub.stack → Agrees told world
-      → Agrees (own_onto (hub_changed number change ∷ []) told) world
-  left_case told world number hub (scope_edited edits) found fits a =
-      agrees_left told world number hub (scope_edited edits) found fits refl a
-  left_case told world number hub (breadcrumbs_came breadcrumbs) found fits a =
-      agrees_left told world number hub (breadcrumbs_came breadcrumbs) found fits refl a
-  left_case told world number hub (client_bound client) found fits a =
-      agrees_left told world number hub (client_bound client) found fits refl a
-  left_case told world number hub layer_pushed found fits a =
-      agrees_left told world number hub layer_pushed found fits refl a
-  left_case told world number hub (layer_popped given) found fits a =
-      agrees_left told world number hub (layer_popped given) found fits refl a
-  left_case told world number hub (session_named session) found fits a = a
-
-  cloned_option : (told : List (Effect P C)) (world : World P C) (original : ClientKey) (client : ClientHistory C)
+  cloned_option : (told : List (own.Effect P C)) (world : World P C) (original : ClientKey) (client : ClientHistory C)
       (now : ℕ) → client_at world original ≡ Some client → Agrees told world → (key : ClientKey)
       → (if is_client (record { tag = world.tag; number = world.next.client }) (Some key)
       then options_after told original else options_after told key)
@@ -551,7 +513,7 @@ module _ {P C : Type 0} (meanings : C → Meanings) where
       ap (λ (o : Option (ClientOptions C)). if is_client (record { tag = world.tag; number = world.next.client })
       (Some key) then o else options_after told key) (a.options original client found)
 
-  made_from : (told : List (Effect P C)) (world : World P C) (maker : ℕ) (hub : HubState P)
+  made_from : (told : List (own.Effect P C)) (world : World P C) (maker : ℕ) (hub : HubState P)
       → value_at world.hubs maker ≡ Some hub → Agrees told world → (k : ℕ)
       → (if k == world.next.hub then Some (without_sessions (top_alone hub.stack)) else layers_after meanings told k)
       ≡ (if k == world.next.hub then option_map top_alone (layers_after meanings told maker)
@@ -560,14 +522,9 @@ module _ {P C : Type 0} (meanings : C → Meanings) where
       ap (λ (o : Option (Stack P)). if k == world.next.hub then o else layers_after meanings told k)
       (sym (ap (option_map top_alone) (layers_at told world maker hub a found)))
 
-  agrees_came : (told : List (Effect P C)) (kind : Came) (world : World P C) → Agrees told world
-      → Agrees (came_to_queues kind ∷ told) world
-  agrees_came told kind world a =
-      record { layers = a.layers; options = a.options; held = a.held; hubs = a.hubs; clients = a.clients }
-
   agrees_change : {f : Option Envelope} {old new : World P C} {some : List (Effect P C)} {sent : List
       (ClientKey × Envelope)} → Change meanings f old some sent new
-      → (told : List (Effect P C)) → Agrees told old → Agrees (own_onto some told) new
+      → (told : List (own.Effect P C)) → Agrees told old → Agrees (onto (seen_in some) told) new
   agrees_change (makes_hub world client scope held active) told a =
       agrees_made told world (one_layer client scope) (hub_made world.next.hub (one_layer client scope)) (held, tt)
       (λ k. refl) (λ key. refl) a
@@ -575,9 +532,11 @@ module _ {P C : Type 0} (meanings : C → Meanings) where
       agrees_made told world (top_alone hub.stack) (hub_made_from world.next.hub maker) ((a.held maker hub found).0, tt)
       (made_from told world maker hub found a) (λ key. refl) a
   agrees_change (changes_hub world number old new change found fits names) told a =
-      hub_case told world number old new change found fits names a
+      agrees_changed told world number old new change found fits names a
   agrees_change (leaves_hub world number hub change found fits) told a =
-      left_case told world number hub change found fits a
+      agrees_left told world number hub change found fits a
+  agrees_change (sets_session world number hub session found given) told a =
+      agrees_renamed told world number hub (with_session hub session) found refl (a.held number hub found) a
   agrees_change (notes_event_id world number old new found same) told a =
       agrees_renamed told world number old new found (ap without_sessions same)
       (subst (AreHeld world) (sym same) (a.held number old found)) a
@@ -596,115 +555,67 @@ module _ {P C : Type 0} (meanings : C → Meanings) where
       agrees_sending told client.label _ _ (agrees_client told world key client (after_arrival arrival client) found
       (arrival_options arrival client) a)
   agrees_change (accepts world key client arrival kind is_off found open_ came) told a =
-      agrees_came told kind _ (agrees_sending told client.label _ _ (agrees_client told world key client (after_arrival arrival client) found
-      (arrival_options arrival client) a))
-  agrees_change (mails world key client envelope found occupied none told_) told a =
-      record { layers = a.layers; options = a.options; held = a.held; hubs = a.hubs; clients = a.clients }
-  agrees_change (loses world key client losses found) told a = record {
-    layers = a.layers;
-    options = a.options;
-    held =
-        a.held;
-    hubs = a.hubs;
-    clients = a.clients;
-  }
-  agrees_change (takes_report world label has) told a = record {
-    layers = a.layers;
-    options = a.options;
-    held =
-        a.held;
-    hubs = a.hubs;
-    clients = a.clients;
-  }
-  agrees_change (absorbs world label losses has) told a = record {
-    layers = a.layers;
-    options = a.options;
-    held =
-        a.held;
-    hubs = a.hubs;
-    clients = a.clients;
-  }
-  agrees_change (starts_none world number id) told a =
-      record { layers = a.layers; options = a.options; held = a.held; hubs = a.hubs; clients = a.clients }
-  agrees_change (accepts_none world kind) told a =
-      record { layers = a.layers; options = a.options; held = a.held; hubs = a.hubs; clients = a.clients }
-  agrees_change (starts_session world number start) told a = record {
-    layers = a.layers;
-    options = a.options;
-    held =
-        a.held;
-    hubs = a.hubs;
-    clients = a.clients;
-  }
-  agrees_change (changes_session world number old new later found same) told a =
-      record { layers = a.layers; options = a.options; held = a.held; hubs = a.hubs; clients = a.clients }
-  agrees_change (ends_session world number) told a = record {
-    layers = a.layers;
-    options = a.options;
-    held =
-        a.held;
-    hubs = a.hubs;
-    clients = a.clients;
-  }
-  agrees_change (starts_transaction world state new_) told a = record {
-    layers = a.layers;
-    options = a.options;
-    held =
-        a.held;
-    hubs = a.hubs;
-    clients = a.clients;
-  }
-  agrees_change (starts_span world parent place held found of_ traced) told a =
-      record { layers = a.layers; options = a.options; held = a.held; hubs = a.hubs; clients = a.clients }
-  agrees_change (changes_spans world transactions spans change) told a =
+      agrees_sending told client.label _ _ (agrees_client told world key client (after_arrival arrival client) found
+      (arrival_options arrival client) a)
+  agrees_change _ told a =
       record { layers = a.layers; options = a.options; held = a.held; hubs = a.hubs; clients = a.clients }
 
-  own_onto-append : (first second told : List (Effect P C)) → own_onto (first ++ second) told ≡ own_onto second
-      (own_onto first told)
-  own_onto-append [] second told = refl
-  own_onto-append (effect ∷ rest) second told = own_onto-append rest second (cond (is_own effect) (effect ∷ told) told)
-
-  onto-at : (b : Bool) (effect : Effect P C) (rest told : List (Effect P C))
-      → ((told : List (Effect P C)) → own_onto rest told ≡ onto (own_effects rest) told)
-      → own_onto rest (cond b (effect ∷ told) told) ≡ onto (cond b (effect ∷ own_effects rest) (own_effects rest)) told
-  onto-at true effect rest told h = h (effect ∷ told)
-  onto-at false effect rest told h = h told
-
-  own_onto-is : (some told : List (Effect P C)) → own_onto some told ≡ onto (own_effects some) told
-  own_onto-is [] told = refl
-  own_onto-is (effect ∷ rest) told = onto-at (is_own effect) effect rest told (own_onto-is rest)
+  seen_onto : (first second : List (Effect P C)) (told : List (own.Effect P C))
+      → onto (seen_in (first ++ second)) told ≡ onto (seen_in second) (onto (seen_in first) told)
+  seen_onto [] second told = refl
+  seen_onto (seen effect ∷ rest) second told = seen_onto rest second (effect ∷ told)
+  seen_onto (_ ∷ rest) second told = seen_onto rest second told
 
   agrees_changes : {f : Option Envelope} {old new : World P C} {some : List (Effect P C)} {sent : List
       (ClientKey × Envelope)} → Changes meanings f old some sent new
-      → (told : List (Effect P C)) → Agrees told old → Agrees (own_onto some told) new
+      → (told : List (own.Effect P C)) → Agrees told old → Agrees (onto (seen_in some) told) new
   agrees_changes (nothing world) told a = a
   agrees_changes (one c) told a = agrees_change c told a
   agrees_changes (both {new = new} {first = first} {second = second} t u) told a =
-      subst (λ more. Agrees more new) (sym (own_onto-append first second told))
-      (agrees_changes u (own_onto first told) (agrees_changes t told a))
+      subst (λ more. Agrees more new) (sym (seen_onto first second told))
+      (agrees_changes u (onto (seen_in first) told) (agrees_changes t told a))
+
+-- ---- calls
+
+module _ {P C : Type 0} (meanings : C → Meanings) where
+  seen_mapped : (some : List (own.Effect P C)) → seen_in (map seen some) ≡ some
+  seen_mapped [] = refl
+  seen_mapped (effect ∷ rest) = ap (λ l. effect ∷ l) (seen_mapped rest)
+
+  client_seen : (call : ClientCall P C) (made : Reply P C)
+      → seen_in (client_effects meanings call made) ≡ own.client_effects meanings call made
+  client_seen (TakeReport label) (reply.Report report) = refl
+  client_seen (TakeReport label) _ = refl
+  client_seen call made = seen_mapped (own.client_effects meanings call made)
+
+  hub_seen : (call : HubCall P) (made : Reply P C)
+      → seen_in (hub_effects meanings call made) ≡ own.hub_effects meanings call made
+  hub_seen (StartSession hub fresh) made = refl
+  hub_seen call made = seen_mapped (own.hub_effects meanings call made)
+
+  call_seen : (call : Call P C) (made : Reply P C) → seen_in (effects meanings call made) ≡ own.effects meanings call made
+  call_seen (group.Client call) made = client_seen call made
+  call_seen (group.Hub call) made = hub_seen call made
+  call_seen (group.Span call) made = refl
 
 -- ---- runs
 
 module _ {P C : Type 0} (gives : P → Partial) (meanings : C → Meanings) where
-  agrees_next : (call : Call P C) (out : Out (Reply P C)) (world next : World P C) (told : List (Effect P C))
+  agrees_next : (call : Call P C) (out : Out (Reply P C)) (world next : World P C) (told : List (own.Effect P C))
       → StepsTo gives meanings world call (Ok out) next → Agrees meanings told world
-      → Agrees meanings (onto (effects meanings call out.reply) told) next
+      → Agrees meanings (onto (own.effects meanings call out.reply) told) next
   agrees_next call out world next told may a =
-      let after = (step gives meanings call world).after in
-      let trail : Trail meanings (handed_in call) world (effects meanings call out.reply) out.sent after =
-      subst (λ answer. TellsBy meanings (handed_in call) world (effects meanings call) answer after) may.0
-      (told_step gives meanings call world).tells in
-      let told_after = onto (effects meanings call out.reply) told in
-      subst (Agrees meanings told_after) (sym may.1)
-      (subst (λ more. Agrees meanings more after) (own_onto-is meanings trail.effects told ∙ ap (λ some. onto some told)
-      trail.same) (agrees_changes meanings trail.changes told a))
+      let trail = trail_of gives meanings call out world next may in
+      subst (λ some. Agrees meanings (onto some told) next)
+      (sym (own_seen trail.effects) ∙ (ap seen_in trail.same ∙ call_seen meanings call out.reply))
+      (agrees_changes meanings trail.changes told a)
 
   pub agrees_run : (calls : List (Call P C)) (answers : List (Result (Out (Reply P C)) Refusal))
-      (world last : World P C) (told : List (Effect P C)) → Agrees meanings told world
+      (world last : World P C) (told : List (own.Effect P C)) → Agrees meanings told world
       → Run gives meanings world calls answers last → Agrees meanings (all_effects meanings calls answers told) last
   agrees_run [] [] world last told a run = subst (Agrees meanings told) (sym run) a
   agrees_run (call ∷ calls) (Ok out ∷ answers) world last told a run =
-      agrees_run calls answers run.0 last (onto (effects meanings call out.reply) told)
+      agrees_run calls answers run.0 last (onto (own.effects meanings call out.reply) told)
       (agrees_next call out world run.0 told run.1 a) run.2
   agrees_run (call ∷ calls) (Err refusal ∷ answers) world last told a run =
       agrees_run calls answers run.0 last told (subst (Agrees meanings told) (sym run.1.1) a) run.2
@@ -722,19 +633,16 @@ module _ {P C : Type 0} (gives : P → Partial) (meanings : C → Meanings) wher
         clients = tt;
       }
 
-  pub isolated_by_effects : (tag start : ℕ) (calls : List (Call P C))
-      (answers : List (Result (Out (Reply P C)) Refusal)) (last : World P C)
-      → Run gives meanings (starting_world tag start) calls answers last → (number : ℕ)
-      → option_map bare (value_at last.hubs number) ≡ layers_after meanings (all_effects meanings calls answers []) number
-  isolated_by_effects tag start calls answers last run =
+  pub isolated : (tag start : ℕ) (calls : List (Call P C)) (answers : List (Result (Out (Reply P C)) Refusal))
+      (last : World P C)
+      → Run gives meanings (starting_world tag start) calls answers last → IsIsolated meanings calls answers last
+  isolated tag start calls answers last run =
       (agrees_run calls answers (starting_world tag start) last [] (agrees_first tag start) run).layers
 
-  pub options_by_effects : (tag start : ℕ) (calls : List (Call P C))
-      (answers : List (Result (Out (Reply P C)) Refusal)) (last : World P C)
-      → Run gives meanings (starting_world tag start) calls answers last → (key : ClientKey) (client : ClientHistory C)
-      → client_at last key ≡ Some client
-      → options_after (all_effects meanings calls answers []) key ≡ Some client.options
-  options_by_effects tag start calls answers last run =
+  pub keeps_options : (tag start : ℕ) (calls : List (Call P C)) (answers : List (Result (Out (Reply P C)) Refusal))
+      (last : World P C)
+      → Run gives meanings (starting_world tag start) calls answers last → KeepsOptions meanings calls answers last
+  keeps_options tag start calls answers last run =
       (agrees_run calls answers (starting_world tag start) last [] (agrees_first tag start) run).options
 
   -- each client that a layer names is held

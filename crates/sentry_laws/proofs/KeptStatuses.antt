@@ -26,7 +26,7 @@ use Rattle.sentry_calls.specs.Runs.{StepsTo, Run}
 use Rattle.sentry_laws.specs.SentItems.{handed_in}
 use Rattle.sentry_laws.specs.Statuses.{status_of, GoesOn, Among, SessionsGoOn, IsOfSession, HasOrigin, UpdatesHaveOrigin, SessionsKeepStatus}
 use Rattle.sentry_laws.specs.Updates.{updates_sent, all_queued, queued_at, started_id}
-use Rattle.sentry_laws.proofs.Effects.{Effect, scope_edited, breadcrumbs_came, client_bound, layer_pushed, layer_popped, session_named, hub_changed, hub_made, hub_made_from, hub_released, losses_absorbed, report_taken, session_begun, client_dropped, came_to_queues, client_added, client_cloned, effects, client_effects, hub_effects}
+use Rattle.sentry_laws.proofs.Effects.{Effect, session_begun, effects, client_effects, hub_effects}
 use Rattle.sentry_laws.proofs.Changes.{Changes, nothing, one, both, IsOfHeld}
 use Rattle.sentry_laws.proofs.Found.{found_below}
 use Rattle.sentry_laws.proofs.Keeping.{trail_of}
@@ -161,21 +161,7 @@ module _ {P C : Type 0} (meanings : C → Meanings) where
   own_begun [] id h = h
   own_begun (session_begun number other ∷ rest) id (inl e) = inl e
   own_begun (session_begun number other ∷ rest) id (inr h) = inr (own_begun rest id h)
-  own_begun (hub_changed number (session_named session) ∷ rest) id h = own_begun rest id h
-  own_begun (hub_changed number (scope_edited edits) ∷ rest) id h = own_begun rest id h
-  own_begun (hub_changed number (breadcrumbs_came breadcrumbs) ∷ rest) id h = own_begun rest id h
-  own_begun (hub_changed number (client_bound client) ∷ rest) id h = own_begun rest id h
-  own_begun (hub_changed number layer_pushed ∷ rest) id h = own_begun rest id h
-  own_begun (hub_changed number (layer_popped given) ∷ rest) id h = own_begun rest id h
-  own_begun (client_added key options ∷ rest) id h = own_begun rest id h
-  own_begun (client_cloned key original ∷ rest) id h = own_begun rest id h
-  own_begun (hub_made number stack ∷ rest) id h = own_begun rest id h
-  own_begun (hub_made_from number maker ∷ rest) id h = own_begun rest id h
-  own_begun (hub_released number ∷ rest) id h = own_begun rest id h
-  own_begun (losses_absorbed label losses ∷ rest) id h = own_begun rest id h
-  own_begun (report_taken label report ∷ rest) id h = own_begun rest id h
-  own_begun (client_dropped number ∷ rest) id h = own_begun rest id h
-  own_begun (came_to_queues kind ∷ rest) id h = own_begun rest id h
+  own_begun (_ ∷ rest) id h = own_begun rest id h
 
   client_begun : {A : Type 0} (call : ClientCall P C) (made : Reply P C) (id : List ℕ)
       → HasBegun (client_effects meanings call made) id → A

@@ -1,6 +1,8 @@
 -- A label has a book exactly where a client has the label.
 use Rattle.std.proofs.Common.{◌≡◌, refl, ap, ◌∙◌, sym, subst, ℕ, ◌+◌, List, [], ◌∷◌, Bool, true, false, arith}
 use Rattle.std.proofs.lemmas.Bool.Decides.{nat_tests}
+use Rattle.std.proofs.lemmas.Bool.{and_parts}
+use Rattle.std.proofs.Math.Bool.{and-false}
 use Rattle.std.specs.Prelude.{Option, Some, None, Result, Ok, Err, ◌==◌, ◌&&◌, ◌||◌, if◌then◌else◌}
 use Rattle.std.specs.Option.{is_some}
 use Rattle.sentry_plain.specs.Tables.{value_at, put, replace_at, without}
@@ -19,24 +21,18 @@ use Rattle.sentry_state.specs.Clients.{clone_from}
 use Rattle.sentry_state.specs.Worlds.{World, ClientHistory, starting_world}
 use Rattle.sentry_calls.specs.declared.call.Call.{Call}
 use Rattle.sentry_calls.specs.declared.call.Reply.{Reply}
-use Rattle.sentry_calls.specs.Runs.{Run}
+use Rattle.sentry_calls.specs.Runs.{Run, StepsTo}
 use Rattle.sentry_laws.proofs.Effects.{Effect}
 use Rattle.sentry_laws.proofs.Changes.{Change, Arrival, log_came, metric_came, session_ended, flush_came, after_arrival, envelopes_on_arrival, makes_hub, makes_hub_from, changes_hub, leaves_hub, notes_event_id, releases_hub, adds_client, clones_client, drops_client, arrives, accepts, accepts_none, mails, loses, takes_report, absorbs, starts_none, starts_session, changes_session, ends_session, starts_transaction, starts_span, changes_spans}
 use Rattle.sentry_laws.specs.Reachable.{BooksAreOfClients}
 use Rattle.sentry_laws.proofs.Tables.{AreBelow, below_put, below_replaced, below_without}
-use Rattle.sentry_laws.proofs.Found.{same_number, found_put, found_replaced}
+use Rattle.sentry_laws.proofs.Found.{same_number, found_put, found_replaced, own_number, other_way}
 use Rattle.sentry_laws.proofs.Increasing.{IsIncreasing, increasing_put, increasing_replaced, increasing_without, without_if}
 use Rattle.sentry_laws.proofs.Absorbed.{replace_absent, call_keeps}
 use Rattle.sentry_laws.specs.Losses.{AbsorbedStays}
-use Rattle.sentry_laws.proofs.Tests.{or_true, passes_put, passes_replaced, passes_without, passes_found, and_left, and_right, or_none}
+use Rattle.sentry_laws.proofs.Tests.{or_true, passes_put, passes_replaced, passes_without, passes_found, or_none}
 use Rattle.sentry_laws.proofs.Trails.{found_under}
-use Rattle.sentry_laws.proofs.Keeping.{kept_by_run}
-
-other_way : (a b : ℕ) → (a == b) ≡ (b == a)
-other_way a b = grind (arith, nat_tests)
-
-pub own_number : (n : ℕ) → (n == n) ≡ true
-own_number n = grind (arith, nat_tests)
+use Rattle.sentry_laws.proofs.Keeping.{kept_by_run, kept_by_call}
 
 or_known : (a b : Bool) → (b ≡ true → a ≡ true) → (a || b) ≡ a
 or_known true b h = refl
@@ -207,11 +203,7 @@ module _ {P C : Type 0} where
       ap (λ o. (client.label.tag == world.tag) && is_some o)
       (without_if 0 client.label.number client.label.number world.books h.books
       ∙ ap (λ b. if b then None else value_at world.books client.label.number) (own_number client.label.number))
-      ∙ no (client.label.tag == world.tag)
-    where
-      no : (b : Bool) → (b && false) ≡ false
-      no true = refl
-      no false = refl
+      ∙ and-false (client.label.tag == world.tag)
 
   -- another label
   other_book : (world : World P C) (label other : Label) (left : Bool) → HasBooks world → (other.tag == world.tag)
@@ -248,15 +240,15 @@ module _ {P C : Type 0} where
   dropped-by world n client label found h left is true e =
       let same : client.label ≡ label =
       same_label client.label label
-      (same_number client.label.tag label.tag (and_left (client.label.tag == label.tag) _ e))
-      (same_number client.label.number label.number (and_right (client.label.tag == label.tag) _ e)) in
+      (same_number client.label.tag label.tag (and_parts (client.label.tag == label.tag) _ e).0)
+      (same_number client.label.number label.number (and_parts (client.label.tag == label.tag) _ e).1) in
       subst (λ l. ((l.tag == world.tag) && is_some
       (value_at (if left then world.books else without world.books client.label.number) l.number)) ≡ has_client_of l
       (without world.clients n)) same
       (dropped_own world n client found h left is ∙ sym is)
   dropped-by world n client label found h left is false e =
       other_book world label client.label left h
-      (and_left (client.label.tag == world.tag) _ (label_known world n client h found)) e
+      (and_parts (client.label.tag == world.tag) _ (label_known world n client h found)).0 e
       ∙ (h.same label ∙ sym (passes_without (λ (c : ClientHistory C). is_label label c.label)
       world.clients n client found e))
 
@@ -277,12 +269,6 @@ module _ {P C : Type 0} where
 module _ {P C : Type 0} (meanings : C → Meanings) where
   pub books_change : {given : Option Envelope} {old new : World P C} {some : List (Effect P C)} {sent : List
       (ClientKey × Envelope)} → Change meanings given old some sent new → HasBooks old → HasBooks new
-  books_change (makes_hub world client scope held active) h = unmoved world _ refl refl refl refl h
-  books_change (makes_hub_from world maker hub found) h = unmoved world _ refl refl refl refl h
-  books_change (changes_hub world number old new change found fits allowed) h = unmoved world _ refl refl refl refl h
-  books_change (leaves_hub world number hub change found fits) h = h
-  books_change (notes_event_id world number old new found same) h = unmoved world _ refl refl refl refl h
-  books_change (releases_hub world number hub found alone) h = unmoved world _ refl refl refl refl h
   books_change (adds_client world client now queues open_ of_engine) h = added_books world client of_engine h
   books_change (clones_client world original client now found) h =
       cloned_books world original.number client (clone_from now client)
@@ -311,23 +297,16 @@ module _ {P C : Type 0} (meanings : C → Meanings) where
   books_change (loses world key client losses found) h = entered_books world client.label (engine_losses losses) h
   books_change (takes_report world label has) h = entered_books world label report_point h
   books_change (absorbs world label losses has) h = entered_books world label (drained_losses losses) h
-  books_change (starts_none world number id) h = unmoved world _ refl refl refl refl h
-  books_change (accepts_none world kind) h = unmoved world _ refl refl refl refl h
-  books_change (starts_session world number start) h = unmoved world _ refl refl refl refl h
-  books_change (changes_session world number old new later found same) h = unmoved world _ refl refl refl refl h
-  books_change (ends_session world number) h = unmoved world _ refl refl refl refl h
-  books_change (starts_transaction world state new_) h = unmoved world _ refl refl refl refl h
-  books_change (starts_span world parent place held found of_ traced) h = unmoved world _ refl refl refl refl h
-  books_change (changes_spans world transactions spans change) h = unmoved world _ refl refl refl refl h
+  books_change _ h = unmoved _ _ refl refl refl refl h
 
   pub no_books : (tag start : ℕ) → HasBooks {P = P} {C = C} (starting_world tag start)
-  no_books tag start = record { clients = tt; books = tt; same = λ label. none (label.tag == tag) }
-    where
-      none : (b : Bool) → (b && false) ≡ false
-      none true = refl
-      none false = refl
+  no_books tag start = record { clients = tt; books = tt; same = λ label. and-false (label.tag == tag) }
 
 module _ {P C : Type 0} (gives : P → Partial) (meanings : C → Meanings) where
+  pub kept_books : (call : Call P C) (answer : Result (Out (Reply P C)) Refusal) (world next : World P C)
+      → StepsTo gives meanings world call answer next → HasBooks world → HasBooks next
+  kept_books = kept_by_call gives meanings HasBooks (λ given old new some sent c. books_change meanings c)
+
   pub books_of_clients : (tag start : ℕ) (calls : List (Call P C)) (answers : List (Result (Out (Reply P C)) Refusal))
       (last : World P C)
       → Run gives meanings (starting_world tag start) calls answers last → BooksAreOfClients last

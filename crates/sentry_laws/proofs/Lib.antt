@@ -16,7 +16,6 @@ pub mod Releases
 pub mod Calls
 pub mod Isolation
 pub mod Dropping
-pub mod Shown
 pub mod OneClient
 pub mod Closings
 pub mod SentBatches

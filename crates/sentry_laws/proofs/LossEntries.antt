@@ -9,7 +9,7 @@ use Rattle.sentry_client_reports.specs.LossBooks.{LossEntry, engine_losses, drai
 use Rattle.sentry_state.specs.Books.{with_book, is_label}
 use Rattle.sentry_laws.specs.LossesByCalls.{losses_in}
 use Rattle.sentry_laws.proofs.Absorbed.{replace_absent}
-use Rattle.sentry_laws.proofs.Found.{same_number, found_put, found_replaced}
+use Rattle.sentry_laws.proofs.Found.{same_number, found_put, found_replaced, own_number, other_way}
 use Rattle.sentry_laws.proofs.Increasing.{IsIncreasing, without_if}
 
 -- what the book at a number holds, reports aside
@@ -89,16 +89,10 @@ module _ (books : List (ℕ × List LossEntry)) where
 
 -- ---- labels of an engine
 
-own : (n : ℕ) → (n == n) ≡ true
-own n = grind (arith, nat_tests)
-
-other_way : (a b : ℕ) → (a == b) ≡ (b == a)
-other_way a b = grind (arith, nat_tests)
-
 -- two labels of one engine are the same where their numbers are
 pub same_labels : (label other : Label) (tag : ℕ) → (label.tag == tag) ≡ true → (other.tag == tag) ≡ true
     → is_label label other ≡ (label.number == other.number)
 same_labels label other tag of_engine others =
     let tags : label.tag ≡ other.tag = same_number label.tag tag of_engine ∙ sym (same_number other.tag tag others) in
     ap (λ t. (other.tag == t) && (other.number == label.number)) tags
-    ∙ (ap (λ b. b && (other.number == label.number)) (own other.tag) ∙ other_way other.number label.number)
+    ∙ (ap (λ b. b && (other.number == label.number)) (own_number other.tag) ∙ other_way other.number label.number)

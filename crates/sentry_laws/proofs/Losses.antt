@@ -3,6 +3,7 @@ use Rattle.std.proofs.Common.{◌≡◌, ◌<◌, ◌≤◌, ◌+◌, ◌/◌, �
 use Rattle.std.proofs.lemmas.Bool.Decides.{nat_tests}
 use Rattle.std.proofs.lemmas.List.Sums.{sum_by-cons, sum_by-append}
 use Rattle.std.specs.Prelude.{◌==◌, slice_index, sum_by}
+use Rattle.sentry_laws.proofs.Found.{same_number}
 use Rattle.sentry_base.specs.Losses.{category_at, reason_at, loss_index, loss_of}
 use Rattle.sentry_base.proofs.ByIndex.{at_index, length_by_index}
 use Rattle.sentry_base.specs.declared.protocol.client_report.ClientReportItem.{ClientReportItem}
@@ -27,9 +28,6 @@ all_placed : are_placed 63 ≡ true
 unfolding are_placed
 all_placed = refl
 
-same_place : (j n : ℕ) → (j == n) ≡ true → j ≡ n
-same_place j n e = grind (arith, nat_tests)
-
 other_place : (j n : ℕ) → (j == n) ≡ false → j < suc n → j < n
 other_place j n e h = grind (arith, nat_tests)
 
@@ -38,13 +36,13 @@ index_of_place j = loss_index (category_at (j / 9)) (reason_at (j % 9))
 
 placed-by : (b : Bool) (n j : ℕ) → (j == n) ≡ b → j < suc n → index_of_place n ≡ n → (j < n → index_of_place j ≡ j)
     → index_of_place j ≡ j
-placed-by true n j e h here rest = let same = same_place j n e in subst (λ k. index_of_place k ≡ k) (sym same) here
+placed-by true n j e h here rest = let same = same_number j n e in subst (λ k. index_of_place k ≡ k) (sym same) here
 placed-by false n j e h here rest = rest (other_place j n e h)
 
 placed : (n j : ℕ) → are_placed n ≡ true → j < n → index_of_place j ≡ j
 unfolding index_of_place are_placed
 placed zero j all h = absurd (omega arith)
-placed (suc n) j all h = placed-by (j == n) n j refl h (same_place _ n (placed-at _ (are_placed n) all))
+placed (suc n) j all h = placed-by (j == n) n j refl h (same_number _ n (placed-at _ (are_placed n) all))
     (λ k. placed n j (placed-rest _ (are_placed n) all) k)
 
 place_of : (j : ℕ) → j < 63 → index_of_place j ≡ j
@@ -76,7 +74,7 @@ one_item i j q h k =
 
 item_at-by : (b : Bool) (i j q : ℕ) → (q == 0) ≡ b → i < 63 → j < 63 → told_at i (cond b [] (report_item j q ∷ []))
     ≡ cond (i == j) q 0
-item_at-by true i j q e h k = empty_item i j q (same_place q 0 e)
+item_at-by true i j q e h k = empty_item i j q (same_number q 0 e)
 item_at-by false i j q e h k = one_item i j q h k
 
 item_at : (i j q : ℕ) → i < 63 → j < 63 → told_at i (report_items_at j q) ≡ cond (i == j) q 0

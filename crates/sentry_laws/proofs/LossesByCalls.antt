@@ -1,5 +1,6 @@
 -- What comes to books is what the calls bring.
 use Rattle.std.proofs.Common.{◌≡◌, refl, ap, ◌∙◌, sym, subst, ℕ, ◌-◌, ◌^◌, List, [], ◌∷◌, ◌++◌, Bool, true, false, length}
+use Rattle.std.proofs.lemmas.Bool.{and_parts}
 use Rattle.std.specs.Prelude.{Option, Some, None, Result, Ok, Err, is_ok, ◌==◌, ◌&&◌, not, nat_lt, unwrap_or, if◌then◌else◌}
 use Rattle.std.specs.List.{list_any}
 use Rattle.std.specs.Option.{is_some, option_map, option_and_then, option_to_list}
@@ -104,14 +105,13 @@ use Rattle.sentry_laws.specs.Reports.{history_of}
 use Rattle.sentry_laws.proofs.Changes.{Change, makes_hub, makes_hub_from, changes_hub, leaves_hub, notes_event_id, releases_hub, adds_client, clones_client, drops_client, arrives, accepts, accepts_none, mails, loses, takes_report, absorbs, starts_none, starts_session, changes_session, ends_session, starts_transaction, starts_span, changes_spans}
 use Rattle.sentry_laws.proofs.Effects.{Effect}
 use Rattle.sentry_laws.proofs.Keeping.{kept_by_call, kept_by_changes}
-use Rattle.sentry_laws.proofs.LabelBooks.{HasBooks, books_change, no_books, label_known}
+use Rattle.sentry_laws.proofs.LabelBooks.{HasBooks, books_change, no_books, label_known, kept_books}
 use Rattle.sentry_laws.proofs.LossEntries.{losses_at, none_if, entered, pointed, booked, left, same_labels}
 use Rattle.sentry_laws.proofs.Parts.{after_part, flush_part, log_part, metric_part, end_part, release_part}
 use Rattle.sentry_laws.proofs.PartsOfRuns.{from_each_call}
 use Rattle.sentry_laws.proofs.SendingTrails.{flushes}
 use Rattle.sentry_laws.proofs.SpanTrails.{closed_books, closed_client}
 use Rattle.sentry_laws.proofs.Trails.{found_under}
-use Rattle.sentry_laws.proofs.Tests.{and_left, and_right}
 
 -- ---- what a call leaves
 
@@ -233,9 +233,9 @@ module _ {P C : Type 0} (gives : P → Partial) (meanings : C → Meanings) (wor
       ≡ (if is_label label other then losses_in (entry ∷ []) else []) ++ held_in world
   enters other entry has =
       entered world.books other.number label.number entry (value_at world.books other.number) refl
-      (and_right (other.tag == world.tag) _ has)
+      (and_parts (other.tag == world.tag) _ has).1
       ∙ ap (λ b. (if b then losses_in (entry ∷ []) else []) ++ held_in world)
-      (sym (same_labels label other world.tag own (and_left (other.tag == world.tag) _ has)))
+      (sym (same_labels label other world.tag own (and_parts (other.tag == world.tag) _ has).0))
 
   enters_of : (key : ClientKey) (client : ClientHistory C) (entry : LossEntry) → client_at world key ≡ Some client
       → held_in (with_entry world client.label entry)
@@ -864,35 +864,11 @@ module _ {P C : Type 0} (meanings : C → Meanings) where
 
   same_tag : {given : Option Envelope} {old new : World P C} {some : List (Effect P C)} {sent : List
       (ClientKey × Envelope)} → Change meanings given old some sent new → new.tag ≡ old.tag
-  same_tag (makes_hub world client scope held active) = refl
-  same_tag (makes_hub_from world maker hub found) = refl
-  same_tag (changes_hub world number old new change found fits allowed) = refl
-  same_tag (leaves_hub world number hub change found fits) = refl
-  same_tag (notes_event_id world number old new found same) = refl
-  same_tag (releases_hub world number hub found alone) = refl
-  same_tag (adds_client world client now queues open_ of_engine) = refl
-  same_tag (clones_client world original client now found) = refl
-  same_tag (drops_client world key client label found same none) = refl
   same_tag (arrives world key client arrival is_off found open_ came) = sent_tag client.label _ _
   same_tag (accepts world key client arrival kind is_off found open_ came) = sent_tag client.label _ _
-  same_tag (accepts_none world kind) = refl
-  same_tag (mails world key client envelope found occupied none told_) = refl
-  same_tag (loses world key client losses found) = refl
-  same_tag (takes_report world label has) = refl
-  same_tag (absorbs world label losses has) = refl
-  same_tag (starts_none world number id) = refl
-  same_tag (starts_session world number start) = refl
-  same_tag (changes_session world number old new later found same) = refl
-  same_tag (ends_session world number) = refl
-  same_tag (starts_transaction world state new_) = refl
-  same_tag (starts_span world parent place held found of_ traced) = refl
-  same_tag (changes_spans world transactions spans change) = refl
+  same_tag _ = refl
 
 module _ {P C : Type 0} (gives : P → Partial) (meanings : C → Meanings) where
-  pub kept_books : (call : Call P C) (answer : Result (Out (Reply P C)) Refusal) (world next : World P C)
-      → StepsTo gives meanings world call answer next → HasBooks world → HasBooks next
-  kept_books = kept_by_call gives meanings HasBooks (λ given old new some sent c. books_change meanings c)
-
   pub kept_tag : (call : Call P C) (answer : Result (Out (Reply P C)) Refusal) (world next : World P C)
       → StepsTo gives meanings world call answer next → next.tag ≡ world.tag
   kept_tag call answer world next may =
@@ -905,14 +881,15 @@ module _ {P C : Type 0} (gives : P → Partial) (meanings : C → Meanings) wher
       → losses_in (history_of next label) ≡ losses_by_answer gives meanings label world call answer
       ++ losses_in (history_of world label)
   records_call call (Ok out) world next may books label has =
-      let known : has_book next label ≡ true = (kept_books call (Ok out) world next may books).same label ∙ has in
+      let known : has_book next label ≡ true = (kept_books gives meanings call (Ok out) world next may books).same label ∙ has in
       let own : (label.tag == world.tag) ≡ true =
-      ap (λ t. label.tag == t) (sym (kept_tag call (Ok out) world next may)) ∙ and_left (label.tag == next.tag) _ known in
+      ap (λ t. label.tag == t) (sym (kept_tag call (Ok out) world next may))
+      ∙ (and_parts (label.tag == next.tag) _ known).0 in
       subst (λ (w : World P C). is_some (value_at w.books label.number) ≡ true
       → losses_at w.books label.number ≡ losses_by gives meanings label world call
       ++ losses_at world.books label.number) (sym may.1)
       ((call_brings gives meanings world books label own call).leaves (ap is_ok may.0))
-      (and_right (label.tag == next.tag) _ known)
+      (and_parts (label.tag == next.tag) _ known).1
   records_call call (Err refusal) world next may books label has =
       ap (λ (w : World P C). losses_in (history_of w label)) may.1
 
@@ -929,5 +906,5 @@ module _ {P C : Type 0} (gives : P → Partial) (meanings : C → Meanings) wher
       (run : Run gives meanings (starting_world tag start) calls answers last)
       → RecordsLossesByCalls gives meanings (starting_world tag start) calls answers last run
   records_losses tag start calls answers last run =
-      from_each_call gives meanings (RecordsLosses gives meanings) HasBooks kept_books records calls answers
+      from_each_call gives meanings (RecordsLosses gives meanings) HasBooks (kept_books gives meanings) records calls answers
       (starting_world tag start) last run (no_books meanings tag start)

@@ -1,5 +1,6 @@
 -- Sessions that are held are named: what each change keeps by which no session starts and no layer gives one up.
 use Rattle.std.proofs.Common.{◌≡◌, refl, ap, ◌∙◌, sym, subst, ℕ, List, [], ◌∷◌, ◌++◌, Bool, true, false, length}
+use Rattle.std.proofs.lemmas.Bool.{or_parts}
 use Rattle.std.specs.Prelude.{Option, Some, None, if◌then◌else◌, ◌==◌, ◌||◌}
 use Rattle.std.specs.List.{list_any}
 use Rattle.std.specs.Option.{option_and_then}
@@ -20,21 +21,22 @@ use Rattle.sentry_sending.specs.Sending.{send, after_sending}
 use Rattle.sentry_state.specs.Changes.{with_client_history}
 use Rattle.sentry_state.specs.Outcomes.{session_at}
 use Rattle.sentry_state.specs.Worlds.{World, SessionHistory}
-use Rattle.sentry_laws.proofs.Effects.{Effect, LayerChange, scope_edited, breadcrumbs_came, client_bound, layer_pushed, layer_popped, session_named, hub_changed, hub_released, session_begun, change_layers, add_under}
-use Rattle.sentry_laws.proofs.Changes.{Change, Changes, nothing, one, both, held_options, after_arrival, envelopes_on_arrival, makes_hub, makes_hub_from, changes_hub, leaves_hub, notes_event_id, releases_hub, adds_client, clones_client, drops_client, arrives, accepts, accepts_none, mails, loses, takes_report, absorbs, starts_none, starts_session, changes_session, ends_session, starts_transaction, starts_span, changes_spans}
+use Rattle.sentry_laws.specs.OwnCalls.{LayerChange, scope_edited, breadcrumbs_came, client_bound, layer_pushed, layer_popped, hub_changed, hub_released, change_layers, add_under}
+use Rattle.sentry_laws.proofs.Effects.{Effect, seen, session_named, session_begun}
+use Rattle.sentry_laws.proofs.Changes.{Change, Changes, nothing, one, both, held_options, after_arrival, envelopes_on_arrival, makes_hub, makes_hub_from, changes_hub, leaves_hub, sets_session, notes_event_id, releases_hub, adds_client, clones_client, drops_client, arrives, accepts, accepts_none, mails, loses, takes_report, absorbs, starts_none, starts_session, changes_session, ends_session, starts_transaction, starts_span, changes_spans}
 use Rattle.sentry_laws.specs.Reachable.{SessionsAreNamed}
 use Rattle.sentry_laws.proofs.Tables.{AreBelow}
 use Rattle.sentry_laws.proofs.Found.{same_number, found_replaced, found_without}
-use Rattle.sentry_laws.proofs.Tests.{passes_put, passes_raised, or_left, or_right, or_rest, any_first, any_second}
+use Rattle.sentry_laws.proofs.Tests.{passes_put, passes_raised, or_rest, any_first, any_second}
 use Rattle.sentry_laws.proofs.Numbered.{IsNumbered, numbered_changes}
 
 -- ---- effects by which a session starts, or a layer gives one up
 
 module _ {P C : Type 0} where
   abbrev pub is_unnaming : Effect P C → Bool
-  is_unnaming (hub_changed number (session_named session)) = true
-  is_unnaming (hub_changed number (layer_popped given)) = true
-  is_unnaming (hub_released number) = true
+  is_unnaming (session_named number session) = true
+  is_unnaming (seen (hub_changed number layer_popped)) = true
+  is_unnaming (seen (hub_released number)) = true
   is_unnaming (session_begun number id) = true
   is_unnaming _ = false
 
@@ -42,7 +44,7 @@ module _ {P C : Type 0} where
 
 module _ {P C : Type 0} where
   abbrev pub is_naming : ℕ → Effect P C → Bool
-  is_naming n (hub_changed number (session_named (Some key))) = n == number
+  is_naming n (session_named number (Some key)) = n == number
   is_naming n _ = false
 
   abbrev pub is_begun : ℕ → Effect P C → Bool
@@ -50,8 +52,7 @@ module _ {P C : Type 0} where
   is_begun n _ = false
 
   calm_unnamed : (n : ℕ) (effect : Effect P C) → is_unnaming effect ≡ false → is_naming n effect ≡ false
-  calm_unnamed n (hub_changed number (session_named None)) h = refl
-  calm_unnamed n (hub_changed number (session_named (Some key))) h = absurd cc
+  calm_unnamed n (session_named number (Some key)) h = absurd cc
   calm_unnamed n _ h = refl
 
   -- where no session starts and no layer gives one up, no layer names another one
@@ -59,8 +60,8 @@ module _ {P C : Type 0} where
       → list_any (is_naming n) some ≡ false
   unnamed n [] h = refl
   unnamed n (effect ∷ rest) h =
-      ap (λ b. b || list_any (is_naming n) rest) (calm_unnamed n effect (or_left (is_unnaming effect) _ h))
-      ∙ unnamed n rest (or_right (is_unnaming effect) _ h)
+      ap (λ b. b || list_any (is_naming n) rest) (calm_unnamed n effect (or_parts (is_unnaming effect) _ h).0)
+      ∙ unnamed n rest (or_parts (is_unnaming effect) _ h).1
 
 -- ---- sessions that are found
 
@@ -121,15 +122,14 @@ module _ {P C : Type 0} (meanings : C → Meanings) (key : SessionKey) where
   crumbs_on false (Some options) breadcrumbs stack h = h
 
   change_on : (options : ClientKey → Option (ClientOptions C)) (number : ℕ) (change : LayerChange P) (stack : Stack P)
-      → is_unnaming {P = P} {C = C} (hub_changed number change) ≡ false → names_session key stack ≡ true
+      → is_unnaming {P = P} {C = C} (seen (hub_changed number change)) ≡ false → names_session key stack ≡ true
       → names_session key (change_layers meanings options change stack) ≡ true
   change_on options number (scope_edited edits) stack calm h = h
   change_on options number (breadcrumbs_came breadcrumbs) stack calm h =
       crumbs_on (length breadcrumbs == 0) (option_and_then options stack.top.client) breadcrumbs stack h
   change_on options number (client_bound client) stack calm h = h
   change_on options number layer_pushed stack calm h = pushed_on key stack h
-  change_on options number (layer_popped given) stack calm h = absurd cc
-  change_on options number (session_named session) stack calm h = absurd cc
+  change_on options number layer_popped stack calm h = absurd cc
 
 -- ---- worlds
 
@@ -168,15 +168,12 @@ module _ {P C : Type 0} (meanings : C → Meanings) where
       λ key session at. hub_more world (top_alone hub.stack) key n (h key session at)
   named_change (changes_hub world number old new change found fits allowed) calm n h =
       hub_replaced_named world number old new found (λ key named. subst (λ s. names_session key s ≡ true) (sym fits)
-      (change_on meanings key (held_options world) number change old.stack (or_left _ _ calm) named)) h
-  named_change (leaves_hub world number hub change found fits) calm n h = h
+      (change_on meanings key (held_options world) number change old.stack (or_parts _ _ calm).0 named)) h
+  named_change (sets_session world number hub session found given) calm n h = absurd cc
   named_change (notes_event_id world number old new found same) calm n h =
       hub_replaced_named world number old new found
       (λ key named. subst (λ s. names_session key s ≡ true) (sym same) named) h
   named_change (releases_hub world number hub found alone) calm n h = absurd cc
-  named_change (adds_client world client now queues open_ of_engine) calm n h = h
-  named_change (clones_client world original client now found) calm n h = h
-  named_change (drops_client world key client label found same none) calm n h = h
   named_change (arrives world key client arrival is_off found open_ came) calm n h =
       named_sending client.label (send key client (envelopes_on_arrival arrival client)
       (with_client_history world key (after_arrival arrival client))).sent
@@ -185,12 +182,6 @@ module _ {P C : Type 0} (meanings : C → Meanings) where
       named_sending client.label (send key client (envelopes_on_arrival arrival client)
       (with_client_history world key (after_arrival arrival client))).sent
       (with_client_history world key (after_arrival arrival client)) h
-  named_change (mails world key client envelope found occupied plain told_) calm n h = h
-  named_change (loses world key client losses found) calm n h = h
-  named_change (takes_report world label has) calm n h = h
-  named_change (absorbs world label losses has) calm n h = h
-  named_change (starts_none world number id) calm n h = h
-  named_change (accepts_none world kind) calm n h = h
   named_change (starts_session world number start) calm n h = absurd cc
   named_change (changes_session world number old new later found same) calm n h =
       λ key session at.
@@ -200,9 +191,7 @@ module _ {P C : Type 0} (meanings : C → Meanings) where
       λ key session at. h key session
       (without_before world.next.session world.sessions number key.number session (key.tag == world.tag) n.sessions
       at).1
-  named_change (starts_transaction world state new_) calm n h = h
-  named_change (starts_span world parent place held found of_ traced) calm n h = h
-  named_change (changes_spans world transactions spans change) calm n h = h
+  named_change _ calm n h = h
 
   -- where no session starts and no layer gives one up, each session that is held stays named
   pub names_kept : {given : Option Envelope} {old new : World P C} {some : List (Effect P C)} {sent : List

@@ -10,9 +10,10 @@ use Rattle.sentry_span_table.specs.SpanLists.{TransactionHistory, with_span_fini
 use Rattle.sentry_span_table.specs.declared.table.records.SpanRecord.{SpanRecord}
 use Rattle.sentry_state.specs.Changes.{with_client_history}
 use Rattle.sentry_state.specs.Clients.{clone_from}
+use Rattle.sentry_hub_table.specs.declared.hub.HubState.{HubState}
 use Rattle.sentry_state.specs.Worlds.{World, ClientHistory, starting_world}
 use Rattle.sentry_laws.proofs.Effects.{Effect}
-use Rattle.sentry_laws.proofs.Changes.{Change, Changes, nothing, one, both, SpanChange, changes_transaction, changes_span, keeps_span, drops_transaction, drops_span, after_arrival, envelopes_on_arrival, makes_hub, makes_hub_from, changes_hub, leaves_hub, notes_event_id, releases_hub, adds_client, clones_client, drops_client, arrives, accepts, accepts_none, mails, loses, takes_report, absorbs, starts_none, starts_session, changes_session, ends_session, starts_transaction, starts_span, changes_spans}
+use Rattle.sentry_laws.proofs.Changes.{Change, Changes, nothing, one, both, SpanChange, changes_transaction, changes_span, keeps_span, drops_transaction, drops_span, after_arrival, envelopes_on_arrival, makes_hub, makes_hub_from, changes_hub, leaves_hub, sets_session, notes_event_id, releases_hub, adds_client, clones_client, drops_client, arrives, accepts, accepts_none, mails, loses, takes_report, absorbs, starts_none, starts_session, changes_session, ends_session, starts_transaction, starts_span, changes_spans}
 use Rattle.sentry_laws.proofs.Tables.{AreBelow, below_put, below_replaced, below_without}
 
 module _ {P C : Type 0} where
@@ -47,6 +48,11 @@ module _ {P C : Type 0} where
         transactions = h.transactions;
         spans = h.spans;
       }
+
+  hubs_numbered : (world : World P C) (hubs : List (ℕ × HubState P)) → AreBelow 0 world.next.hub hubs → IsNumbered world
+      → IsNumbered (record world { hubs = hubs })
+  hubs_numbered world hubs below h =
+      record { clients = h.clients; hubs = below; sessions = h.sessions; transactions = h.transactions; spans = h.spans }
 
   numbered_spans : (world : World P C) (transactions : List (ℕ × TransactionHistory)) (spans : List (ℕ × SpanRecord))
       → SpanChange world transactions spans → IsNumbered world
@@ -113,33 +119,13 @@ module _ {P C : Type 0} (meanings : C → Meanings) where
         spans = h.spans;
       }
   numbered_change (changes_hub world number old new change found fits allowed) h =
-      record {
-        clients = h.clients;
-        hubs = below_replaced 0 world.next.hub number new world.hubs h.hubs;
-        sessions =
-            h.sessions;
-        transactions = h.transactions;
-        spans = h.spans;
-      }
-  numbered_change (leaves_hub world number hub change found fits) h = h
+      hubs_numbered world _ (below_replaced 0 world.next.hub number new world.hubs h.hubs) h
+  numbered_change (sets_session world number hub session found given) h =
+      hubs_numbered world _ (below_replaced 0 world.next.hub number _ world.hubs h.hubs) h
   numbered_change (notes_event_id world number old new found same) h =
-      record {
-        clients = h.clients;
-        hubs = below_replaced 0 world.next.hub number new world.hubs h.hubs;
-        sessions =
-            h.sessions;
-        transactions = h.transactions;
-        spans = h.spans;
-      }
+      hubs_numbered world _ (below_replaced 0 world.next.hub number new world.hubs h.hubs) h
   numbered_change (releases_hub world number hub found alone) h =
-      record {
-        clients = h.clients;
-        hubs = below_without 0 world.next.hub number world.hubs h.hubs;
-        sessions =
-            h.sessions;
-        transactions = h.transactions;
-        spans = h.spans;
-      }
+      hubs_numbered world _ (below_without 0 world.next.hub number world.hubs h.hubs) h
   numbered_change (adds_client world client now queues open_ of_engine) h =
       record {
         clients = below_put world.next.client client world.clients h.clients;
@@ -171,61 +157,12 @@ module _ {P C : Type 0} (meanings : C → Meanings) where
       numbered_sending client.label (send key client (envelopes_on_arrival arrival client)
       (with_client_history world key (after_arrival arrival client))).sent
       (with_client_history world key (after_arrival arrival client))
-      (record {
-        clients = below_replaced 0 world.next.client key.number (after_arrival arrival client)
-            world.clients h.clients;
-        hubs = h.hubs;
-        sessions = h.sessions;
-        transactions = h.transactions;
-        spans = h.spans;
-      })
+      (client_numbered world key (after_arrival arrival client) h)
   numbered_change (accepts world key client arrival kind is_off found open_ came) h =
       numbered_sending client.label (send key client (envelopes_on_arrival arrival client)
       (with_client_history world key (after_arrival arrival client))).sent
       (with_client_history world key (after_arrival arrival client))
-      (record {
-        clients = below_replaced 0 world.next.client key.number (after_arrival arrival client)
-            world.clients h.clients;
-        hubs = h.hubs;
-        sessions = h.sessions;
-        transactions = h.transactions;
-        spans = h.spans;
-      })
-  numbered_change (mails world key client envelope found occupied plain told_) h =
-      record {
-        clients = h.clients;
-        hubs = h.hubs;
-        sessions = h.sessions;
-        transactions = h.transactions;
-        spans =
-            h.spans;
-      }
-  numbered_change (loses world key client losses found) h = record {
-    clients = h.clients;
-    hubs = h.hubs;
-    sessions =
-        h.sessions;
-    transactions = h.transactions;
-    spans = h.spans;
-  }
-  numbered_change (takes_report world label has) h = record {
-    clients = h.clients;
-    hubs = h.hubs;
-    sessions =
-        h.sessions;
-    transactions = h.transactions;
-    spans = h.spans;
-  }
-  numbered_change (absorbs world label losses has) h = record {
-    clients = h.clients;
-    hubs = h.hubs;
-    sessions =
-        h.sessions;
-    transactions = h.transactions;
-    spans = h.spans;
-  }
-  numbered_change (starts_none world number id) h = h
-  numbered_change (accepts_none world kind) h = h
+      (client_numbered world key (after_arrival arrival client) h)
   numbered_change (starts_session world number start) h = record {
     clients = h.clients;
     hubs = h.hubs;
@@ -272,6 +209,8 @@ module _ {P C : Type 0} (meanings : C → Meanings) where
             below_put world.next.span held world.spans h.spans;
       }
   numbered_change (changes_spans world transactions spans change) h = numbered_spans world transactions spans change h
+  numbered_change _ h =
+      record { clients = h.clients; hubs = h.hubs; sessions = h.sessions; transactions = h.transactions; spans = h.spans }
 
   pub numbered_changes : {given : Option Envelope} {old new : World P C} {some : List (Effect P C)} {sent : List
       (ClientKey × Envelope)} → Changes meanings given old some sent new → IsNumbered old → IsNumbered new

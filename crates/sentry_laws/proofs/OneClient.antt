@@ -19,13 +19,14 @@ use Rattle.sentry_state.specs.Worlds.{World, ClientHistory}
 use Rattle.sentry_calls.specs.declared.call.Call.{Call}
 use Rattle.sentry_calls.specs.declared.call.Reply.{Reply}
 use Rattle.sentry_calls.specs.Runs.{StepsTo}
-use Rattle.sentry_laws.proofs.Effects.{Came, a_log, a_metric, a_close, Effect, scope_edited, breadcrumbs_came, client_bound, layer_pushed, layer_popped, session_named, hub_changed, client_added, client_cloned, hub_made, hub_made_from, hub_released, losses_absorbed, report_taken, session_begun, client_dropped, came_to_queues, effects}
+use Rattle.sentry_laws.proofs.Effects.{Came, a_log, a_metric, a_close, Effect, came_to_queues, effects}
 use Rattle.sentry_laws.proofs.Changes.{Change, Changes, nothing, one, both, IsArrival, kind_of, Arrival, log_came, metric_came, session_ended, flush_came, after_arrival, envelopes_on_arrival, makes_hub, makes_hub_from, changes_hub, leaves_hub, notes_event_id, releases_hub, adds_client, clones_client, drops_client, arrives, accepts, accepts_none, mails, loses, takes_report, absorbs, starts_none, starts_session, changes_session, ends_session, starts_transaction, starts_span, changes_spans}
 use Rattle.sentry_laws.proofs.Tables.{AreBelow, below_put, below_replaced, below_without}
 use Rattle.sentry_laws.proofs.Found.{same_number, found_put, found_replaced, found_without}
 use Rattle.sentry_laws.proofs.Keeping.{trail_of}
-use Rattle.sentry_laws.proofs.Tests.{or_left, any_first, any_second}
-use Rattle.sentry_laws.proofs.Trails.{neither, found_under, own_effects}
+use Rattle.std.proofs.lemmas.Bool.{or_parts}
+use Rattle.sentry_laws.proofs.Tests.{any_first, any_second}
+use Rattle.sentry_laws.proofs.Trails.{neither, found_under, own_effects, own_any}
 
 abbrev agree : Came → Came → Bool
 agree a_log a_log = true
@@ -62,23 +63,7 @@ is_mine kind _ = false
 
 module _ (kind : Came) {P C : Type 0} where
   own_mine : (some : List (Effect P C)) → list_any (is_mine kind) (own_effects some) ≡ list_any (is_mine kind) some
-  own_mine [] = refl
-  own_mine (came_to_queues other ∷ rest) = ap (λ c. agree other kind || c) (own_mine rest)
-  own_mine (session_begun number other ∷ rest) = own_mine rest
-  own_mine (client_dropped number ∷ rest) = own_mine rest
-  own_mine (hub_changed number (session_named session) ∷ rest) = own_mine rest
-  own_mine (hub_changed number (scope_edited edits) ∷ rest) = own_mine rest
-  own_mine (hub_changed number (breadcrumbs_came breadcrumbs) ∷ rest) = own_mine rest
-  own_mine (hub_changed number (client_bound client) ∷ rest) = own_mine rest
-  own_mine (hub_changed number layer_pushed ∷ rest) = own_mine rest
-  own_mine (hub_changed number (layer_popped given) ∷ rest) = own_mine rest
-  own_mine (client_added key options ∷ rest) = own_mine rest
-  own_mine (client_cloned key original ∷ rest) = own_mine rest
-  own_mine (hub_made number stack ∷ rest) = own_mine rest
-  own_mine (hub_made_from number maker ∷ rest) = own_mine rest
-  own_mine (hub_released number ∷ rest) = own_mine rest
-  own_mine (losses_absorbed label losses ∷ rest) = own_mine rest
-  own_mine (report_taken label report ∷ rest) = own_mine rest
+  own_mine = own_any (is_mine kind) (λ number session. refl)
 
 -- what holds of a client, and goes on to hold where something of another kind comes to its queues; it holds of a new
 -- client where `Fresh` does
@@ -150,17 +135,6 @@ module _ {C : Type 0} (kind : Came) (IsSo : ClientHistory C → Type 0)
     follows_change : {f : Option Envelope} {old new : World P C} {some : List (Effect P C)} {sent : List
         (ClientKey × Envelope)} → Change meanings f old some sent new
         → list_any (is_mine kind) some ≡ false → Follows old → Follows new
-    follows_change (makes_hub world client scope held active) h a =
-        record { so_far = a.so_far; given = a.given; clients = a.clients }
-    follows_change (makes_hub_from world maker hub found) h a =
-        record { so_far = a.so_far; given = a.given; clients = a.clients }
-    follows_change (changes_hub world number old new change found fits allowed) h a =
-        record { so_far = a.so_far; given = a.given; clients = a.clients }
-    follows_change (leaves_hub world number hub change found fits) h a = a
-    follows_change (notes_event_id world number old new found same) h a =
-        record { so_far = a.so_far; given = a.given; clients = a.clients }
-    follows_change (releases_hub world number hub found alone) h a =
-        record { so_far = a.so_far; given = a.given; clients = a.clients }
     follows_change (adds_client world client now queues open_ of_engine) h a = added world client now _ queues open_ a
     follows_change (clones_client world original client now found) h a =
         added world (clone_from now client) now world.books refl refl a
@@ -185,29 +159,8 @@ module _ {C : Type 0} (kind : Came) (IsSo : ClientHistory C → Type 0)
         (with_client_history world key (after_arrival arrival client))).sent
         (with_client_history world key (after_arrival arrival client))
         (arrived world key client arrival found open_
-        (differs other kind arrival (or_left (agree other kind) _ h) came) a)
-    follows_change (accepts_none world other) h a = a
-    follows_change (mails world key client envelope found occupied plain told_) h a =
-        record { so_far = a.so_far; given = a.given; clients = a.clients }
-    follows_change (loses world key client losses found) h a =
-        record { so_far = a.so_far; given = a.given; clients = a.clients }
-    follows_change (takes_report world label has) h a =
-        record { so_far = a.so_far; given = a.given; clients = a.clients }
-    follows_change (absorbs world label losses has) h a =
-        record { so_far = a.so_far; given = a.given; clients = a.clients }
-    follows_change (starts_none world number id) h a = a
-    follows_change (starts_session world number start) h a =
-        record { so_far = a.so_far; given = a.given; clients = a.clients }
-    follows_change (changes_session world number old new later found same) h a =
-        record { so_far = a.so_far; given = a.given; clients = a.clients }
-    follows_change (ends_session world number) h a =
-        record { so_far = a.so_far; given = a.given; clients = a.clients }
-    follows_change (starts_transaction world state new_) h a =
-        record { so_far = a.so_far; given = a.given; clients = a.clients }
-    follows_change (starts_span world parent place held found of_ traced) h a =
-        record { so_far = a.so_far; given = a.given; clients = a.clients }
-    follows_change (changes_spans world transactions spans change) h a =
-        record { so_far = a.so_far; given = a.given; clients = a.clients }
+        (differs other kind arrival (or_parts (agree other kind) _ h).0 came) a)
+    follows_change _ h a = record { so_far = a.so_far; given = a.given; clients = a.clients }
 
     follows_changes : {f : Option Envelope} {old new : World P C} {some : List (Effect P C)} {sent : List
         (ClientKey × Envelope)} → Changes meanings f old some sent new

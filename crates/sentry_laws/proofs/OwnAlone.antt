@@ -1,5 +1,6 @@
 -- The effects on a hub alone give its layers.
 use Rattle.std.proofs.Common.{◌≡◌, refl, ap, ◌∙◌, sym, ℕ, List, [], ◌∷◌, Bool, true, false}
+use Rattle.std.proofs.lemmas.Bool.{or_parts}
 use Rattle.std.specs.Prelude.{Option, Some, None, ◌==◌, ◌||◌, if◌then◌else◌}
 use Rattle.std.specs.List.{list_any}
 use Rattle.std.specs.Option.{option_map}
@@ -9,7 +10,6 @@ use Rattle.sentry_options.specs.declared.clientoptions.ClientOptions.{ClientOpti
 use Rattle.sentry_scope.specs.declared.scope.stack.Stack.{Stack}
 use Rattle.sentry_scope.specs.Stacks.{is_client, top_alone}
 use Rattle.sentry_laws.specs.OwnCalls.{Effect, LayerChange, client_added, client_cloned, hub_made, hub_made_from, hub_changed, hub_released, options_after, layers_after, change_layers, own_alone, is_derived, OwnAloneSuffice}
-use Rattle.sentry_laws.proofs.Tests.{or_left, or_right}
 
 module _ {P C : Type 0} (meanings : C → Meanings) (number : ℕ) where
   -- an effect that says nothing of clients, left out or not
@@ -78,8 +78,8 @@ module _ {P C : Type 0} (meanings : C → Meanings) (number : ℕ) where
   alone (hub_made made stack ∷ rest) none = made-by (number == made) made stack rest (own_alone number rest) refl
       (alone rest none)
   alone (hub_made_from made maker ∷ rest) none =
-      derived-by (number == made) made maker rest (own_alone number rest) (or_left (number == made) _ none)
-      (alone rest (or_right (number == made) _ none))
+      derived-by (number == made) made maker rest (own_alone number rest) (or_parts (number == made) _ none).0
+      (alone rest (or_parts (number == made) _ none).1)
   alone (hub_changed hub change ∷ rest) none = changed-by (number == hub) hub change rest (own_alone number rest) refl
       (same_options rest) (alone rest none)
   alone (hub_released hub ∷ rest) none = released-by (number == hub) hub rest (own_alone number rest) refl

@@ -1,5 +1,6 @@
 -- A pop undoes the push whose layer it pops.
 use Rattle.std.proofs.Common.{◌≡◌, ◌<◌, refl, ap, ◌∙◌, sym, subst, ℕ, ◌+◌, List, [], ◌∷◌, ◌++◌, Bool, true, false, cond, length, append_assoc, length-append, arith}
+use Rattle.std.proofs.lemmas.Bool.{and_parts, or_parts, eq-eqb}
 use Rattle.std.proofs.lemmas.Bool.Decides.{nat_tests}
 use Rattle.std.proofs.lemmas.List.{append-nil}
 use Rattle.std.specs.Prelude.{Option, Some, None, Result, Ok, Err, if◌then◌else◌, ◌==◌, ◌&&◌, ◌||◌, nat_lt}
@@ -38,31 +39,23 @@ use Rattle.sentry_calls.specs.Layers as layer_calls
 use Rattle.sentry_calls.specs.Runs.{StepsTo, Run}
 use Rattle.sentry_calls.specs.Steps.{step, hub_step}
 use Rattle.sentry_calls.specs.Replies.{map_answer}
-use Rattle.sentry_laws.proofs.Effects.{Effect, LayerChange, scope_edited, breadcrumbs_came, client_bound, layer_pushed, layer_popped, session_named, hub_changed, hub_made, hub_made_from, hub_released, losses_absorbed, report_taken, session_begun, client_dropped, came_to_queues, client_added, client_cloned, effects, client_effects, hub_effects, on_client, on_hub, on_report, change_layers, add_under}
-use Rattle.sentry_laws.proofs.Changes.{Change, Changes, nothing, one, both, held_options, IsAllowed, after_arrival, envelopes_on_arrival, makes_hub, makes_hub_from, changes_hub, leaves_hub, notes_event_id, releases_hub, adds_client, clones_client, drops_client, arrives, accepts, accepts_none, mails, loses, takes_report, absorbs, starts_none, starts_session, changes_session, ends_session, starts_transaction, starts_span, changes_spans}
+use Rattle.sentry_laws.specs.OwnCalls.{LayerChange, scope_edited, breadcrumbs_came, client_bound, layer_pushed, layer_popped, hub_changed, change_layers, add_under}
+use Rattle.sentry_laws.proofs.Effects.{Effect, seen, effects, client_effects, hub_effects}
+use Rattle.sentry_laws.proofs.Changes.{Change, Changes, nothing, one, both, held_options, IsAllowed, after_arrival, envelopes_on_arrival, makes_hub, makes_hub_from, changes_hub, leaves_hub, notes_event_id, releases_hub, adds_client, clones_client, drops_client, arrives, accepts, accepts_none, mails, loses, takes_report, absorbs, sets_session, starts_none, starts_session, changes_session, ends_session, starts_transaction, starts_span, changes_spans}
 use Rattle.sentry_laws.specs.SentItems.{handed_in}
 use Rattle.sentry_laws.specs.PartsOfRuns.{IfElse}
 use Rattle.sentry_laws.specs.PushPop.{pops, PopLeaves, UndoesPush, PushesAreUndone, stack_at, PopUndoesPush}
 use Rattle.sentry_laws.proofs.Tables.{AreBelow, below_put, below_replaced, below_without, own_replaced, others_put}
-use Rattle.sentry_laws.proofs.Found.{same_number, found_replaced, found_without, found_below}
-use Rattle.sentry_laws.proofs.Tests.{any_first, any_second, or_left, or_right, and_left}
+use Rattle.sentry_laws.proofs.Found.{same_number, found_replaced, found_without, found_below, own_number}
+use Rattle.sentry_laws.proofs.Tests.{any_first, any_second}
 use Rattle.sentry_laws.proofs.SendingTrails.{found_released}
-use Rattle.sentry_laws.proofs.Trails.{found_under, is_own, own_effects, Trail, TellsBy}
-use Rattle.sentry_laws.proofs.Calls.{told_step}
-use Rattle.sentry_laws.proofs.Keeping.{kept_by_call, kept_by_run}
-use Rattle.sentry_laws.proofs.Numbered.{IsNumbered, numbered_change, none_numbered}
+use Rattle.sentry_laws.proofs.Trails.{found_under, own_any, neither}
+use Rattle.sentry_laws.proofs.Keeping.{trail_of, kept_by_call, kept_by_run}
+use Rattle.sentry_laws.proofs.Numbered.{IsNumbered, numbered_change, numbered_changes, none_numbered}
 use Rattle.sentry_laws.proofs.PartsOfRuns.{from_each_call}
 
-and_right : (a b : Bool) → (a && b) ≡ true → b ≡ true
-and_right true b h = h
-and_right false b h = absurd cc
-
-equal : (a b : ℕ) → a ≡ b → (a == b) ≡ true
-equal a b e = grind (arith, nat_tests)
-
 same_depth : (deep given : ℕ) → (deep == given && nat_lt 0 given) ≡ true → deep ≡ given
-same_depth deep given top = let same : (deep == given) ≡ true = and_left (deep == given) (nat_lt 0 given) top in grind
-    (arith, nat_tests)
+same_depth deep given top = same_number deep given (and_parts (deep == given) (nat_lt 0 given) top).0
 
 same_value : {X : Type 0} (o : Option X) (x y : X) → o ≡ Some x → o ≡ Some y → x ≡ y
 same_value o x y p q = cc
@@ -103,6 +96,12 @@ module _ {P : Type 0} where
   no_more base [] h = refl
   no_more base (x ∷ more) h = absurd (omega (arith, h, length-append base (x ∷ more)))
 
+module _ {P C : Type 0} where
+  -- the call pops a layer of a hub
+  abbrev pops_hub : ℕ → Call P C → Bool
+  pops_hub n (group.Hub (PopScope hub given now)) = n == hub.number
+  pops_hub n call = false
+
 module _ {P C : Type 0} (meanings : C → Meanings) (n : ℕ) (base : List (StackLayer P)) where
   -- the layers stand on these ones
   abbrev StandsOn : Stack P → Type 0
@@ -112,10 +111,9 @@ module _ {P C : Type 0} (meanings : C → Meanings) (n : ℕ) (base : List (Stac
     hub : HubState P
     found : value_at world.hubs n ≡ Some hub
     on : StandsOn hub.stack
-    hubs : AreBelow 0 world.next.hub world.hubs
 
   abbrev is_popped : Effect P C → Bool
-  is_popped (hub_changed number (layer_popped given)) = (number == n) && (given == length base)
+  is_popped (seen (hub_changed number layer_popped)) = n == number
   is_popped _ = false
 
   add_on : (o : Option (ClientOptions C)) (breadcrumbs : List Breadcrumb) (b : Bool) (stack : Stack P) → StandsOn stack
@@ -132,7 +130,7 @@ module _ {P C : Type 0} (meanings : C → Meanings) (n : ℕ) (base : List (Stac
       pop_more : (more : List (StackLayer P)) → stack.below ≡ base ++ more → StandsOn (stack_of_any stack.below stack)
       pop_more [] e =
           let same : length stack.below ≡ length base = ap length (e ∙ append-nil base) in
-          let t : (given == length base) ≡ true = equal given (length base) (sym deep ∙ same) in
+          let t : (given == length base) ≡ true = eq-eqb given (length base) (sym deep ∙ same) in
           let f : true ≡ false = sym t ∙ apart in absurd (false_is f)
         where
           false_is : true ≡ false → ⊥
@@ -140,19 +138,16 @@ module _ {P C : Type 0} (meanings : C → Meanings) (n : ℕ) (base : List (Stac
       pop_more (y ∷ ys) e =
           (front y ys, ap (λ (l : List (StackLayer P)). (stack_of_any l stack).below) e ∙ popped_below base y ys stack)
 
-  change_on : (options : ClientKey → Option (ClientOptions C)) (world : World P C) (change : LayerChange P)
-      (stack : Stack P) → IsAllowed world stack change
-      → is_popped (hub_changed n change) ≡ false → StandsOn stack
+  change_on : (options : ClientKey → Option (ClientOptions C)) (change : LayerChange P) (stack : Stack P)
+      → is_popped (seen (hub_changed n change)) ≡ false → StandsOn stack
       → StandsOn (change_layers meanings options change stack)
-  change_on options world (scope_edited edits) stack allowed not_popped s = s
-  change_on options world (breadcrumbs_came breadcrumbs) stack allowed not_popped s =
+  change_on options (scope_edited edits) stack not_popped s = s
+  change_on options (breadcrumbs_came breadcrumbs) stack not_popped s =
       add_on (option_and_then options stack.top.client) breadcrumbs (length breadcrumbs == 0) stack s
-  change_on options world (client_bound client) stack allowed not_popped s = s
-  change_on options world layer_pushed stack allowed not_popped s =
+  change_on options (client_bound client) stack not_popped s = s
+  change_on options layer_pushed stack not_popped s =
       (s.0 ++ stack.top ∷ [], ap (λ l. l ++ stack.top ∷ []) s.1 ∙ append_assoc base s.0 (stack.top ∷ []))
-  change_on options world (layer_popped given) stack allowed not_popped s =
-      pop_on stack given allowed (sym (ap (λ (b : Bool). b && (given == length base)) (equal n n refl)) ∙ not_popped) s
-  change_on options world (session_named session) stack allowed not_popped s = s
+  change_on options layer_popped stack not_popped s = neither (n == n) not_popped (own_number n)
 
   replaced-on : (b : Bool) (world : World P C) (number : ℕ) (old new : HubState P) → value_at world.hubs number ≡ Some old
       → (n == number) ≡ b → (n ≡ number → StandsOn old.stack → StandsOn new.stack) → OnBase world
@@ -165,214 +160,119 @@ module _ {P C : Type 0} (meanings : C → Meanings) (n : ℕ) (base : List (Stac
         hub = new;
         found = ap (value_at (replace_at world.hubs number new)) same ∙ own_replaced world.hubs number new old found;
         on = goes same (subst (λ (h : HubState P). StandsOn h.stack) (sym is) o.on);
-        hubs = below_replaced 0 world.next.hub number new world.hubs o.hubs;
       }
   replaced-on false world number old new found e goes o = record {
     hub = o.hub;
     found = found_replaced world.hubs number n new old found
         ∙ (ap (λ (b : Bool). if b then Some new else value_at world.hubs n) e ∙ o.found);
     on = o.on;
-    hubs = below_replaced 0 world.next.hub number new world.hubs o.hubs;
   }
 
-  released-on : (b : Bool) (world : World P C) (number : ℕ) (hub : HubState P) → 0 < length base
+  released-on : (b : Bool) (world : World P C) (number : ℕ) (hub : HubState P) → 0 < length base → IsNumbered world
       → value_at world.hubs number ≡ Some hub → depth hub.stack ≡ 0 → (n == number) ≡ b → OnBase world
       → OnBase (record world { hubs = without world.hubs number })
-  released-on true world number hub some found alone e o =
+  released-on true world number hub some k found alone e o =
       let same : n ≡ number = same_number n number e in
       let is : hub ≡ o.hub = same_value (value_at world.hubs number) hub o.hub found
       (sym (ap (value_at world.hubs) same) ∙ o.found) in
       let long : length o.hub.stack.below ≡ length (base ++ o.on.0) = ap length o.on.1 in
       let none : length o.hub.stack.below ≡ 0 = sym (ap (λ (h : HubState P). length h.stack.below) is) ∙ alone in
       absurd (omega (arith, long, none, some, length-append base o.on.0))
-  released-on false world number hub some found alone e o = record {
+  released-on false world number hub some k found alone e o = record {
     hub = o.hub;
-    found = found_without 0 world.next.hub world.hubs number n o.hubs
+    found = found_without 0 world.next.hub world.hubs number n k.hubs
         ∙ (ap (λ (b : Bool). if b then None else value_at world.hubs n) e ∙ o.found);
     on = o.on;
-    hubs = below_without 0 world.next.hub number world.hubs o.hubs;
   }
 
-  made_on : (world : World P C) (new : HubState P) → OnBase world
+  made_on : (world : World P C) (new : HubState P) → IsNumbered world → OnBase world
       → OnBase (record world {
         next = record world.next { hub = world.next.hub + 1 };
         hubs =
             put world.hubs world.next.hub new;
       })
-  made_on world new o =
-      let below : n < world.next.hub = found_below 0 world.next.hub n world.hubs o.hub o.hubs o.found in
+  made_on world new k o =
+      let below : n < world.next.hub = found_below 0 world.next.hub n world.hubs o.hub k.hubs o.found in
       record {
         hub = o.hub;
         found = others_put world.hubs world.next.hub n new (λ e. absurd (omega (arith, e, below))) ∙ o.found;
         on = o.on;
-        hubs = below_put world.next.hub new world.hubs o.hubs;
       }
 
   sending_on : (label : Label) (sent : List (ClientKey × Envelope)) (world : World P C) → OnBase world
       → OnBase (after_sending label sent world)
   sending_on label [] world o = o
-  sending_on label (first ∷ rest) world o = record { hub = o.hub; found = o.found; on = o.on; hubs = o.hubs }
+  sending_on label (first ∷ rest) world o = record { hub = o.hub; found = o.found; on = o.on }
 
-  left_pop : (number : ℕ) (change : LayerChange P) → n ≡ number → list_any is_popped (hub_changed number change ∷ [])
-      ≡ false → is_popped (hub_changed n change) ≡ false
-  left_pop number change same h = ap (λ k. is_popped (hub_changed k change)) same ∙ or_left _ _ h
+  left_pop : (number : ℕ) (change : LayerChange P) → n ≡ number
+      → list_any is_popped (seen (hub_changed number change) ∷ []) ≡ false
+      → is_popped (seen (hub_changed n change)) ≡ false
+  left_pop number change same h = ap (λ k. is_popped (seen (hub_changed k change))) same ∙ (or_parts _ _ h).0
 
   on_change : {f : Option Envelope} {old new : World P C} {some : List (Effect P C)} {sent : List
       (ClientKey × Envelope)} → Change meanings f old some sent new
-      → 0 < length base → list_any is_popped some ≡ false → OnBase old → OnBase new
-  on_change (makes_hub world client scope held active) long h o = made_on world _ o
-  on_change (makes_hub_from world maker hub found) long h o = made_on world _ o
-  on_change (changes_hub world number old new change found fits allowed) long h o =
+      → 0 < length base → list_any is_popped some ≡ false → IsNumbered old → OnBase old → OnBase new
+  on_change (makes_hub world client scope held active) long h k o = made_on world _ k o
+  on_change (makes_hub_from world maker hub found) long h k o = made_on world _ k o
+  on_change (changes_hub world number old new change found fits allowed) long h k o =
       replaced-on (n == number) world number old new found refl
-      (λ same s. subst StandsOn (sym fits) (change_on (held_options world) world change old.stack allowed
+      (λ same s. subst StandsOn (sym fits) (change_on (held_options world) change old.stack
       (left_pop number change same h) s)) o
-  on_change (leaves_hub world number hub change found fits) long h o = o
-  on_change (notes_event_id world number old new found same) long h o =
+  on_change (sets_session world number hub session found given) long h k o =
+      replaced-on (n == number) world number hub _ found refl (λ is s. s) o
+  on_change (notes_event_id world number old new found same) long h k o =
       replaced-on (n == number) world number old new found refl (λ is s. subst StandsOn (sym same) s) o
-  on_change (releases_hub world number hub found alone) long h o =
-      released-on (n == number) world number hub long found alone refl o
-  on_change (adds_client world client now queues open_ of_engine) long h o =
-      record { hub = o.hub; found = o.found; on = o.on; hubs = o.hubs }
-  on_change (clones_client world original client now found) long h o =
-      record { hub = o.hub; found = o.found; on = o.on; hubs = o.hubs }
-  on_change (drops_client world key client label found same none) long h o =
-      record { hub = o.hub; found = o.found; on = o.on; hubs = o.hubs }
-  on_change (arrives world key client arrival is_off found open_ came) long h o =
+  on_change (releases_hub world number hub found alone) long h k o =
+      released-on (n == number) world number hub long k found alone refl o
+  on_change (arrives world key client arrival is_off found open_ came) long h k o =
       sending_on client.label (send key client (envelopes_on_arrival arrival client)
       (with_client_history world key (after_arrival arrival client))).sent
       (with_client_history world key (after_arrival arrival client))
-      (record { hub = o.hub; found = o.found; on = o.on; hubs = o.hubs })
-  on_change (accepts world key client arrival kind is_off found open_ came) long h o =
+      (record { hub = o.hub; found = o.found; on = o.on })
+  on_change (accepts world key client arrival kind is_off found open_ came) long h k o =
       sending_on client.label (send key client (envelopes_on_arrival arrival client)
       (with_client_history world key (after_arrival arrival client))).sent
       (with_client_history world key (after_arrival arrival client))
-      (record { hub = o.hub; found = o.found; on = o.on; hubs = o.hubs })
-  on_change (mails world key client envelope found occupied none told_) long h o =
-      record { hub = o.hub; found = o.found; on = o.on; hubs = o.hubs }
-  on_change (loses world key client losses found) long h o = record {
-    hub = o.hub;
-    found = o.found;
-    on = o.on;
-    hubs =
-        o.hubs;
-  }
-  on_change (takes_report world label has) long h o = record { hub = o.hub; found = o.found; on = o.on; hubs = o.hubs }
-  on_change (absorbs world label losses has) long h o = record {
-    hub = o.hub;
-    found = o.found;
-    on = o.on;
-    hubs =
-        o.hubs;
-  }
-  on_change (starts_none world number id) long h o = o
-  on_change (accepts_none world kind) long h o = o
-  on_change (starts_session world number start) long h o = record { hub = o.hub; found = o.found; on = o.on; hubs = o.hubs }
-  on_change (changes_session world number old new later found same) long h o =
-      record { hub = o.hub; found = o.found; on = o.on; hubs = o.hubs }
-  on_change (ends_session world number) long h o = record { hub = o.hub; found = o.found; on = o.on; hubs = o.hubs }
-  on_change (starts_transaction world state new_) long h o = record {
-    hub = o.hub;
-    found = o.found;
-    on = o.on;
-    hubs =
-        o.hubs;
-  }
-  on_change (starts_span world parent place held found of_ traced) long h o =
-      record { hub = o.hub; found = o.found; on = o.on; hubs = o.hubs }
-  on_change (changes_spans world transactions spans change) long h o =
-      record { hub = o.hub; found = o.found; on = o.on; hubs = o.hubs }
+      (record { hub = o.hub; found = o.found; on = o.on })
+  on_change _ long h k o = record { hub = o.hub; found = o.found; on = o.on }
 
   on_changes : {f : Option Envelope} {old new : World P C} {some : List (Effect P C)} {sent : List
       (ClientKey × Envelope)} → Changes meanings f old some sent new
-      → 0 < length base → list_any is_popped some ≡ false → OnBase old → OnBase new
-  on_changes (nothing world) long h o = o
-  on_changes (one c) long h o = on_change c long h o
-  on_changes (both {first = first} {second = second} t u) long h o =
-      on_changes u long (any_second is_popped first second h) (on_changes t long (any_first is_popped first second h) o)
+      → 0 < length base → list_any is_popped some ≡ false → IsNumbered old → OnBase old → OnBase new
+  on_changes (nothing world) long h k o = o
+  on_changes (one c) long h k o = on_change c long h k o
+  on_changes (both {first = first} {second = second} t u) long h k o =
+      on_changes u long (any_second is_popped first second h) (numbered_changes meanings t k)
+      (on_changes t long (any_first is_popped first second h) k o)
 
   -- ---- calls
 
-  session_unpopped : (effect : Effect P C) → is_own effect ≡ false → is_popped effect ≡ false
-  session_unpopped (hub_changed number (session_named session)) h = refl
-  session_unpopped (hub_changed number (scope_edited edits)) h = refl
-  session_unpopped (hub_changed number (breadcrumbs_came breadcrumbs)) h = refl
-  session_unpopped (hub_changed number (client_bound client)) h = refl
-  session_unpopped (hub_changed number layer_pushed) h = refl
-  session_unpopped (hub_changed number (layer_popped given)) h = absurd cc
-  session_unpopped (client_added key options) h = refl
-  session_unpopped (client_cloned key original) h = refl
-  session_unpopped (hub_made number stack) h = refl
-  session_unpopped (hub_made_from number maker) h = refl
-  session_unpopped (hub_released number) h = refl
-  session_unpopped (losses_absorbed label losses) h = refl
-  session_unpopped (report_taken label report) h = refl
-  session_unpopped (session_begun number id) h = refl
-  session_unpopped (client_dropped number) h = refl
-  session_unpopped (came_to_queues kind) h = refl
-
-  unpopped-at : (b : Bool) (effect : Effect P C) (rest : List (Effect P C)) → is_own effect ≡ b
-      → (list_any is_popped (own_effects rest) ≡ false → list_any is_popped rest ≡ false)
-      → list_any is_popped (cond b (effect ∷ own_effects rest) (own_effects rest)) ≡ false
-      → list_any is_popped (effect ∷ rest) ≡ false
-  unpopped-at true effect rest e h some = ap (λ b. b || list_any is_popped rest) (or_left (is_popped effect) _ some)
-      ∙ h (or_right (is_popped effect) _ some)
-  unpopped-at false effect rest e h some = ap (λ b. b || list_any is_popped rest) (session_unpopped effect e) ∙ h some
-
-  unpopped : (some : List (Effect P C)) → list_any is_popped (own_effects some) ≡ false
-      → list_any is_popped some ≡ false
-  unpopped [] h = refl
-  unpopped (effect ∷ rest) h = unpopped-at (is_own effect) effect rest refl (unpopped rest) h
-
-  client_unpopped : (made : Reply P C) (go : ClientKey → Effect P C) → ((key : ClientKey) → is_popped (go key) ≡ false)
-      → list_any is_popped (on_client made go) ≡ false
-  client_unpopped (reply.Client key) go h = ap (λ b. b || false) (h key)
-  client_unpopped _ go h = refl
-
-  hub_unpopped : (made : Reply P C) (go : ℕ → Effect P C) → ((number : ℕ) → is_popped (go number) ≡ false)
-      → list_any is_popped (on_hub made go) ≡ false
-  hub_unpopped (reply.Hub key) go h = ap (λ b. b || false) (h key.number)
-  hub_unpopped _ go h = refl
-
   client_call_unpopped : (call : ClientCall P C) (made : Reply P C)
       → list_any is_popped (client_effects meanings call made) ≡ false
-  client_call_unpopped (AddClient options transport label now) made = client_unpopped made _ (λ key. refl)
-  client_call_unpopped (CloneClient client now) made = client_unpopped made _ (λ key. refl)
-  client_call_unpopped (TakeReport label) made = report_unpopped made label
-    where
-      report_unpopped : (made : Reply P C) (label : Label)
-          → list_any is_popped (on_report made (λ report. report_taken label report)) ≡ false
-      report_unpopped (reply.Report report) label = refl
-      report_unpopped _ label = refl
+  client_call_unpopped (AddClient options transport label now) (reply.Client key) = refl
+  client_call_unpopped (AddClient options transport label now) _ = refl
+  client_call_unpopped (CloneClient client now) (reply.Client key) = refl
+  client_call_unpopped (CloneClient client now) _ = refl
+  client_call_unpopped (TakeReport label) (reply.Report report) = refl
+  client_call_unpopped (TakeReport label) _ = refl
   client_call_unpopped call made = refl
 
-  hub_call_unpopped : (call : HubCall P) (made : Reply P C) → pops {P = P} {C = C} n (length base) (group.Hub call)
-      ≡ false → list_any is_popped (hub_effects {C = C} meanings call made) ≡ false
-  hub_call_unpopped (NewHub client scope) made h = hub_unpopped made _ (λ key. refl)
-  hub_call_unpopped (NewHubFromTop hub) made h = hub_unpopped made _ (λ key. refl)
+  hub_call_unpopped : (call : HubCall P) (made : Reply P C) → pops_hub {P = P} {C = C} n (group.Hub call) ≡ false
+      → list_any is_popped (hub_effects meanings call made) ≡ false
+  hub_call_unpopped (NewHub client scope) (reply.Hub key) h = refl
+  hub_call_unpopped (NewHub client scope) _ h = refl
+  hub_call_unpopped (NewHubFromTop hub) (reply.Hub key) h = refl
+  hub_call_unpopped (NewHubFromTop hub) _ h = refl
   hub_call_unpopped (PopScope hub given now) made h = ap (λ b. b || false) h
   hub_call_unpopped call made h = refl
 
-  call_unpopped : (call : Call P C) (made : Reply P C) → pops n (length base) call ≡ false
+  call_unpopped : (call : Call P C) (made : Reply P C) → pops_hub n call ≡ false
       → list_any is_popped (effects meanings call made) ≡ false
   call_unpopped (group.Client call) made h = client_call_unpopped call made
   call_unpopped (group.Hub call) made h = hub_call_unpopped call made h
   call_unpopped (group.Span call) made h = refl
 
 -- ---- runs
-
-module _ {P C : Type 0} (gives : P → Partial) (meanings : C → Meanings) (n : ℕ) (base : List (StackLayer P)) where
-  on_next : (call : Call P C) (out : Out (Reply P C)) (world next : World P C) → 0 < length base
-      → pops n (length base) call ≡ false → StepsTo gives meanings world call (Ok out) next
-      → OnBase {C = C} meanings n base world → OnBase {C = C} meanings n base next
-  on_next call out world next long keeps may o =
-      let after = (step gives meanings call world).after in
-      let trail : Trail meanings (handed_in call) world (effects meanings call out.reply) out.sent after =
-      subst (λ answer. TellsBy meanings (handed_in call) world (effects meanings call) answer after) may.0
-      (told_step gives meanings call world).tells in
-      let none : list_any (is_popped meanings n base) (own_effects trail.effects) ≡ false =
-      ap (list_any (is_popped meanings n base)) trail.same ∙ call_unpopped meanings n base call out.reply keeps in
-      subst (OnBase meanings n base) (sym may.1)
-      (on_changes meanings n base trail.changes long (unpopped meanings n base trail.effects none) o)
 
 module _ {P C : Type 0} where
   abbrev reply_in : Result (Out (Reply P C)) Refusal → Reply P C
@@ -397,9 +297,9 @@ module _ {P C : Type 0} (gives : P → Partial) (meanings : C → Meanings) wher
       (with_hub first key (with_stack hub (push hub.stack))))).answer ≡ Ok opened
       → open_ ≡ (require_some {P = P} {C = C} {T = HubKey × ℕ} Stale first o
       (λ hub. reply_with (key, depth (push hub.stack)) [] (with_hub first key (with_stack hub (push hub.stack))))).after
-      → opened.reply ≡ reply.Depth deep → AreBelow 0 first.next.hub first.hubs → Opened first open_ key.number deep
-  opened_from first open_ key deep opened None at answer after replied below = absurd cc
-  opened_from first open_ key deep opened (Some hub) at answer after replied below =
+      → opened.reply ≡ reply.Depth deep → Opened first open_ key.number deep
+  opened_from first open_ key deep opened None at answer after replied = absurd cc
+  opened_from first open_ key deep opened (Some hub) at answer after replied =
       let here = found_under first.tag first.hubs key.tag key.number hub at in
       let new : HubState P = with_stack hub (push hub.stack) in
       record {
@@ -410,16 +310,15 @@ module _ {P C : Type 0} (gives : P → Partial) (meanings : C → Meanings) wher
           hub = new;
           found = own_replaced first.hubs key.number new hub here;
           on = ([], sym (append-nil (layers hub.stack)));
-          hubs = below_replaced 0 first.next.hub key.number new first.hubs below;
         });
       }
 
   opened_by : (first open_ : World P C) (key : HubKey) (deep : ℕ) (opened : Out (Reply P C)) → StepsTo gives meanings first
       (group.Hub (PushScope key)) (Ok opened) open_
-      → opened.reply ≡ reply.Depth deep → AreBelow 0 first.next.hub first.hubs → Opened first open_ key.number deep
+      → opened.reply ≡ reply.Depth deep → Opened first open_ key.number deep
   unfolding hub_step layer_calls.push_scope
-  opened_by first open_ key deep opened may replied below = opened_from first open_ key deep opened (hub_at first key)
-      refl may.0 may.1 replied below
+  opened_by first open_ key deep opened may replied = opened_from first open_ key deep opened (hub_at first key)
+      refl may.0 may.1 replied
 
   -- what a pop leaves
   record Closed (middle last : World P C) (n deep : ℕ) : Type 0 where
@@ -475,6 +374,62 @@ module _ {P C : Type 0} (gives : P → Partial) (meanings : C → Meanings) wher
   closed_by middle last key given now closed may = closed_from middle last key given now closed (hub_at middle key)
       refl may.0 may.1
 
+  -- any other pop of the hub leaves it on them
+  on_other_pop : (n : ℕ) (base : List (StackLayer P)) (middle last : World P C) (given : ℕ) → Closed middle last n given
+      → (given == length base) ≡ false → OnBase {C = C} meanings n base middle → OnBase {C = C} meanings n base last
+  on_other_pop n base middle last given c apart m = by_hub (value_at last.hubs n) refl c.after
+    where
+      below : StandsOn {C = C} meanings n base c.hub.stack
+      below = subst (λ (h : HubState P). StandsOn {C = C} meanings n base h.stack)
+          (same_value (value_at middle.hubs n) m.hub c.hub m.found c.found) m.on
+
+      by_hub : (o : Option (HubState P)) → value_at last.hubs n ≡ o
+          → option_map (λ (hub : HubState P). hub.stack) o ≡ Some (pop c.hub.stack)
+          → OnBase {C = C} meanings n base last
+      by_hub None at is = absurd cc
+      by_hub (Some hub) at is =
+          let same : hub.stack ≡ pop c.hub.stack = cc in
+          record {
+            hub = hub;
+            found = at;
+            on = subst (StandsOn {C = C} meanings n base) (sym same)
+                (pop_on {C = C} meanings n base c.hub.stack given c.deep_is apart below);
+          }
+
+  on_pop : (n : ℕ) (base : List (StackLayer P)) (key : HubKey) (given now : ℕ) (out : Out (Reply P C))
+      (world next : World P C) → (b : Bool) → (n == key.number) ≡ b
+      → pops {P = P} {C = C} n (length base) (group.Hub (PopScope key given now)) ≡ false
+      → StepsTo gives meanings world (group.Hub (PopScope key given now)) (Ok out) next
+      → (pops_hub {P = P} {C = C} n (group.Hub (PopScope key given now)) ≡ false → OnBase {C = C} meanings n base next)
+      → OnBase {C = C} meanings n base world → OnBase {C = C} meanings n base next
+  on_pop n base key given now out world next false e keeps may rest o = rest e
+  on_pop n base key given now out world next true e keeps may rest o =
+      let same : n ≡ key.number = same_number n key.number e in
+      let own : (key.number == n) ≡ true = eq-eqb key.number n (sym same) in
+      on_other_pop n base world next given
+      (subst (λ k. Closed world next k given) (sym same) (closed_by world next key given now out may))
+      (sym (ap (λ (b : Bool). b && (given == length base)) own) ∙ keeps) o
+
+  on_next : (n : ℕ) (base : List (StackLayer P)) (call : Call P C) (out : Out (Reply P C)) (world next : World P C)
+      → 0 < length base → pops n (length base) call ≡ false → StepsTo gives meanings world call (Ok out) next
+      → IsNumbered world → OnBase {C = C} meanings n base world → OnBase {C = C} meanings n base next
+  on_next n base call out world next long keeps may k o = by_call call keeps may
+    where
+      unpopped : (call : Call P C) → StepsTo gives meanings world call (Ok out) next → pops_hub n call ≡ false
+          → OnBase {C = C} meanings n base next
+      unpopped call may calm =
+          let trail = trail_of gives meanings call out world next may in
+          on_changes meanings n base trail.changes long
+          (sym (own_any (is_popped meanings n base) (λ number session. refl) trail.effects)
+          ∙ (ap (list_any (is_popped meanings n base)) trail.same ∙ call_unpopped meanings n base call out.reply calm)) k o
+
+      by_call : (call : Call P C) → pops n (length base) call ≡ false → StepsTo gives meanings world call (Ok out) next
+          → OnBase {C = C} meanings n base next
+      by_call (group.Hub (PopScope key given now)) keeps may =
+          on_pop n base key given now out world next (n == key.number) refl keeps may
+          (unpopped (group.Hub (PopScope key given now)) may) o
+      by_call call keeps may = unpopped call may refl
+
   -- the pop of the layer that stands on these leaves them
   left_by : (n : ℕ) (stack : Stack P) (middle last : World P C) (given : ℕ) → Closed middle last n given
       → given ≡ length (layers stack) → OnBase {C = C} meanings n (layers stack) middle → stack_at last n ≡ Some stack
@@ -493,9 +448,9 @@ module _ {P C : Type 0} (gives : P → Partial) (meanings : C → Meanings) wher
       → StepsTo gives meanings world (group.Hub call) (Ok out) next → OnBase {C = C} meanings n (layers stack) world
       → stack_at next n ≡ Some stack
   popped_hub n stack (PopScope hub given now) out world next is may m =
-      let number : hub.number ≡ n = same_number hub.number n (and_left (hub.number == n) _ is) in
+      let number : hub.number ≡ n = same_number hub.number n (and_parts (hub.number == n) _ is).0 in
       let deep : given ≡ length (layers stack) =
-      same_number given (length (layers stack)) (and_right (hub.number == n) _ is) in
+      same_number given (length (layers stack)) (and_parts (hub.number == n) _ is).1 in
       left_by n stack world next given
       (subst (λ k. Closed world next k given) number (closed_by world next hub given now out may)) deep m
   popped_hub n stack call out world next is may m = absurd cc
@@ -507,19 +462,23 @@ module _ {P C : Type 0} (gives : P → Partial) (meanings : C → Meanings) wher
   popped_by n stack (group.Client call) out world next is may m = absurd cc
   popped_by n stack (group.Span call) out world next is may m = absurd cc
 
+  numbered_by : (call : Call P C) (answer : Result (Out (Reply P C)) Refusal) (world next : World P C)
+      → StepsTo gives meanings world call answer next → IsNumbered world → IsNumbered next
+  numbered_by = kept_by_call gives meanings IsNumbered (λ given old new some sent c. numbered_change meanings c)
+
   restores : (n : ℕ) (stack : Stack P) (calls : List (Call P C)) (answers : List (Result (Out (Reply P C)) Refusal))
-      (world last : World P C) (run : Run gives meanings world calls answers last)
+      (world last : World P C) (run : Run gives meanings world calls answers last) → IsNumbered world
       → OnBase {C = C} meanings n (layers stack) world
       → PopLeaves gives meanings n (length (layers stack)) (Some stack) world calls answers last run
-  restores n stack [] answers world last run m = tt
-  restores n stack (call ∷ calls) [] world last run m = tt
-  restores n stack (call ∷ calls) (Err refusal ∷ answers) world last run m =
-      restores n stack calls answers run.0 last run.2
+  restores n stack [] answers world last run k m = tt
+  restores n stack (call ∷ calls) [] world last run k m = tt
+  restores n stack (call ∷ calls) (Err refusal ∷ answers) world last run k m =
+      restores n stack calls answers run.0 last run.2 (numbered_by call (Err refusal) world run.0 run.1 k)
       (subst (OnBase {C = C} meanings n (layers stack)) (sym run.1.1) m)
-  restores n stack (call ∷ calls) (Ok out ∷ answers) world last run m =
+  restores n stack (call ∷ calls) (Ok out ∷ answers) world last run k m =
       by_pop (pops n (length (layers stack)) call) refl
-      (λ keeps. restores n stack calls answers run.0 last run.2
-      (on_next gives meanings n (layers stack) call out world run.0 long keeps run.1 m))
+      (λ keeps. restores n stack calls answers run.0 last run.2 (numbered_by call (Ok out) world run.0 run.1 k)
+      (on_next n (layers stack) call out world run.0 long keeps run.1 k m))
     where
       long : 0 < length (layers stack)
       long = omega (arith, length-append stack.below (stack.top ∷ []))
@@ -539,17 +498,18 @@ module _ {P C : Type 0} (gives : P → Partial) (meanings : C → Meanings) wher
   undone world (call ∷ calls) (Err refusal ∷ answers) last run n = tt
   undone world (call ∷ calls) (Ok out ∷ answers) last run n = λ hub depth is replied.
       let pushed_ = subst (λ c. StepsTo gives meanings world c (Ok out) run.0) is run.1 in
-      let o : Opened world run.0 hub.number depth = opened_by world run.0 hub depth out pushed_ replied n.hubs in
+      let o : Opened world run.0 hub.number depth = opened_by world run.0 hub depth out pushed_ replied in
       subst (λ (s : Option (Stack P)). PopLeaves gives meanings hub.number depth s run.0 calls answers last run.2)
       (sym (ap (option_map (λ (h : HubState P). h.stack)) o.found))
       (subst (λ d. PopLeaves gives meanings hub.number d (Some o.hub.stack) run.0 calls answers last run.2) o.deep_is
-      (restores hub.number o.hub.stack calls answers run.0 last run.2 o.on))
+      (restores hub.number o.hub.stack calls answers run.0 last run.2
+      (numbered_by (group.Hub (PushScope hub)) (Ok out) world run.0 pushed_ n) o.on))
 
   pushes_undone : (calls : List (Call P C)) (answers : List (Result (Out (Reply P C)) Refusal)) (world last : World P C)
       (run : Run gives meanings world calls answers last) → IsNumbered world
       → PushesAreUndone gives meanings world calls answers last run
   pushes_undone = from_each_call gives meanings (UndoesPush gives meanings) IsNumbered
-      (kept_by_call gives meanings IsNumbered (λ given old new some sent c. numbered_change meanings c)) undone
+      numbered_by undone
 
   pub pop_undoes_push : PopUndoesPush gives meanings
   pop_undoes_push tag start earlier calls before answers first last reached run =

@@ -1,6 +1,7 @@
 -- Sessions that are held are named: what the calls keep by which layers give up their sessions.
 use Rattle.std.proofs.Common.{◌≡◌, refl, ap, ◌∙◌, sym, subst, ℕ, ◌+◌, List, [], ◌∷◌, Bool, true, false, length, arith, ◌⊎◌, inl, inr}
 use Rattle.std.proofs.lemmas.Bool.Decides.{nat_tests}
+use Rattle.std.proofs.lemmas.Bool.{and_parts, and_right}
 use Rattle.std.specs.Prelude.{Option, Some, None, if◌then◌else◌, ◌==◌, ◌&&◌, ◌||◌}
 use Rattle.std.specs.List.{list_any}
 use Rattle.sentry_plain.specs.Tables.{value_at, replace_at, without}
@@ -26,7 +27,7 @@ use Rattle.sentry_calls.specs.Hubs.{with_renames}
 use Rattle.sentry_laws.specs.Reachable.{SessionsAreNamed}
 use Rattle.sentry_laws.proofs.Tables.{AreBelow, below_put, own_replaced}
 use Rattle.sentry_laws.proofs.Found.{same_number, found_put}
-use Rattle.sentry_laws.proofs.Tests.{or_true, passes_found, passes_raised, passes_without, and_left, and_right}
+use Rattle.sentry_laws.proofs.Tests.{or_true, passes_found, passes_raised, passes_without}
 use Rattle.sentry_laws.proofs.Numbered.{IsNumbered}
 use Rattle.sentry_laws.proofs.Naming.{IsNamed, has_session, is_on, hub_replaced_named, without_before}
 use Rattle.sentry_laws.proofs.Parts.{end_part}
@@ -37,10 +38,6 @@ use Rattle.sentry_laws.proofs.SendingTrails.{some_sessions, queue_update_session
 other_way : (a b : ℕ) (c : Bool) → (a == b) ≡ c → (b == a) ≡ c
 other_way a b true e = grind (arith, nat_tests)
 other_way a b false e = grind (arith, nat_tests)
-
-and_false : (a b : Bool) → b ≡ false → (a && b) ≡ false
-and_false true b h = h
-and_false false b h = refl
 
 or_second : (a b : Bool) → a ≡ false → (a || b) ≡ true → b ≡ true
 or_second true b e h = absurd cc
@@ -62,9 +59,9 @@ not_next tag next key_tag number apart own false e = refl
 -- a key that is this one
 same_key : (key k : SessionKey) → is_session k (Some key) ≡ true → key ≡ k
 same_key key k e =
-    let tags : key.tag ≡ k.tag = same_number key.tag k.tag (and_left (key.tag == k.tag) (key.number == k.number) e) in
+    let tags : key.tag ≡ k.tag = same_number key.tag k.tag (and_parts (key.tag == k.tag) (key.number == k.number) e).0 in
     let numbers : key.number ≡ k.number =
-    same_number key.number k.number (and_right (key.tag == k.tag) (key.number == k.number) e) in
+    same_number key.number k.number (and_parts (key.tag == k.tag) (key.number == k.number) e).1 in
     λ i. record { tag = tags i; number = numbers i }
 
 module _ {P C : Type 0} where
@@ -112,7 +109,7 @@ module _ {P C : Type 0} where
   others_left world key k next sessions session below (inr e) at =
       let before = without_before next world.sessions key.number k.number session (k.tag == world.tag) below
       (subst (λ s. value_under world.tag s k.tag k.number ≡ Some session) e at) in
-      (before.1, and_false (key.tag == k.tag) (key.number == k.number) (other_way k.number key.number false before.0))
+      (before.1, and_right (key.tag == k.tag) (key.number == k.number) (other_way k.number key.number false before.0))
 
   -- a session that is still held after another one ended, was held, and is another one
   held_still : (key k : SessionKey) (now : ℕ) (world : World P C) (next : ℕ) (session : SessionHistory)

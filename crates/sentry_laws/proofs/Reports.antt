@@ -1,6 +1,7 @@
 -- What the reports of a label told is what its book says.
 use Rattle.std.proofs.Common.{◌≡◌, ◌<◌, ◌+◌, ◌%◌, ◌^◌, refl, ap, ◌∙◌, sym, subst, ℕ, List, [], ◌∷◌, ◌++◌, Bool, true, false, cond, arith, length, drop, inl, inr, ◌⊎◌}
 use Rattle.std.proofs.lemmas.Bool.Decides.{nat_tests}
+use Rattle.std.proofs.lemmas.Bool.{and_parts, or_parts, and_right}
 use Rattle.std.specs.Prelude.{Option, Some, None, Result, Ok, Err, ◌==◌, ◌&&◌, ◌||◌, slice_index, unwrap_or, option_to_list, if◌then◌else◌, nat_lt, ◌-◌}
 use Rattle.std.specs.List.{list_any}
 use Rattle.std.specs.Option.{is_some, option_and_then}
@@ -43,20 +44,21 @@ use Rattle.sentry_calls.specs.declared.call.hubs.HubCall.{HubCall}
 use Rattle.sentry_calls.specs.declared.call.hubs.HubCall.TheVariants.{NewHub, NewHubFromTop}
 use Rattle.sentry_calls.specs.declared.call.Reply.{Reply}
 use Rattle.sentry_calls.specs.declared.call.Reply.TheVariants as reply
-use Rattle.sentry_laws.proofs.Effects.{Effect, client_added, client_cloned, hub_made, hub_made_from, hub_changed, hub_released, losses_absorbed, report_taken, session_begun, client_dropped, came_to_queues, effects, client_effects, hub_effects, on_client, on_hub, on_report}
+use Rattle.sentry_laws.specs.OwnCalls.{client_added, client_cloned}
+use Rattle.sentry_laws.proofs.Tests.{any_first, any_second}
+use Rattle.sentry_laws.proofs.Effects.{Effect, seen, session_named, report_taken, effects, client_effects, hub_effects}
 use Rattle.sentry_laws.proofs.Changes.{Change, Changes, nothing, one, both, is_batch_or_report, Arrival, log_came, metric_came, session_ended, flush_came, after_arrival, envelopes_on_arrival, makes_hub, makes_hub_from, changes_hub, leaves_hub, notes_event_id, releases_hub, adds_client, clones_client, drops_client, arrives, accepts, accepts_none, mails, loses, takes_report, absorbs, starts_none, starts_session, changes_session, ends_session, starts_transaction, starts_span, changes_spans}
 use Rattle.sentry_laws.specs.Losses.{told_by, reported}
 use Rattle.sentry_laws.specs.Reports.{told_by_item, told_by_items, own_items, told_by_envelopes, has_label, told_by_reply, told_by_answer, history_of, told_since, ReportsAddUp}
 use Rattle.sentry_laws.specs.SentItems.{handed_in, batches_among}
-use Rattle.sentry_laws.proofs.Found.{same_number, found_put, found_replaced, found_without}
+use Rattle.sentry_laws.proofs.Found.{same_number, found_put, found_replaced, found_without, own_number, other_way, left_over}
 use Rattle.sentry_laws.proofs.Increasing.{without_if}
 use Rattle.sentry_laws.proofs.Keeping.{trail_of, kept_by_call}
-use Rattle.sentry_laws.proofs.LabelBooks.{HasBooks, books_change, changed_books, entered_books, no_books, label_known, arrival_label, own_number}
+use Rattle.sentry_laws.proofs.LabelBooks.{HasBooks, books_change, changed_books, entered_books, no_books, label_known, arrival_label, kept_books}
 use Rattle.sentry_laws.proofs.Losses.{books_balance}
 use Rattle.sentry_laws.proofs.SentBatches.{all_batches}
 use Rattle.sentry_laws.proofs.SentKinds.{session_none, flushed_none}
-use Rattle.sentry_laws.proofs.Tests.{or_left, or_right, and_left, and_right}
-use Rattle.sentry_laws.proofs.Trails.{found_under, is_own, own_effects}
+use Rattle.sentry_laws.proofs.Trails.{found_under, own_effects, own_any}
 
 -- ---- what items tell
 
@@ -97,8 +99,8 @@ plain_items : (i : ℕ) (items : List EnvelopeItem) → list_any is_batch_or_rep
     → told_by_items i items ≡ 0
 plain_items i [] h = refl
 plain_items i (first ∷ rest) h =
-    ap (λ n. n + told_by_items i rest) (plain_item i first (or_left (is_batch_or_report first) _ h))
-    ∙ (zero_more (told_by_items i rest) ∙ plain_items i rest (or_right (is_batch_or_report first) _ h))
+    ap (λ n. n + told_by_items i rest) (plain_item i first (or_parts (is_batch_or_report first) _ h).0)
+    ∙ (zero_more (told_by_items i rest) ∙ plain_items i rest (or_parts (is_batch_or_report first) _ h).1)
 
 told_more : (i : ℕ) (items : List EnvelopeItem) (report : ClientReport)
     → told_by_items i (items ++ item.ClientReport report ∷ []) ≡ told_by_items i items + slice_index
@@ -190,60 +192,28 @@ module _ (label : Label) (i : ℕ) where
     told_by_effects [] = 0
     told_by_effects (effect ∷ rest) = told_by_effect effect + told_by_effects rest
 
-    session_silent : (effect : Effect P C) → is_own effect ≡ false → told_by_effect effect ≡ 0
-    session_silent (report_taken other report) h = absurd cc
-    session_silent (client_added key options) h = refl
-    session_silent (client_cloned key original) h = refl
-    session_silent (hub_made number stack) h = refl
-    session_silent (hub_made_from number maker) h = refl
-    session_silent (hub_changed number change) h = refl
-    session_silent (hub_released number) h = refl
-    session_silent (losses_absorbed other losses) h = refl
-    session_silent (session_begun number id) h = refl
-    session_silent (client_dropped number) h = refl
-    session_silent (came_to_queues kind) h = refl
-
-    own-by : (b : Bool) (effect : Effect P C) (rest : List (Effect P C)) → is_own effect ≡ b
-        → told_by_effects (own_effects rest) ≡ told_by_effects rest
-        → told_by_effects (cond b (effect ∷ own_effects rest) (own_effects rest)) ≡ told_by_effects (effect ∷ rest)
-    own-by true effect rest e h = ap (λ n. told_by_effect effect + n) h
-    own-by false effect rest e h =
-        h ∙ (sym (zero_more (told_by_effects rest)) ∙ ap (λ n. n + told_by_effects rest)
-        (sym (session_silent effect e)))
-
     told_by_own : (some : List (Effect P C)) → told_by_effects (own_effects some) ≡ told_by_effects some
     told_by_own [] = refl
-    told_by_own (effect ∷ rest) = own-by (is_own effect) effect rest refl (told_by_own rest)
-
-    told-client : (made : Reply P C) (go : ClientKey → Effect P C) → ((key : ClientKey) → told_by_effect (go key) ≡ 0)
-        → told_by_effects (on_client made go) ≡ 0
-    told-client (reply.Client key) go h = ap (λ n. n + 0) (h key)
-    told-client _ go h = refl
-
-    told-hub : (made : Reply P C) (go : ℕ → Effect P C) → ((number : ℕ) → told_by_effect (go number) ≡ 0)
-        → told_by_effects (on_hub made go) ≡ 0
-    told-hub (reply.Hub key) go h = ap (λ n. n + 0) (h key.number)
-    told-hub _ go h = refl
-
-    told-report : (other : Label) (made : Reply P C)
-        → told_by_effects (on_report made (λ report. report_taken other report)) ≡ told_by_reply label i
-        (group.Client (TakeReport other)) made
-    told-report other (reply.Report report) =
-        no_more (if is_label label other then slice_index (told_by report) i else 0)
-    told-report other _ = refl
+    told_by_own (session_named number session ∷ rest) = told_by_own rest ∙ sym (zero_more (told_by_effects rest))
+    told_by_own (effect ∷ rest) = ap (λ n. told_by_effect effect + n) (told_by_own rest)
 
     told_by_client_call : (meanings : C → Meanings) (call : ClientCall P C) (made : Reply P C)
         → told_by_effects (client_effects meanings call made) ≡ told_by_reply label i (group.Client call) made
-    told_by_client_call meanings (AddClient options transport other now) made = told-client made _ (λ key. refl)
-    told_by_client_call meanings (CloneClient client now) made = told-client made _ (λ key. refl)
-    told_by_client_call meanings (TakeReport other) made = told-report other made
-    told_by_client_call meanings (Absorb other lost) made = refl
+    told_by_client_call meanings (AddClient options transport other now) (reply.Client key) = refl
+    told_by_client_call meanings (AddClient options transport other now) _ = refl
+    told_by_client_call meanings (CloneClient client now) (reply.Client key) = refl
+    told_by_client_call meanings (CloneClient client now) _ = refl
+    told_by_client_call meanings (TakeReport other) (reply.Report report) =
+        no_more (if is_label label other then slice_index (told_by report) i else 0)
+    told_by_client_call meanings (TakeReport other) _ = refl
     told_by_client_call meanings call made = refl
 
     told_by_hub_call : (meanings : C → Meanings) (call : HubCall P) (made : Reply P C)
         → told_by_effects (hub_effects {C = C} meanings call made) ≡ 0
-    told_by_hub_call meanings (NewHub client scope) made = told-hub made _ (λ number. refl)
-    told_by_hub_call meanings (NewHubFromTop hub) made = told-hub made _ (λ number. refl)
+    told_by_hub_call meanings (NewHub client scope) (reply.Hub key) = refl
+    told_by_hub_call meanings (NewHub client scope) _ = refl
+    told_by_hub_call meanings (NewHubFromTop hub) (reply.Hub key) = refl
+    told_by_hub_call meanings (NewHubFromTop hub) _ = refl
     told_by_hub_call meanings call made = refl
 
     told_by_call : (meanings : C → Meanings) (call : Call P C) (made : Reply P C)
@@ -256,30 +226,9 @@ module _ (label : Label) (i : ℕ) where
 
   -- a client is added
   abbrev is_added : {P C : Type 0} → Effect P C → Bool
-  is_added (client_added key options) = true
-  is_added (client_cloned key original) = true
+  is_added (seen (client_added key options)) = true
+  is_added (seen (client_cloned key original)) = true
   is_added _ = false
-
-  or_both : (a b c : Bool) → (a || b) ≡ false → (b ≡ false → c ≡ false) → (a || c) ≡ false
-  or_both true b c h k = h
-  or_both false b c h k = k h
-
-  unnamed_added : {P C : Type 0} (effect : Effect P C) → is_own effect ≡ false → is_added effect ≡ false
-  unnamed_added (client_added key options) h = absurd cc
-  unnamed_added (client_cloned key original) h = absurd cc
-  unnamed_added _ h = refl
-
-  added-by : {P C : Type 0} (b : Bool) (effect : Effect P C) (rest : List (Effect P C)) → is_own effect ≡ b
-      → (list_any is_added (own_effects rest) ≡ false → list_any is_added rest ≡ false)
-      → list_any is_added (cond b (effect ∷ own_effects rest) (own_effects rest)) ≡ false
-      → list_any is_added (effect ∷ rest) ≡ false
-  added-by true effect rest e k h = or_both (is_added effect) _ _ h k
-  added-by false effect rest e k h = ap (λ b. b || list_any is_added rest) (unnamed_added effect e) ∙ k h
-
-  added_own : {P C : Type 0} (some : List (Effect P C)) → list_any is_added (own_effects some) ≡ false
-      → list_any is_added some ≡ false
-  added_own [] h = refl
-  added_own (effect ∷ rest) h = added-by (is_own effect) effect rest refl (added_own rest) h
 
   module _ {P C : Type 0} where
     abbrev adds_one : ClientCall P C → Bool
@@ -291,23 +240,16 @@ module _ (label : Label) (i : ℕ) where
         → list_any is_added (client_effects meanings call made) ≡ false
     client_unadded meanings (AddClient options transport other now) made h = absurd cc
     client_unadded meanings (CloneClient client now) made h = absurd cc
-    client_unadded meanings (TakeReport other) made h = unadded-report other made
-      where
-        unadded-report : (other : Label) (made : Reply P C)
-            → list_any is_added (on_report {P = P} {C = C} made (λ report. report_taken other report)) ≡ false
-        unadded-report other (reply.Report report) = refl
-        unadded-report other _ = refl
+    client_unadded meanings (TakeReport other) (reply.Report report) h = refl
+    client_unadded meanings (TakeReport other) _ h = refl
     client_unadded meanings call made h = refl
-
-    unadded-hub : (made : Reply P C) (go : ℕ → Effect P C) → ((number : ℕ) → is_added (go number) ≡ false)
-        → list_any is_added (on_hub made go) ≡ false
-    unadded-hub (reply.Hub key) go h = ap (λ b. b || false) (h key.number)
-    unadded-hub _ go h = refl
 
     hub_unadded : (meanings : C → Meanings) (call : HubCall P) (made : Reply P C)
         → list_any is_added (hub_effects {C = C} meanings call made) ≡ false
-    hub_unadded meanings (NewHub client scope) made = unadded-hub made _ (λ number. refl)
-    hub_unadded meanings (NewHubFromTop hub) made = unadded-hub made _ (λ number. refl)
+    hub_unadded meanings (NewHub client scope) (reply.Hub key) = refl
+    hub_unadded meanings (NewHub client scope) _ = refl
+    hub_unadded meanings (NewHubFromTop hub) (reply.Hub key) = refl
+    hub_unadded meanings (NewHubFromTop hub) _ = refl
     hub_unadded meanings call made = refl
 
   append_told : (of_label : ClientKey → Bool) (given : Option Envelope) (sent more : List (ClientKey × Envelope))
@@ -340,11 +282,6 @@ module _ (label : Label) (i : ℕ) where
       none_if : (b : Bool) → ◌≡◌ {A = ℕ} (if b then 0 else 0) 0
       none_if true = refl
       none_if false = refl
-
-  left_over : (b : Bool) (o : Option (List LossEntry)) (history : List LossEntry) → (if b then None else o)
-      ≡ Some history → o ≡ Some history
-  left_over true o history h = absurd cc
-  left_over false o history h = h
 
   module _ (low : i < 63) (of_label : ClientKey → Bool) {P C : Type 0} where
     -- what was told is what the book of the label says, and these are the clients that have the label
@@ -395,15 +332,8 @@ module _ (label : Label) (i : ℕ) where
         ap (λ n. n + more) (adds held (ap (value_at world.books) numbers ∙ at))
         ∙ (sym (tells is) ∙ ap (λ h. reported h i) same)
     entry-by told more world other entry held history own of_engine at tells silent adds false e found =
-        ap (λ n. told + n) (silent (apart (other.tag == label.tag) (other.number == label.number)
+        ap (λ n. told + n) (silent (and_right (other.tag == label.tag) (other.number == label.number)
         (other_way other.number label.number ∙ e))) ∙ (no_more told ∙ adds history found)
-      where
-        other_way : (a b : ℕ) → (a == b) ≡ (b == a)
-        other_way a b = grind (arith, nat_tests)
-
-        apart : (a b : Bool) → b ≡ false → (a && b) ≡ false
-        apart true b h = h
-        apart false b h = refl
 
     entered-some : (told more : ℕ) (world : World P C) (other : Label) (entry : LossEntry) (o : Option (List LossEntry))
         → value_at world.books other.number ≡ o → is_some o ≡ true → (other.tag == world.tag) ≡ true
@@ -429,7 +359,7 @@ module _ (label : Label) (i : ℕ) where
       books = books;
       labels = a.labels;
       adds = entered-some told more world other entry (value_at world.books other.number) refl
-          (and_right (other.tag == world.tag) _ has) (and_left (other.tag == world.tag) _ has) tells silent a.adds;
+          (and_parts (other.tag == world.tag) _ has).1 (and_parts (other.tag == world.tag) _ has).0 tells silent a.adds;
     }
 
     -- what a report of what is pending tells
@@ -557,17 +487,6 @@ module _ (label : Label) (i : ℕ) where
       adds_change : {old new : World P C} {some : List (Effect P C)} {sent : List (ClientKey × Envelope)}
           → Change meanings given old some sent new → list_any is_added some ≡ false → HasBooks new
           → (told : ℕ) → Adds told old → Adds (More told some sent) new
-      adds_change (makes_hub world client scope held active) none books told a =
-          still told world _ books refl refl refl a
-      adds_change (makes_hub_from world maker hub found) none books told a = still told world _ books refl refl refl a
-      adds_change (changes_hub world number old new change found fits allowed) none books told a =
-          still told world _ books refl refl refl a
-      adds_change (leaves_hub world number hub change found fits) none books told a =
-          still told world _ books refl refl refl a
-      adds_change (notes_event_id world number old new found same) none books told a =
-          still told world _ books refl refl refl a
-      adds_change (releases_hub world number hub found alone) none books told a =
-          still told world _ books refl refl refl a
       adds_change (adds_client world client now queues open_ of_engine) none books told a = absurd cc
       adds_change (clones_client world original client now found) none books told a = absurd cc
       adds_change (drops_client world key client other found same unnamed) none books told a =
@@ -636,17 +555,7 @@ module _ (label : Label) (i : ℕ) where
       adds_change (absorbs world other losses has) none books told a =
           same_told told (told + 0) _ (no_more told) (silent_entry told world other (drained_losses losses) books has
           (λ held. refl) a)
-      adds_change (starts_none world number id) none books told a = still told world _ books refl refl refl a
-      adds_change (accepts_none world kind) none books told a = still told world _ books refl refl refl a
-      adds_change (starts_session world number start) none books told a = still told world _ books refl refl refl a
-      adds_change (changes_session world number old new later found same) none books told a =
-          still told world _ books refl refl refl a
-      adds_change (ends_session world number) none books told a = still told world _ books refl refl refl a
-      adds_change (starts_transaction world state new_) none books told a = still told world _ books refl refl refl a
-      adds_change (starts_span world parent place held found of_ traced) none books told a =
-          still told world _ books refl refl refl a
-      adds_change (changes_spans world transactions spans change) none books told a =
-          still told world _ books refl refl refl a
+      adds_change _ none books told a = still told _ _ books refl refl refl a
 
       adds_changes : {old new : World P C} {some : List (Effect P C)} {sent : List (ClientKey × Envelope)}
           → Changes meanings given old some sent new → list_any is_added some ≡ false
@@ -660,25 +569,11 @@ module _ (label : Label) (i : ℕ) where
           (append_effects first second)
           ∙ four told (told_by_envelopes i of_label given sent) (told_by_envelopes i of_label given more)
           (told_by_effects first) (told_by_effects second)))
-          (adds_changes u (any_second first second none) (More told first sent)
-          (adds_changes t (any_first first second none) told a))
+          (adds_changes u (any_second is_added first second none) (More told first sent)
+          (adds_changes t (any_first is_added first second none) told a))
         where
           four : (t a b c d : ℕ) → t + (a + b + (c + d)) ≡ t + (a + c) + (b + d)
           four t a b c d = omega arith
-
-          any_first : (first second : List (Effect P C)) → list_any is_added (first ++ second) ≡ false
-              → list_any is_added first ≡ false
-          any_first [] second h = refl
-          any_first (effect ∷ rest) second h = or_both (is_added effect) _ _ h (any_first rest second)
-            where
-              or_both : (a b c : Bool) → (a || b) ≡ false → (b ≡ false → c ≡ false) → (a || c) ≡ false
-              or_both true b c h k = h
-              or_both false b c h k = k h
-
-          any_second : (first second : List (Effect P C)) → list_any is_added (first ++ second) ≡ false
-              → list_any is_added second ≡ false
-          any_second [] second h = h
-          any_second (effect ∷ rest) second h = any_second rest second (or_right (is_added effect) _ h)
 
 -- ---- runs
 
@@ -770,7 +665,8 @@ module _ {P C : Type 0} (gives : P → Partial) (meanings : C → Meanings) wher
         let trail = trail_of gives meanings call out world next may in
         let of_label = λ (key : ClientKey). has_label label (client_at world key) in
         let none : list_any (is_added label i) trail.effects ≡ false =
-        added_own label i trail.effects (ap (list_any (is_added label i)) trail.same ∙ quiet) in
+        sym (own_any (is_added label i) (λ number session. refl) trail.effects)
+        ∙ (ap (list_any (is_added label i)) trail.same ∙ quiet) in
         let start : Adds label i low of_label told world = record {
           books = s.books;
           labels = λ key client at. ap (has_label label) at;
@@ -784,13 +680,7 @@ module _ {P C : Type 0} (gives : P → Partial) (meanings : C → Meanings) wher
         ∙ (ap (told_by_effects label i) trail.same ∙ told_by_call label i meanings call out.reply) in
         sums_next (told + told_by_answer label i world call (Ok out)) next last.books
         (λ has history at. ap (λ n. told + (told_by_envelopes i of_label (handed_in call) out.sent + n)) (sym same)
-        ∙ last.adds (and_left (label.tag == next.tag) _ (has_by next true last.books has)) history at)
-
-    kept_books : (call : Call P C) (answer : Result (Out (Reply P C)) Refusal) (world next : World P C)
-        → StepsTo gives meanings world call answer next → HasBooks world → HasBooks next
-    kept_books call answer world next may books =
-        kept_by_call gives meanings HasBooks (λ given old new some sent c. books_change meanings c)
-        call answer world next may books
+        ∙ last.adds (and_parts (label.tag == next.tag) _ (has_by next true last.books has)).0 history at)
 
     -- the book of a label after one of some label is there
     old_book : (other : ℕ) (books : List (ℕ × List LossEntry)) (history : List LossEntry) (told : ℕ)
@@ -834,8 +724,8 @@ module _ {P C : Type 0} (gives : P → Partial) (meanings : C → Meanings) wher
 
     own_before : (world next : World P C) → HasBooks next → next.tag ≡ world.tag
         → has_client_of label next.clients ≡ true → (label.tag == world.tag) ≡ true
-    own_before world next books same has = ap (λ t. label.tag == t) (sym same) ∙ and_left (label.tag == next.tag) _
-        (has_by next true books has)
+    own_before world next books same has = ap (λ t. label.tag == t) (sym same)
+        ∙ (and_parts (label.tag == next.tag) _ (has_by next true books has)).0
 
     sums_added : (options : ClientOptions C) (transport : Bool) (other : Label) (now : ℕ) (out : Out (Reply P C))
         (world next : World P C) (told : ℕ)
@@ -844,7 +734,7 @@ module _ {P C : Type 0} (gives : P → Partial) (meanings : C → Meanings) wher
     sums_added options transport other now out world next told may s =
         let call : Call P C = group.Client (AddClient options transport other now) in
         let a = client_added_by options transport other now out world next may in
-        let books = kept_books call (Ok out) world next may s.books in
+        let books = kept_books gives meanings call (Ok out) world next may s.books in
         let quiet : told + told_by_answer label i world call (Ok out) ≡ told =
         ap (λ answer. told + told_by_answer label i world call answer) a.0 ∙ no_more told in
         sums_next (told + told_by_answer label i world call (Ok out)) next books (λ has history at.
@@ -858,7 +748,7 @@ module _ {P C : Type 0} (gives : P → Partial) (meanings : C → Meanings) wher
     sums_cloned key now out world next told may s =
         let call : Call P C = group.Client (CloneClient key now) in
         let a = client_cloned_by key now out world next may in
-        let books = kept_books call (Ok out) world next may s.books in
+        let books = kept_books gives meanings call (Ok out) world next may s.books in
         let quiet : told + told_by_answer label i world call (Ok out) ≡ told =
         ap (λ answer. told + told_by_answer label i world call answer) a.0 ∙ no_more told in
         sums_next (told + told_by_answer label i world call (Ok out)) next books (λ has history at.
@@ -905,7 +795,7 @@ module _ {P C : Type 0} (gives : P → Partial) (meanings : C → Meanings) wher
       → has_client_of label last.clients ≡ true → told ≡ reported (history_of last label) i
   told_is label i low told last s has =
       by_book (value_at last.books label.number) refl
-      (and_right (label.tag == last.tag) _ (has_by label i low last true s.books has))
+      (and_parts (label.tag == last.tag) _ (has_by label i low last true s.books has)).1
     where
       by_book : (o : Option (List LossEntry)) → value_at last.books label.number ≡ o → is_some o ≡ true
           → told ≡ reported (unwrap_or o []) i

@@ -1,5 +1,6 @@
 -- Once the session of a layer was ended, each further end on that layer is silent, until a session starts on it.
 use Rattle.std.proofs.Common.{◌≡◌, ◌<◌, refl, ap, ◌∙◌, sym, subst, ℕ, zero, suc, ◌+◌, List, [], ◌∷◌, ◌++◌, Bool, true, false, cond, length, append_assoc, length-append, arith, ◌⊎◌, inl, inr}
+use Rattle.std.proofs.lemmas.Bool.{or_parts, eq-eqb}
 use Rattle.std.specs.Prelude.{Option, Some, None, Result, Ok, Err, if◌then◌else◌, ◌==◌, ◌||◌}
 use Rattle.std.specs.List.{list_any}
 use Rattle.std.specs.Option.{option_and_then}
@@ -19,6 +20,7 @@ use Rattle.sentry_options.specs.declared.clientoptions.ClientOptions.{ClientOpti
 use Rattle.sentry_scope.specs.declared.scope.stack.Stack.{Stack}
 use Rattle.sentry_scope.specs.declared.scope.stack.StackLayer.{StackLayer}
 use Rattle.sentry_scope.specs.Stacks.{push, pop, stack_of_any}
+use Rattle.sentry_hub_table.specs.Hubs.{with_session}
 use Rattle.sentry_hub_table.specs.declared.hub.HubState.{HubState}
 use Rattle.sentry_state.specs.declared.state.Out.{Out}
 use Rattle.sentry_state.specs.Worlds.{World, SessionHistory, starting_world}
@@ -37,19 +39,20 @@ use Rattle.sentry_calls.specs.Sessions as session_calls
 use Rattle.sentry_calls.specs.Runs.{StepsTo, Run}
 use Rattle.sentry_calls.specs.Replies.{map_answer}
 use Rattle.sentry_laws.specs.Sessions.{TopChange, covered, popped, started, ended, untouched, top_change, UntilStarted, EndsAreSilent, SecondEndIsSilent, SecondEndsAreSilent, EndsOnce}
-use Rattle.sentry_laws.proofs.Effects.{Effect, LayerChange, scope_edited, breadcrumbs_came, client_bound, layer_pushed, layer_popped, session_named, hub_changed, hub_made, hub_made_from, hub_released, losses_absorbed, report_taken, session_begun, client_dropped, came_to_queues, client_added, client_cloned, effects, client_effects, hub_effects, change_layers, add_under}
-use Rattle.sentry_laws.proofs.Changes.{IsGiven, Change, Changes, nothing, one, both, held_options, after_arrival, envelopes_on_arrival, makes_hub, makes_hub_from, changes_hub, leaves_hub, notes_event_id, releases_hub, adds_client, clones_client, drops_client, arrives, accepts, accepts_none, mails, loses, takes_report, absorbs, starts_none, starts_session, changes_session, ends_session, starts_transaction, starts_span, changes_spans}
+use Rattle.sentry_laws.specs.OwnCalls.{LayerChange, scope_edited, breadcrumbs_came, client_bound, layer_pushed, layer_popped, hub_changed, change_layers, add_under}
+use Rattle.sentry_laws.proofs.Effects.{Effect, seen, session_named, effects, client_effects, hub_effects}
+use Rattle.sentry_laws.proofs.Changes.{IsGiven, Change, Changes, nothing, one, both, held_options, after_arrival, envelopes_on_arrival, makes_hub, makes_hub_from, changes_hub, leaves_hub, sets_session, notes_event_id, releases_hub, adds_client, clones_client, drops_client, arrives, accepts, accepts_none, mails, loses, takes_report, absorbs, starts_none, starts_session, changes_session, ends_session, starts_transaction, starts_span, changes_spans}
 use Rattle.sentry_laws.proofs.Tables.{AreBelow, below_put, below_replaced, below_without, others_put}
 use Rattle.sentry_laws.proofs.Found.{same_number, found_replaced, found_without, all_without, found_below}
 use Rattle.sentry_laws.proofs.Increasing.{gone_}
-use Rattle.sentry_laws.proofs.Tests.{or_left, any_first, any_second, or_right}
+use Rattle.sentry_laws.proofs.Tests.{any_first, any_second}
 use Rattle.sentry_laws.proofs.Naming.{is_naming, is_begun}
-use Rattle.sentry_laws.proofs.Trails.{found_under, is_own, own_effects, neither}
+use Rattle.sentry_laws.proofs.Trails.{found_under, own_effects, own_any, neither}
 use Rattle.sentry_laws.proofs.Keeping.{trail_of}
 use Rattle.sentry_laws.proofs.SendingTrails.{ended_gone}
 use Rattle.sentry_laws.proofs.PushPop.{restored, front, popped_below}
 use Rattle.sentry_laws.proofs.PartsOfRuns.{from_each_call}
-use Rattle.sentry_laws.proofs.Sessions.{Counts, Watched, watched_next, counts_run, first_counts, under_by, none_under, equal_tags, end_is, none_ended, end_after, end_answer}
+use Rattle.sentry_laws.proofs.Sessions.{Counts, Watched, watched_next, counts_run, first_counts, under_by, none_under, end_is, none_ended, end_after, end_answer}
 
 front_length : {P : Type 0} (x : StackLayer P) (xs : List (StackLayer P)) → length (front x xs) ≡ length xs
 front_length x [] = refl
@@ -113,20 +116,19 @@ IsCovered _ = ⊥
 module _ {P : Type 0} where
   abbrev moved_layer : LayerChange P → ℕ → Option ℕ
   moved_layer layer_pushed above = Some (suc above)
-  moved_layer (layer_popped given) zero = None
-  moved_layer (layer_popped given) (suc above) = Some above
+  moved_layer layer_popped zero = None
+  moved_layer layer_popped (suc above) = Some above
   moved_layer _ above = Some above
 
   abbrev moved_by : LayerChange P → Option ℕ → Option ℕ
   moved_by change None = None
   moved_by change (Some above) = moved_layer change above
 
-popped_place : (P : Type 0) (b : Bool) (above given : ℕ)
-    → (if b then moved_layer {P = P} (layer_popped given) above else Some above)
+popped_place : (P : Type 0) (b : Bool) (above : ℕ) → (if b then moved_layer {P = P} layer_popped above else Some above)
     ≡ place_after (if b then popped else untouched) above
-popped_place P true zero given = refl
-popped_place P true (suc above) given = refl
-popped_place P false above given = refl
+popped_place P true zero = refl
+popped_place P true (suc above) = refl
+popped_place P false above = refl
 
 -- ---- a layer that names one of some sessions, or none
 
@@ -187,37 +189,35 @@ module _ (Q : Option SessionKey → Type 0) (none : Q None) where
     add_named above None breadcrumbs false stack h = h
     add_named above (Some options) breadcrumbs false stack h = same_top above stack _ refl refl h
 
-    change_named : (options : ClientKey → Option (ClientOptions C)) (number : ℕ) (change : LayerChange P) (above : ℕ)
-        (stack : Stack P) → (n == number) ≡ true
-        → (is_naming {P = P} {C = C} n (hub_changed number change) ≡ false) ⊎ IsCovered (Some above)
-        → HasName above stack
-        → HasNameAt (moved_layer change above) (change_layers meanings options change stack)
-    change_named options number (scope_edited edits) above stack own calm h = same_top above stack _ refl refl h
-    change_named options number (breadcrumbs_came breadcrumbs) above stack own calm h =
+    change_named : (options : ClientKey → Option (ClientOptions C)) (change : LayerChange P) (above : ℕ) (stack : Stack P)
+        → HasName above stack → HasNameAt (moved_layer change above) (change_layers meanings options change stack)
+    change_named options (scope_edited edits) above stack h = same_top above stack _ refl refl h
+    change_named options (breadcrumbs_came breadcrumbs) above stack h =
         add_named above (option_and_then options stack.top.client) breadcrumbs (length breadcrumbs == 0) stack h
-    change_named options number (client_bound client) above stack own calm h = same_top above stack _ refl refl h
-    change_named options number layer_pushed above stack own calm h = pushed above stack h
-    change_named options number (layer_popped given) zero stack own calm h = tt
-    change_named options number (layer_popped given) (suc above) stack own calm h = popped_one above stack h
-    change_named options number (session_named None) zero stack own calm h = none
-    change_named options number (session_named None) (suc above) stack own calm h = h
-    change_named options number (session_named (Some key)) zero stack own (inl c) h =
-        neither (n == number) c own
-    change_named options number (session_named (Some key)) zero stack own (inr c) h = absurd c
-    change_named options number (session_named (Some key)) (suc above) stack own calm h = h
+    change_named options (client_bound client) above stack h = same_top above stack _ refl refl h
+    change_named options layer_pushed above stack h = pushed above stack h
+    change_named options layer_popped zero stack h = tt
+    change_named options layer_popped (suc above) stack h = popped_one above stack h
 
-    place_named : (options : ClientKey → Option (ClientOptions C)) (number : ℕ) (change : LayerChange P)
-        (place : Option ℕ) (stack : Stack P) → (n == number) ≡ true
-        → (is_naming {P = P} {C = C} n (hub_changed number change) ≡ false) ⊎ IsCovered place
+    place_named : (options : ClientKey → Option (ClientOptions C)) (change : LayerChange P) (place : Option ℕ)
+        (stack : Stack P)
         → HasNameAt place stack → HasNameAt (moved_by change place) (change_layers meanings options change stack)
-    place_named options number change None stack own calm h = tt
-    place_named options number change (Some above) stack own calm h =
-        change_named options number change above stack own calm h
+    place_named options change None stack h = tt
+    place_named options change (Some above) stack h = change_named options change above stack h
+
+    session_on : (number : ℕ) (session : Option SessionKey) (place : Option ℕ) (hub : HubState P) → (n == number) ≡ true
+        → (is_naming {P = P} {C = C} n (session_named number session) ≡ false) ⊎ IsCovered place
+        → HasNameAt place hub.stack → HasNameAt place (with_session hub session).stack
+    session_on number session None hub own calm h = tt
+    session_on number session (Some (suc above)) hub own calm h = h
+    session_on number None (Some zero) hub own calm h = none
+    session_on number (Some key) (Some zero) hub own (inl c) h = neither (n == number) c own
+    session_on number (Some key) (Some zero) hub own (inr c) h = absurd c
 
     -- ---- the layer of a hub
 
     abbrev moved : Effect P C → Option ℕ → Option ℕ
-    moved (hub_changed number change) place = if n == number then moved_by change place else place
+    moved (seen (hub_changed number change)) place = if n == number then moved_by change place else place
     moved _ place = place
 
     abbrev moved_all : List (Effect P C) → Option ℕ → Option ℕ
@@ -225,8 +225,8 @@ module _ (Q : Option SessionKey → Type 0) (none : Q None) where
     moved_all (effect ∷ rest) place = moved_all rest (moved effect place)
 
     abbrev is_moving : Effect P C → Bool
-    is_moving (hub_changed number layer_pushed) = n == number
-    is_moving (hub_changed number (layer_popped given)) = n == number
+    is_moving (seen (hub_changed number layer_pushed)) = n == number
+    is_moving (seen (hub_changed number layer_popped)) = n == number
     is_moving _ = false
 
     record OnLayer (place : Option ℕ) (world : World P C) : Type 0 where
@@ -240,7 +240,7 @@ module _ (Q : Option SessionKey → Type 0) (none : Q None) where
 
     calm_one : (effect : Effect P C) (place : Option ℕ) → Calm (effect ∷ []) place
         → (is_naming n effect ≡ false) ⊎ IsCovered place
-    calm_one effect place (inl c) = inl (or_left (is_naming n effect) _ c)
+    calm_one effect place (inl c) = inl (or_parts (is_naming n effect) _ c).0
     calm_one effect place (inr c) = inr c.1
 
     layer_replaced : (b : Bool) (place other : Option ℕ) (world : World P C) (number : ℕ) (old new hub : HubState P)
@@ -253,6 +253,14 @@ module _ (Q : Option SessionKey → Type 0) (none : Q None) where
         subst (λ (h : HubState P). HasNameAt other h.stack) same
         (goes e (o.at old (ap (value_at world.hubs) (same_number n number e) ∙ found)))
     layer_replaced false place other world number old new hub found e goes o at = o.at hub at
+
+    layer_kept : (b : Bool) (place : Option ℕ) (world : World P C) (number : ℕ) (old new hub : HubState P)
+        → value_at world.hubs number ≡ Some old → (n == number) ≡ b
+        → ((n == number) ≡ true → HasNameAt place old.stack → HasNameAt place new.stack) → OnLayer place world
+        → (if b then Some new else value_at world.hubs n) ≡ Some hub → HasNameAt place hub.stack
+    layer_kept b place world number old new hub found e goes o at =
+        subst (λ p. HasNameAt p hub.stack) (other_place b place)
+        (layer_replaced b place place world number old new hub found e goes o at)
 
     layer_left : (b : Bool) (place other : Option ℕ) (world : World P C) (number : ℕ) (old hub : HubState P)
         → value_at world.hubs number ≡ Some old → (n == number) ≡ b
@@ -292,8 +300,7 @@ module _ (Q : Option SessionKey → Type 0) (none : Q None) where
       given = o.given;
       at = λ hub at. layer_replaced (n == number) place (moved_by change place) world number old new hub found refl
           (λ own h. subst (HasNameAt (moved_by change place)) (sym fits)
-          (place_named (held_options world) number change place old.stack own
-          (calm_one (hub_changed number change) place calm) h)) o
+          (place_named (held_options world) change place old.stack h)) o
           (sym (found_replaced world.hubs number n new old found) ∙ at);
     }
     layer_change (leaves_hub world number hub change found fits) place calm o = record {
@@ -301,34 +308,27 @@ module _ (Q : Option SessionKey → Type 0) (none : Q None) where
       given = o.given;
       at = λ held at. layer_left (n == number) place (moved_by change place) world number hub held found refl
           (λ own h. subst (HasNameAt (moved_by change place)) fits
-          (place_named (held_options world) number change place hub.stack own
-          (calm_one (hub_changed number change) place calm) h)) o at;
+          (place_named (held_options world) change place hub.stack h)) o at;
+    }
+    layer_change (sets_session world number hub session found given) place calm o = record {
+      hubs = below_replaced 0 world.next.hub number (with_session hub session) world.hubs o.hubs;
+      given = o.given;
+      at = λ held at. layer_kept (n == number) place world number hub _ held found refl
+          (λ own h. session_on number session place hub own (calm_one (session_named number session) place calm) h) o
+          (sym (found_replaced world.hubs number n (with_session hub session) hub found) ∙ at);
     }
     layer_change (notes_event_id world number old new found same) place calm o = record {
       hubs = below_replaced 0 world.next.hub number new world.hubs o.hubs;
       given = o.given;
-      at = λ hub at. noted (n == number) hub refl (sym (found_replaced world.hubs number n new old found) ∙ at);
+      at = λ hub at. layer_kept (n == number) place world number old new hub found refl
+          (λ own h. subst (HasNameAt place) (sym same) h) o (sym (found_replaced world.hubs number n new old found) ∙ at);
     }
-      where
-        noted : (b : Bool) (hub : HubState P) → (n == number) ≡ b
-            → (if b then Some new else value_at world.hubs n) ≡ Some hub → HasNameAt place hub.stack
-        noted true hub e at =
-            let is : new ≡ hub = cc in
-            subst (λ (h : HubState P). HasNameAt place h.stack) is (subst (HasNameAt place) (sym same)
-            (o.at old (ap (value_at world.hubs) (same_number n number e) ∙ found)))
-        noted false hub e at = o.at hub at
     layer_change (releases_hub world number hub found alone) place calm o = record {
       hubs = below_without 0 world.next.hub number world.hubs o.hubs;
       given = o.given;
       at = λ held at. all_without (λ (x : HubState P). HasNameAt place x.stack) (n == number) held (value_at world.hubs n)
           (λ z zat. o.at z zat) (sym (found_without 0 world.next.hub world.hubs number n o.hubs) ∙ at);
     }
-    layer_change (adds_client world client now queues open_ of_engine) place calm o =
-        record { hubs = o.hubs; given = o.given; at = o.at }
-    layer_change (clones_client world original client now found) place calm o =
-        record { hubs = o.hubs; given = o.given; at = o.at }
-    layer_change (drops_client world key client label found same unnamed) place calm o =
-        record { hubs = o.hubs; given = o.given; at = o.at }
     layer_change (arrives world key client arrival is_off found open_ came) place calm o =
         sending_layer place client.label (send key client (envelopes_on_arrival arrival client)
         (with_client_history world key (after_arrival arrival client))).sent
@@ -339,53 +339,28 @@ module _ (Q : Option SessionKey → Type 0) (none : Q None) where
         (with_client_history world key (after_arrival arrival client))).sent
         (with_client_history world key (after_arrival arrival client))
         (record { hubs = o.hubs; given = o.given; at = o.at })
-    layer_change (mails world key client envelope found occupied plain told_) place calm o =
-        record { hubs = o.hubs; given = o.given; at = o.at }
-    layer_change (loses world key client losses found) place calm o =
-        record { hubs = o.hubs; given = o.given; at = o.at }
-    layer_change (takes_report world label has) place calm o = record { hubs = o.hubs; given = o.given; at = o.at }
-    layer_change (absorbs world label losses has) place calm o = record { hubs = o.hubs; given = o.given; at = o.at }
-    layer_change (starts_none world number id) place calm o = o
-    layer_change (accepts_none world kind) place calm o = o
-    layer_change (starts_session world number start) place calm o =
-        record { hubs = o.hubs; given = o.given; at = o.at }
-    layer_change (changes_session world number old new later found same) place calm o =
-        record { hubs = o.hubs; given = o.given; at = o.at }
-    layer_change (ends_session world number) place calm o = record { hubs = o.hubs; given = o.given; at = o.at }
-    layer_change (starts_transaction world state new_) place calm o =
-        record { hubs = o.hubs; given = o.given; at = o.at }
-    layer_change (starts_span world parent place_ held found of_ traced) place calm o =
-        record { hubs = o.hubs; given = o.given; at = o.at }
-    layer_change (changes_spans world transactions spans change) place calm o =
-        record { hubs = o.hubs; given = o.given; at = o.at }
+    layer_change _ place calm o = record { hubs = o.hubs; given = o.given; at = o.at }
 
     -- ---- one change after another
 
-    unmoved_change : (number : ℕ) (change : LayerChange P) (place : Option ℕ)
-        → is_moving (hub_changed number change) ≡ false → moved (hub_changed number change) place ≡ place
-    unmoved_change number change place h = by_number (n == number) refl change place h
+    unmoved_one : (effect : Effect P C) (place : Option ℕ) → is_moving effect ≡ false → moved effect place ≡ place
+    unmoved_one (seen (hub_changed number change)) place h = by_number (n == number) refl change place h
       where
         by_number : (b : Bool) → (n == number) ≡ b → (change : LayerChange P) (place : Option ℕ)
-            → is_moving (hub_changed number change) ≡ false → (if b then moved_by change place else place) ≡ place
+            → is_moving (seen (hub_changed number change)) ≡ false → (if b then moved_by change place else place) ≡ place
         by_number false e change place h = refl
         by_number true e change None h = refl
-        by_number true e (scope_edited edits) (Some above) h = refl
-        by_number true e (breadcrumbs_came breadcrumbs) (Some above) h = refl
-        by_number true e (client_bound client) (Some above) h = refl
         by_number true e layer_pushed (Some above) h = neither (n == number) h e
-        by_number true e (layer_popped given) (Some above) h = neither (n == number) h e
-        by_number true e (session_named session) (Some above) h = refl
-
-    unmoved_one : (effect : Effect P C) (place : Option ℕ) → is_moving effect ≡ false → moved effect place ≡ place
-    unmoved_one (hub_changed number change) place h = unmoved_change number change place h
+        by_number true e layer_popped (Some above) h = neither (n == number) h e
+        by_number true e _ (Some above) h = refl
     unmoved_one _ place h = refl
 
     unmoved : (some : List (Effect P C)) (place : Option ℕ) → list_any is_moving some ≡ false
         → moved_all some place ≡ place
     unmoved [] place h = refl
     unmoved (effect ∷ rest) place h =
-        ap (moved_all rest) (unmoved_one effect place (or_left (is_moving effect) _ h))
-        ∙ unmoved rest place (or_right (is_moving effect) _ h)
+        ap (moved_all rest) (unmoved_one effect place (or_parts (is_moving effect) _ h).0)
+        ∙ unmoved rest place (or_parts (is_moving effect) _ h).1
 
     moved-append : (first second : List (Effect P C)) (place : Option ℕ)
         → moved_all (first ++ second) place ≡ moved_all second (moved_all first place)
@@ -417,58 +392,11 @@ module _ (Q : Option SessionKey → Type 0) (none : Q None) where
 
     -- ---- effects that calls tell of
 
-    own_moved : (effect : Effect P C) (place : Option ℕ) → is_own effect ≡ false → moved effect place ≡ place
-    own_moved (hub_changed number (session_named session)) place h =
-        unmoved_change number (session_named session) place refl
-    own_moved (hub_changed number (scope_edited edits)) place h = absurd cc
-    own_moved (hub_changed number (breadcrumbs_came breadcrumbs)) place h = absurd cc
-    own_moved (hub_changed number (client_bound client)) place h = absurd cc
-    own_moved (hub_changed number layer_pushed) place h = absurd cc
-    own_moved (hub_changed number (layer_popped given)) place h = absurd cc
-    own_moved _ place h = refl
-
-    own_tests : (effect : Effect P C) → is_own effect ≡ false
-        → (is_moving effect ≡ false) × (is_begun n effect ≡ false)
-    own_tests (hub_changed number (session_named session)) h = (refl, refl)
-    own_tests (hub_changed number (scope_edited edits)) h = absurd cc
-    own_tests (hub_changed number (breadcrumbs_came breadcrumbs)) h = absurd cc
-    own_tests (hub_changed number (client_bound client)) h = absurd cc
-    own_tests (hub_changed number layer_pushed) h = absurd cc
-    own_tests (hub_changed number (layer_popped given)) h = absurd cc
-    own_tests (client_added key options) h = absurd cc
-    own_tests (client_cloned key original) h = absurd cc
-    own_tests (hub_made number stack) h = absurd cc
-    own_tests (hub_made_from number maker) h = absurd cc
-    own_tests (hub_released number) h = absurd cc
-    own_tests (losses_absorbed label losses) h = absurd cc
-    own_tests (report_taken label report) h = absurd cc
-    own_tests (session_begun number id) h = absurd cc
-    own_tests (client_dropped number) h = absurd cc
-    own_tests (came_to_queues kind) h = absurd cc
-
-    moved-by : (b : Bool) (effect : Effect P C) (rest own : List (Effect P C)) (place : Option ℕ) → is_own effect ≡ b
-        → ((place : Option ℕ) → moved_all own place ≡ moved_all rest place)
-        → moved_all (cond b (effect ∷ own) own) place ≡ moved_all (effect ∷ rest) place
-    moved-by true effect rest own place e h = h (moved effect place)
-    moved-by false effect rest own place e h = h place ∙ ap (moved_all rest) (sym (own_moved effect place e))
-
     moved_own : (some : List (Effect P C)) (place : Option ℕ)
         → moved_all (own_effects some) place ≡ moved_all some place
     moved_own [] place = refl
-    moved_own (effect ∷ rest) place =
-        moved-by (is_own effect) effect rest (own_effects rest) place refl (moved_own rest)
-
-    module _ (test : Effect P C → Bool) (hidden : (effect : Effect P C) → is_own effect ≡ false → test effect ≡ false)
-      where
-        tested-by : (b : Bool) (effect : Effect P C) (rest own : List (Effect P C)) → is_own effect ≡ b
-            → list_any test own ≡ list_any test rest
-            → list_any test (cond b (effect ∷ own) own) ≡ list_any test (effect ∷ rest)
-        tested-by true effect rest own e h = ap (λ b. test effect || b) h
-        tested-by false effect rest own e h = h ∙ ap (λ b. b || list_any test rest) (sym (hidden effect e))
-
-        tested_own : (some : List (Effect P C)) → list_any test (own_effects some) ≡ list_any test some
-        tested_own [] = refl
-        tested_own (effect ∷ rest) = tested-by (is_own effect) effect rest (own_effects rest) refl (tested_own rest)
+    moved_own (session_named number session ∷ rest) place = moved_own rest place
+    moved_own (effect ∷ rest) place = moved_own rest (moved effect place)
 
     -- ---- calls
 
@@ -490,7 +418,7 @@ module _ (Q : Option SessionKey → Type 0) (none : Q None) where
     hub_moves (NewHubFromTop hub) (reply.Hub key) above = refl
     hub_moves (NewHubFromTop hub) _ above = refl
     hub_moves (PushScope hub) made above = pushed_place (n == hub.number) above
-    hub_moves (PopScope hub given now) made above = popped_place P (n == hub.number) above given
+    hub_moves (PopScope hub given now) made above = popped_place P (n == hub.number) above
     hub_moves (StartSession hub fresh) made above = started_place (n == hub.number) above
     hub_moves (EndSessionWithStatus hub status now) made above = ended_place (n == hub.number) above
     hub_moves (Configure hub edits now) made above = other_place (n == hub.number) (Some above)
@@ -557,12 +485,11 @@ module _ {P C : Type 0} (gives : P → Partial) (meanings : C → Meanings) (Q :
   after_call call out world next above may deep o =
       let trail = trail_of gives meanings call out world next may in
       let begins : list_any (is_begun n) trail.effects ≡ is_start (top_change n call) =
-      sym (tested_own Q none meanings n (is_begun n) (λ e h. (own_tests Q none meanings n e h).1) trail.effects)
+      sym (own_any (is_begun n) (λ number session. refl) trail.effects)
       ∙ (ap (list_any (is_begun n)) trail.same ∙ call_begins Q none meanings n call out.reply) in
       let stays : is_start (top_change n call) ≡ true
       → list_any (is_moving Q none meanings n) trail.effects ≡ false =
-      (λ h. sym (tested_own Q none meanings n (is_moving Q none meanings n)
-      (λ e k. (own_tests Q none meanings n e k).0) trail.effects)
+      (λ h. sym (own_any (is_moving Q none meanings n) (λ number session. refl) trail.effects)
       ∙ (ap (list_any (is_moving Q none meanings n)) trail.same ∙ call_stays Q none meanings n call out.reply h)) in
       let moves : moved_all Q none meanings n trail.effects (Some above)
       ≡ place_after (top_change n call) above =
@@ -789,7 +716,7 @@ module _ {P C : Type 0} (gives : P → Partial) (meanings : C → Meanings) wher
       let gone_now : value_at next.sessions n ≡ None =
       ap (λ (w : World P C). value_at w.sessions n) ended_is
       ∙ ended_gone session (Some status) now world (gone_ 0 n world.sessions c.sessions)
-      (λ h. under_by (session.tag == world.tag) (value_at world.sessions n) (equal_tags session.tag world.tag g.0) h) in
+      (λ h. under_by (session.tag == world.tag) (value_at world.sessions n) (eq-eqb session.tag world.tag g.0) h) in
       let w = watched_next n (n + 1) (λ o. Unit {0}) (inr (λ o. tt)) tt (λ old new later same h. tt) gives meanings
       (group.Hub (EndSessionWithStatus hub status now)) out world next may
       (record { counts = c; given = omega (arith, g.1); holds = tt }) in

@@ -29,8 +29,8 @@ use Rattle.sentry_telemetry.specs.declared.flushes.Flush.{Flush}
 use Rattle.sentry_telemetry.specs.declared.flushes.Flush.TheVariants.{Closing}
 use Rattle.sentry_telemetry.specs.Flushes.{flush_queues, flushed_envelopes, after_flush, is_closing}
 use Rattle.sentry_telemetry.specs.Telemetry.{accept_log, accept_metric, keep_log, keep_metric}
-use Rattle.sentry_laws.proofs.Effects.{Came, a_log, a_metric, a_close, hub_changed, session_named, session_begun, came_to_queues}
-use Rattle.sentry_laws.proofs.Changes.{Changes, IsArrival, nothing, one, both, log_came, metric_came, session_ended, flush_came, changes_hub, arrives, accepts, accepts_none, loses, starts_session, changes_session, ends_session}
+use Rattle.sentry_laws.proofs.Effects.{Came, a_log, a_metric, a_close, session_named, session_begun, came_to_queues}
+use Rattle.sentry_laws.proofs.Changes.{Changes, IsArrival, nothing, one, both, log_came, metric_came, session_ended, flush_came, sets_session, arrives, accepts, accepts_none, loses, starts_session, changes_session, ends_session}
 use Rattle.sentry_laws.proofs.Tables.{own_replaced}
 use Rattle.sentry_laws.proofs.Parts.{flush_part, queue_update_part, release_part}
 use Rattle.sentry_laws.proofs.Trails.{found_under, Sends, sends_some, sends_unless, quiet_last}
@@ -424,21 +424,21 @@ module _ {P C : Type 0} (meanings : C → Meanings) where
       (λ unnamed. ends key None now world))
 
   pub releases : (number : ℕ) (hub : HubState P) (now : ℕ) (world : World P C) → value_at world.hubs number ≡ Some hub
-      → Sends meanings None world (hub_changed number (session_named None) ∷ []) (release_session number hub now world)
+      → Sends meanings None world (session_named number None ∷ []) (release_session number hub now world)
   releases number hub now world found = record {
-    changes = both (one (changes_hub world number hub (with_session hub None) (session_named None) found refl tt))
+    changes = both (one (sets_session world number hub None found tt))
         (ends_unnamed hub.stack.top.session now
         (record world { hubs = replace_at world.hubs number (with_session hub None) })).changes;
   }
 
   pub replaces : (number : ℕ) (hub : HubState P) (now : ℕ) (start : SessionStart) (world : World P C)
       → value_at world.hubs number ≡ Some hub
-      → Sends meanings None world (session_begun number start.session_id ∷ hub_changed number (session_named None)
-      ∷ hub_changed number (session_named (Some (record {
+      → Sends meanings None world (session_begun number start.session_id ∷ session_named number None
+      ∷ session_named number (Some (record {
         tag = world.tag;
         number =
             (release_session number hub now (with_new_session start world)).after.next.session;
-      }))) ∷ [])
+      })) ∷ [])
       (replace_session number hub now start world)
   replaces number hub now start world found =
       let counted = record world.next { session = world.next.session + 1 } in
@@ -447,18 +447,18 @@ module _ {P C : Type 0} (meanings : C → Meanings) where
       let but = release_but counted number hub now begun in
       let same : released.after.next ≡ world.next = release_next number hub now begun in
       let tag : released.after.tag ≡ world.tag = release_tag number hub now begun in
-      let freed : Changes meanings None (record begun { next = counted }) (hub_changed number (session_named None) ∷ [])
+      let freed : Changes meanings None (record begun { next = counted }) (session_named number None ∷ [])
       released.sent (record released.after { next = counted }) =
-      subst (λ s. Changes meanings None (record begun { next = counted }) (hub_changed number (session_named None) ∷ [])
+      subst (λ s. Changes meanings None (record begun { next = counted }) (session_named number None ∷ [])
       s (record released.after { next = counted })) but.sent
       (subst (λ (w : World P C). Changes meanings None (record begun { next = counted })
-      (hub_changed number (session_named None) ∷ [])
+      (session_named number None ∷ [])
       (release_session number hub now (record begun { next = counted })).sent w) but.after
       (releases number hub now (record begun { next = counted }) found).changes) in
       record {
         changes = subst (λ (n : NextNumbers). Changes meanings None world
-            (session_begun number start.session_id ∷ hub_changed number (session_named None) ∷ hub_changed number
-            (session_named (Some (record { tag = world.tag; number = n.session }))) ∷ []) released.sent
+            (session_begun number start.session_id ∷ session_named number None ∷ session_named number
+            (Some (record { tag = world.tag; number = n.session })) ∷ []) released.sent
             (record released.after {
               next = record n { session = n.session + 1 };
               hubs =
@@ -466,8 +466,8 @@ module _ {P C : Type 0} (meanings : C → Meanings) where
                   (with_session hub (Some (record { tag = released.after.tag; number = n.session })));
             })) (sym same)
             (subst (λ t. Changes meanings None world
-            (session_begun number start.session_id ∷ hub_changed number (session_named None) ∷ hub_changed number
-            (session_named (Some (record { tag = world.tag; number = world.next.session }))) ∷ []) released.sent
+            (session_begun number start.session_id ∷ session_named number None ∷ session_named number
+            (Some (record { tag = world.tag; number = world.next.session })) ∷ []) released.sent
             (record released.after {
               next = counted;
               hubs =
@@ -475,8 +475,7 @@ module _ {P C : Type 0} (meanings : C → Meanings) where
                   (with_session hub (Some (record { tag = t; number = world.next.session })));
             })) (sym tag)
             (quiet_last meanings None (both (one (starts_session world number start)) freed)
-            (changes_hub (record released.after { next = counted }) number (with_session hub None)
-            (with_session hub (Some (record { tag = world.tag; number = world.next.session })))
-            (session_named (Some (record { tag = world.tag; number = world.next.session })))
-            (found_released number hub now begun found) refl (sym tag, omega arith))));
+            (sets_session (record released.after { next = counted }) number (with_session hub None)
+            (Some (record { tag = world.tag; number = world.next.session })) (found_released number hub now begun found)
+            (sym tag, omega arith))));
       }

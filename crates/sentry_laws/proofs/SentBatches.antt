@@ -2,6 +2,7 @@
 use Rattle.std.proofs.Common.{◌≡◌, ◌≢◌, ◌<◌, ◌≤◌, refl, ap, ◌∙◌, sym, subst, ℕ, ◌+◌, List, [], ◌∷◌, ◌++◌, Bool, true, false, cond, append_assoc, arith, ◌⊎◌, inl, inr}
 use Rattle.std.proofs.lemmas.Bool.Decides.{nat_tests}
 use Rattle.std.proofs.lemmas.List.{append-nil}
+use Rattle.std.proofs.lemmas.Bool.{and_parts, or_parts}
 use Rattle.std.specs.Prelude.{Option, Some, None, Result, Ok, Err, if◌then◌else◌, ◌==◌, ◌&&◌, ◌||◌, not, is_some}
 use Rattle.std.specs.List.{list_any, AllByRecursion}
 use Rattle.std.specs.Option.{option_map, option_to_list}
@@ -52,22 +53,16 @@ use Rattle.sentry_laws.proofs.Tables.{AreBelow, below_put, below_replaced, below
 use Rattle.sentry_laws.proofs.Found.{same_number, found_put, found_replaced, found_without, found_below}
 use Rattle.sentry_laws.proofs.Trails.{found_under, Trail, TellsBy}
 use Rattle.sentry_laws.proofs.Calls.{told_step}
-use Rattle.sentry_laws.proofs.Tests.{or_left, or_right, and_left}
 
 unequal : (n k : ℕ) → n ≢ k → (n == k) ≡ false
 unequal n k h = grind (arith, nat_tests)
-
-itself : (n : ℕ) → (n == n) ≡ true
-itself n = grind (arith, nat_tests)
 
 module _ {C : Type 0} where
   -- only a flush empties a slot, and nothing fills it again
   was_occupied : (arrival : Arrival) (client : ClientHistory C) → (after_arrival arrival client).occupied ≡ true
       → client.occupied ≡ true
-  was_occupied (log_came log) client h = h
-  was_occupied (metric_came metric) client h = h
-  was_occupied (session_ended update) client h = h
-  was_occupied (flush_came flush) client h = and_left _ _ h
+  was_occupied (flush_came flush) client h = (and_parts _ _ h).0
+  was_occupied _ client h = h
 
 -- a flush that empties a slot closes the client
 open_by : (closing occupied closed : Bool) → closed ≡ false → (occupied && not closing) ≡ true
@@ -127,8 +122,8 @@ module _ {T : Type 0} (batch_in : EnvelopeItem → Option (List T)) where
         → batches_among batch_in items ≡ []
     among_none [] h = refl
     among_none (first ∷ rest) h =
-        ap (λ (o : Option (List T)). option_to_list o ++ batches_among batch_in rest) (batch_is first (or_left _ _ h))
-        ∙ among_none rest (or_right _ _ h)
+        ap (λ (o : Option (List T)). option_to_list o ++ batches_among batch_in rest) (batch_is first (or_parts _ _ h).0)
+        ∙ among_none rest (or_parts _ _ h).1
 
     reported : (report : Option ClientReport) (envelope : Envelope) → batches_among batch_in
         (with_report report envelope).items ≡ batches_among batch_in envelope.items
@@ -340,17 +335,6 @@ module _ {T : Type 0} (batch_in : EnvelopeItem → Option (List T)) where
         holds_change : (f : Option Envelope) {old new : World P C} {some : List (Effect P C)} {sent : List
             (ClientKey × Envelope)} → Change meanings f old some sent new
             → (total : ℕ → List (List T)) → Holds total old → Holds (λ n. total n ++ batches_by batch_in f n sent) new
-        holds_change f (makes_hub world client scope held active) total h =
-            none_holds f total _ (record { sent = h.sent; open_slot = h.open_slot; fresh = h.fresh; clients = h.clients })
-        holds_change f (makes_hub_from world maker hub found) total h =
-            none_holds f total _ (record { sent = h.sent; open_slot = h.open_slot; fresh = h.fresh; clients = h.clients })
-        holds_change f (changes_hub world number old new change found fits names) total h =
-            none_holds f total _ (record { sent = h.sent; open_slot = h.open_slot; fresh = h.fresh; clients = h.clients })
-        holds_change f (leaves_hub world number hub change found fits) total h = none_holds f total _ h
-        holds_change f (notes_event_id world number old new found same) total h =
-            none_holds f total _ (record { sent = h.sent; open_slot = h.open_slot; fresh = h.fresh; clients = h.clients })
-        holds_change f (releases_hub world number hub found alone) total h =
-            none_holds f total _ (record { sent = h.sent; open_slot = h.open_slot; fresh = h.fresh; clients = h.clients })
         holds_change f (adds_client world client now queues open_ of_engine) total h =
             none_holds f total _ (added_holds total world client _ (ap history queues ∙ new_history now) open_ h)
         holds_change f (clones_client world original client now found) total h =
@@ -375,25 +359,7 @@ module _ {T : Type 0} (batch_in : EnvelopeItem → Option (List T)) where
         holds_change f (mails world key client envelope found occupied none told_) total h =
             same_total total _ _ (λ n. ap (λ l. total n ++ l) (mailed_none f key _ envelope none n)
             ∙ append-nil (total n)) (record { sent = h.sent; open_slot = h.open_slot; fresh = h.fresh; clients = h.clients })
-        holds_change f (loses world key client losses found) total h =
-            none_holds f total _ (record { sent = h.sent; open_slot = h.open_slot; fresh = h.fresh; clients = h.clients })
-        holds_change f (takes_report world label has) total h =
-            none_holds f total _ (record { sent = h.sent; open_slot = h.open_slot; fresh = h.fresh; clients = h.clients })
-        holds_change f (absorbs world label losses has) total h =
-            none_holds f total _ (record { sent = h.sent; open_slot = h.open_slot; fresh = h.fresh; clients = h.clients })
-        holds_change f (starts_none world number id) total h = none_holds f total _ h
-        holds_change f (accepts_none world kind) total h = none_holds f total _ h
-        holds_change f (starts_session world number start) total h =
-            none_holds f total _ (record { sent = h.sent; open_slot = h.open_slot; fresh = h.fresh; clients = h.clients })
-        holds_change f (changes_session world number old new later found same) total h =
-            none_holds f total _ (record { sent = h.sent; open_slot = h.open_slot; fresh = h.fresh; clients = h.clients })
-        holds_change f (ends_session world number) total h =
-            none_holds f total _ (record { sent = h.sent; open_slot = h.open_slot; fresh = h.fresh; clients = h.clients })
-        holds_change f (starts_transaction world state new_) total h =
-            none_holds f total _ (record { sent = h.sent; open_slot = h.open_slot; fresh = h.fresh; clients = h.clients })
-        holds_change f (starts_span world parent place held found of_ traced) total h =
-            none_holds f total _ (record { sent = h.sent; open_slot = h.open_slot; fresh = h.fresh; clients = h.clients })
-        holds_change f (changes_spans world transactions spans change) total h =
+        holds_change f _ total h =
             none_holds f total _ (record { sent = h.sent; open_slot = h.open_slot; fresh = h.fresh; clients = h.clients })
 
         holds_changes : (f : Option Envelope) {old new : World P C} {some : List (Effect P C)} {sent : List
@@ -537,17 +503,6 @@ module _ {T : Type 0} (batch_in : EnvelopeItem → Option (List T)) where
         in_call_change : (f : Option Envelope) {old new : World P C} {some : List (Effect P C)} {sent : List
             (ClientKey × Envelope)} → Change meanings f old some sent new → (n : ℕ) (total : List (List T))
             → InCall n total old → InCall n (total ++ batches_by batch_in f n sent) new
-        in_call_change f (makes_hub world client scope held active) n total i =
-            padded f n total _ (record { so_far = i.so_far; given = i.given; clients = i.clients })
-        in_call_change f (makes_hub_from world maker hub found) n total i =
-            padded f n total _ (record { so_far = i.so_far; given = i.given; clients = i.clients })
-        in_call_change f (changes_hub world number old new change found fits names) n total i =
-            padded f n total _ (record { so_far = i.so_far; given = i.given; clients = i.clients })
-        in_call_change f (leaves_hub world number hub change found fits) n total i = padded f n total _ i
-        in_call_change f (notes_event_id world number old new found same) n total i =
-            padded f n total _ (record { so_far = i.so_far; given = i.given; clients = i.clients })
-        in_call_change f (releases_hub world number hub found alone) n total i =
-            padded f n total _ (record { so_far = i.so_far; given = i.given; clients = i.clients })
         in_call_change f (adds_client world client now queues open_ of_engine) n total i =
             padded f n total _ (in_call_added n total world client _ i)
         in_call_change f (clones_client world original client now found) n total i =
@@ -579,25 +534,7 @@ module _ {T : Type 0} (batch_in : EnvelopeItem → Option (List T)) where
             subst (λ l. InCall n l (with_entry world client.label report_point))
             (sym (ap (λ l. total ++ l) (mailed_none f key _ envelope none n) ∙ append-nil total))
             (record { so_far = i.so_far; given = i.given; clients = i.clients })
-        in_call_change f (loses world key client losses found) n total i =
-            padded f n total _ (record { so_far = i.so_far; given = i.given; clients = i.clients })
-        in_call_change f (takes_report world label has) n total i =
-            padded f n total _ (record { so_far = i.so_far; given = i.given; clients = i.clients })
-        in_call_change f (absorbs world label losses has) n total i =
-            padded f n total _ (record { so_far = i.so_far; given = i.given; clients = i.clients })
-        in_call_change f (starts_none world number id) n total i = padded f n total _ i
-        in_call_change f (accepts_none world kind) n total i = padded f n total _ i
-        in_call_change f (starts_session world number start) n total i =
-            padded f n total _ (record { so_far = i.so_far; given = i.given; clients = i.clients })
-        in_call_change f (changes_session world number old new later found same) n total i =
-            padded f n total _ (record { so_far = i.so_far; given = i.given; clients = i.clients })
-        in_call_change f (ends_session world number) n total i =
-            padded f n total _ (record { so_far = i.so_far; given = i.given; clients = i.clients })
-        in_call_change f (starts_transaction world state new_) n total i =
-            padded f n total _ (record { so_far = i.so_far; given = i.given; clients = i.clients })
-        in_call_change f (starts_span world parent place held found of_ traced) n total i =
-            padded f n total _ (record { so_far = i.so_far; given = i.given; clients = i.clients })
-        in_call_change f (changes_spans world transactions spans change) n total i =
+        in_call_change f _ n total i =
             padded f n total _ (record { so_far = i.so_far; given = i.given; clients = i.clients })
 
         in_call_changes : (f : Option Envelope) {old new : World P C} {some : List (Effect P C)} {sent : List

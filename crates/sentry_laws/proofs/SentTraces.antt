@@ -178,26 +178,7 @@ module _ {P C : Type 0} (meanings : C → Meanings) where
             (in_one_trace world envelope.header envelope.items t (told_ none).1),
         tt,
       ))
-  sent_by_change f (makes_hub world client scope held active) t = none_sent f
-  sent_by_change f (makes_hub_from world maker hub found) t = none_sent f
-  sent_by_change f (changes_hub world number old new change found fits allowed) t = none_sent f
-  sent_by_change f (leaves_hub world number hub change found fits) t = none_sent f
-  sent_by_change f (notes_event_id world number old new found same) t = none_sent f
-  sent_by_change f (releases_hub world number hub found alone) t = none_sent f
-  sent_by_change f (adds_client world client now queues open_ of_engine) t = none_sent f
-  sent_by_change f (clones_client world original client now found) t = none_sent f
-  sent_by_change f (drops_client world key client label found same unnamed) t = none_sent f
-  sent_by_change f (accepts_none world kind) t = none_sent f
-  sent_by_change f (loses world key client losses found) t = none_sent f
-  sent_by_change f (takes_report world label has) t = none_sent f
-  sent_by_change f (absorbs world label losses has) t = none_sent f
-  sent_by_change f (starts_none world number id) t = none_sent f
-  sent_by_change f (starts_session world number start) t = none_sent f
-  sent_by_change f (changes_session world number old new later found same) t = none_sent f
-  sent_by_change f (ends_session world number) t = none_sent f
-  sent_by_change f (starts_transaction world state new_) t = none_sent f
-  sent_by_change f (starts_span world parent place held found of_ traced) t = none_sent f
-  sent_by_change f (changes_spans world transactions spans change) t = none_sent f
+  sent_by_change f _ t = none_sent f
 
   traced_after : {f : Option Envelope} {old new : World P C} {some : List (Effect P C)} {sent : List
       (ClientKey × Envelope)} → Changes meanings f old some sent new → IsTraced old → IsTraced new

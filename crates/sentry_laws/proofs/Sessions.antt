@@ -34,8 +34,9 @@ use Rattle.sentry_calls.specs.Sessions as session_calls
 use Rattle.sentry_calls.specs.Runs.{StepsTo, Run}
 use Rattle.sentry_calls.specs.Steps.{step, hub_step}
 use Rattle.sentry_calls.specs.Replies.{map_answer}
-use Rattle.sentry_laws.proofs.Effects.{Effect, LayerChange, scope_edited, breadcrumbs_came, client_bound, layer_pushed, layer_popped, session_named, change_layers, add_under, effects}
-use Rattle.sentry_laws.proofs.Changes.{Change, Changes, nothing, one, both, held_options, IsAllowed, IsGiven, after_arrival, envelopes_on_arrival, makes_hub, makes_hub_from, changes_hub, leaves_hub, notes_event_id, releases_hub, adds_client, clones_client, drops_client, arrives, accepts, accepts_none, mails, loses, takes_report, absorbs, starts_none, starts_session, changes_session, ends_session, starts_transaction, starts_span, changes_spans}
+use Rattle.sentry_laws.specs.OwnCalls.{LayerChange, scope_edited, breadcrumbs_came, client_bound, layer_pushed, layer_popped, change_layers, add_under}
+use Rattle.sentry_laws.proofs.Effects.{Effect, effects}
+use Rattle.sentry_laws.proofs.Changes.{Change, Changes, nothing, one, both, held_options, IsAllowed, IsGiven, after_arrival, envelopes_on_arrival, makes_hub, makes_hub_from, changes_hub, leaves_hub, sets_session, notes_event_id, releases_hub, adds_client, clones_client, drops_client, arrives, accepts, accepts_none, mails, loses, takes_report, absorbs, starts_none, starts_session, changes_session, ends_session, starts_transaction, starts_span, changes_spans}
 use Rattle.sentry_laws.specs.SentItems.{handed_in}
 use Rattle.sentry_laws.proofs.Tables.{AreBelow, below_put, below_replaced, below_without, others_put}
 use Rattle.sentry_laws.proofs.Increasing.{IsIncreasing, increasing_put, increasing_replaced, increasing_without, without_if}
@@ -89,17 +90,16 @@ module _ {P C : Type 0} (meanings : C → Meanings) where
   add_given tag next (Some options) breadcrumbs false stack h = h
 
   change_given : (world : World P C) (options : ClientKey → Option (ClientOptions C)) (change : LayerChange P)
-      (stack : Stack P) → IsAllowed world stack change → AreGiven world.tag world.next.session stack
+      (stack : Stack P) → AreGiven world.tag world.next.session stack
       → AreGiven world.tag world.next.session (change_layers meanings options change stack)
-  change_given world options (scope_edited edits) stack n h = h
-  change_given world options (breadcrumbs_came breadcrumbs) stack n h =
+  change_given world options (scope_edited edits) stack h = h
+  change_given world options (breadcrumbs_came breadcrumbs) stack h =
       add_given world.tag world.next.session (option_and_then options stack.top.client) breadcrumbs
       (length breadcrumbs == 0) stack h
-  change_given world options (client_bound client) stack n h = h
-  change_given world options layer_pushed stack n h =
+  change_given world options (client_bound client) stack h = h
+  change_given world options layer_pushed stack h =
       (h.0, all_append world.tag world.next.session stack.below stack.top h.1 h.0)
-  change_given world options (layer_popped given) stack n h = pop_given world.tag world.next.session stack h
-  change_given world options (session_named session) stack n h = (n, h.1)
+  change_given world options layer_popped stack h = pop_given world.tag world.next.session stack h
 
 -- ---- every world
 
@@ -196,12 +196,16 @@ module _ (number low : ℕ) (Holds : Option SessionHistory → Type 0)
         }
     watched_change (changes_hub world n old new change found fits allowed) w = record {
       counts = counts_replaced world n old new found (subst (AreGiven world.tag world.next.session) (sym fits)
-          (change_given meanings world (held_options world) change old.stack allowed (w.counts.given n old found)))
+          (change_given meanings world (held_options world) change old.stack (w.counts.given n old found)))
           w.counts;
       given = w.given;
       holds = w.holds;
     }
-    watched_change (leaves_hub world n hub change found fits) w = w
+    watched_change (sets_session world n hub session found given) w = record {
+      counts = counts_replaced world n hub _ found (given, (w.counts.given n hub found).1) w.counts;
+      given = w.given;
+      holds = w.holds;
+    }
     watched_change (notes_event_id world n old new found same) w = record {
       counts = counts_replaced world n old new found (subst (AreGiven world.tag world.next.session) (sym same)
           (w.counts.given n old found)) w.counts;
@@ -219,27 +223,6 @@ module _ (number low : ℕ) (Holds : Option SessionHistory → Type 0)
       given = w.given;
       holds = w.holds;
     }
-    watched_change (adds_client world client now queues open_ of_engine) w =
-        record {
-          counts = record { sessions = w.counts.sessions; hubs = w.counts.hubs; given = w.counts.given };
-          given =
-              w.given;
-          holds = w.holds;
-        }
-    watched_change (clones_client world original client now found) w =
-        record {
-          counts = record { sessions = w.counts.sessions; hubs = w.counts.hubs; given = w.counts.given };
-          given =
-              w.given;
-          holds = w.holds;
-        }
-    watched_change (drops_client world key client label found same unnamed) w =
-        record {
-          counts = record { sessions = w.counts.sessions; hubs = w.counts.hubs; given = w.counts.given };
-          given =
-              w.given;
-          holds = w.holds;
-        }
     watched_change (arrives world key client arrival is_off found open_ came) w =
         watched_sending client.label (send key client (envelopes_on_arrival arrival client)
         (with_client_history world key (after_arrival arrival client))).sent
@@ -258,36 +241,6 @@ module _ (number low : ℕ) (Holds : Option SessionHistory → Type 0)
           given = w.given;
           holds = w.holds;
         })
-    watched_change (mails world key client envelope found occupied plain told_) w =
-        record {
-          counts = record { sessions = w.counts.sessions; hubs = w.counts.hubs; given = w.counts.given };
-          given =
-              w.given;
-          holds = w.holds;
-        }
-    watched_change (loses world key client losses found) w =
-        record {
-          counts = record { sessions = w.counts.sessions; hubs = w.counts.hubs; given = w.counts.given };
-          given =
-              w.given;
-          holds = w.holds;
-        }
-    watched_change (takes_report world label has) w =
-        record {
-          counts = record { sessions = w.counts.sessions; hubs = w.counts.hubs; given = w.counts.given };
-          given =
-              w.given;
-          holds = w.holds;
-        }
-    watched_change (absorbs world label losses has) w =
-        record {
-          counts = record { sessions = w.counts.sessions; hubs = w.counts.hubs; given = w.counts.given };
-          given =
-              w.given;
-          holds = w.holds;
-        }
-    watched_change (starts_none world number id) w = w
-    watched_change (accepts_none world kind) w = w
     watched_change (starts_session world number start) w = record {
       counts = record {
         sessions = increasing_put 0 world.next.session (record { start = start; history = [] }) world.sessions
@@ -322,27 +275,8 @@ module _ (number low : ℕ) (Holds : Option SessionHistory → Type 0)
       holds = subst Holds (sym (without_if 0 n number world.sessions w.counts.sessions))
           (ended_holds (number == n) (value_at world.sessions number) w.holds);
     }
-    watched_change (starts_transaction world state new_) w =
-        record {
-          counts = record { sessions = w.counts.sessions; hubs = w.counts.hubs; given = w.counts.given };
-          given =
-              w.given;
-          holds = w.holds;
-        }
-    watched_change (starts_span world parent place held found of_ traced) w =
-        record {
-          counts = record { sessions = w.counts.sessions; hubs = w.counts.hubs; given = w.counts.given };
-          given =
-              w.given;
-          holds = w.holds;
-        }
-    watched_change (changes_spans world transactions spans change) w =
-        record {
-          counts = record { sessions = w.counts.sessions; hubs = w.counts.hubs; given = w.counts.given };
-          given =
-              w.given;
-          holds = w.holds;
-        }
+    watched_change _ w =
+        record { counts = record { sessions = w.counts.sessions; hubs = w.counts.hubs; given = w.counts.given }; given = w.given; holds = w.holds }
 
     watched_changes : {f : Option Envelope} {old new : World P C} {some : List (Effect P C)} {sent : List
         (ClientKey × Envelope)} → Changes meanings f old some sent new → Watched old → Watched new
@@ -394,9 +328,6 @@ under_by false o e h = absurd cc
 pub none_under : (b : Bool) (o : Option SessionHistory) → o ≡ None → (if b then o else None) ≡ None
 none_under true o h = h
 none_under false o h = refl
-
-pub equal_tags : (a b : ℕ) → a ≡ b → (a == b) ≡ true
-equal_tags a b e = grind (arith, nat_tests)
 
 module _ {P C : Type 0} (gives : P → Partial) (meanings : C → Meanings) where
   pub end_is : (key : HubKey) (status : SessionStatus) (now : ℕ) (world : World P C) (hub : HubState P) (session : SessionKey)

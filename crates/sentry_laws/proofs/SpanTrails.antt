@@ -1,6 +1,7 @@
 -- The calls on transactions and spans, as changes.
 use Rattle.std.proofs.Common.{◌≡◌, refl, ap, ◌∙◌, sym, subst, ℕ, List, [], ◌∷◌, ◌++◌, Bool, true, false, inr}
 use Rattle.std.proofs.lemmas.List.{append-nil}
+use Rattle.std.proofs.lemmas.Bool.{not-true}
 use Rattle.std.specs.Prelude.{Option, Some, None, not, is_some}
 use Rattle.std.specs.List.{list_any}
 use Rattle.std.specs.Option.{option_map, option_and_then}
@@ -74,10 +75,6 @@ span_trace (edit_by.Op op) span = refl
 span_trace (edit_by.Name name) span = refl
 span_trace (edit_by.Request request) span = refl
 span_trace by span = refl
-
-not_true : (b : Bool) → not b ≡ true → b ≡ false
-not_true true e = absurd cc
-not_true false e = refl
 
 -- a transaction that an engine has is one of the world
 from_stored : (o : Option TransactionHistory) (held : TransactionRecord) → option_map stored_transaction o ≡ Some held
@@ -304,12 +301,12 @@ module _ {P C : Type 0} (meanings : C → Meanings) where
       told_require meanings None StillNamed (not (is_active_on (key_of.Transaction key) world.hubs)) (λ unnamed.
       told_require meanings None StillNamed (not (has_span_of (span_table world) key)) (λ spanless.
       told_trail meanings None tt
-      (one (changes_spans world _ _ (drops_transaction key state.0 state.1 (not_true _ unnamed)
-      (not_true _ spanless)))) refl refl)))
+      (one (changes_spans world _ _ (drops_transaction key state.0 state.1 (not-true _ unnamed)
+      (not-true _ spanless)))) refl refl)))
   told_discard (key_of.Span key) world =
       told_some meanings None Stale (span_at world key) (λ held found.
       told_require meanings None StillNamed (not (is_active_on (key_of.Span key) world.hubs)) (λ unnamed.
-      told_trail meanings None tt (one (changes_spans world _ _ (drops_span key held found (not_true _ unnamed))))
+      told_trail meanings None tt (one (changes_spans world _ _ (drops_span key held found (not-true _ unnamed))))
       refl refl))
 
   told_read : {T : Type 0} (of_transaction : TransactionRecord → T) (of_span : SpanRecord → T)

@@ -23,13 +23,13 @@ is_own k = grind (arith, nat_tests)
 pub not_at : (k n : ℕ) → k ≢ n → is_at (nat_cmp k) n ≡ false
 not_at k n apart = grind (arith, nat_tests)
 
-at_same : (k n : ℕ) → is_at (nat_cmp k) n ≡ true → k ≡ n
+pub at_same : (k n : ℕ) → is_at (nat_cmp k) n ≡ true → k ≡ n
 at_same k n e = grind (arith, nat_tests)
 
 at_apart : (k n : ℕ) → is_at (nat_cmp k) n ≡ false → k ≢ n
 at_apart k n e = grind (arith, nat_tests)
 
-above : (k n : ℕ) → n < k → nat_cmp k n ≡ Greater
+pub above : (k n : ℕ) → n < k → nat_cmp k n ≡ Greater
 above k n h = grind (arith, nat_tests)
 
 equal_at : (k n : ℕ) → nat_cmp k n ≡ Equal → k ≡ n

@@ -1,6 +1,7 @@
 -- Whether something in a table passes a test, after a change of the table.
 use Rattle.std.proofs.Common.{◌≡◌, ◌<◌, ◌+◌, refl, ap, ◌∙◌, sym, ℕ, List, [], ◌∷◌, ◌++◌, Bool, true, false, cond, arith}
 use Rattle.std.proofs.lemmas.Bool.Decides.{nat_tests}
+use Rattle.std.proofs.lemmas.Bool.{or_parts}
 use Rattle.std.specs.Prelude.{Some, ◌&&◌, ◌||◌}
 use Rattle.std.specs.List.{list_any}
 use Rattle.std.specs.declared.cmp.Ordering.{Ordering}
@@ -8,10 +9,7 @@ use Rattle.std.specs.declared.cmp.Ordering.TheVariants.{Greater}
 use Rattle.std.specs.Ordering.{match_ordering, nat_cmp}
 use Rattle.std.specs.BTreeMap.{is_at}
 use Rattle.sentry_plain.specs.Tables.{value_at, put, replace_at, without}
-use Rattle.sentry_laws.proofs.Tables.{AreBelow}
-
-above : (k n : ℕ) → n < k → nat_cmp k n ≡ Greater
-above k n h = grind (arith, nat_tests)
+use Rattle.sentry_laws.proofs.Tables.{AreBelow, above}
 
 pub or_none : (b : Bool) → (b || false) ≡ b
 or_none true = refl
@@ -24,22 +22,6 @@ or_more false b c = refl
 pub or_true : (a b : Bool) → b ≡ true → (a || b) ≡ true
 or_true true b h = refl
 or_true false b h = h
-
-pub or_left : (a b : Bool) → (a || b) ≡ false → a ≡ false
-or_left true b h = h
-or_left false b h = refl
-
-pub or_right : (a b : Bool) → (a || b) ≡ false → b ≡ false
-or_right true b h = absurd cc
-or_right false b h = h
-
-pub and_left : (a b : Bool) → (a && b) ≡ true → a ≡ true
-and_left true b h = refl
-and_left false b h = h
-
-pub and_right : (a b : Bool) → (a && b) ≡ true → b ≡ true
-and_right true b h = h
-and_right false b h = absurd cc
 
 or_first : (a b c : Bool) → (a ≡ true → b ≡ true) → (a || c) ≡ true → (b || c) ≡ true
 or_first true b c more h = ap (λ d. d || c) (more refl)
@@ -54,11 +36,11 @@ module _ {X : Type 0} (test : X → Bool) where
   pub any_first : (xs ys : List X) → list_any test (xs ++ ys) ≡ false → list_any test xs ≡ false
   any_first [] ys h = refl
   any_first (x ∷ xs) ys h =
-      ap (λ b. b || list_any test xs) (or_left (test x) _ h) ∙ any_first xs ys (or_right (test x) _ h)
+      ap (λ b. b || list_any test xs) (or_parts (test x) _ h).0 ∙ any_first xs ys (or_parts (test x) _ h).1
 
   pub any_second : (xs ys : List X) → list_any test (xs ++ ys) ≡ false → list_any test ys ≡ false
   any_second [] ys h = h
-  any_second (x ∷ xs) ys h = any_second xs ys (or_right (test x) _ h)
+  any_second (x ∷ xs) ys h = any_second xs ys (or_parts (test x) _ h).1
 
 module _ {X : Type 0} (test : X → Bool) where
   -- a value of the table passes the test

@@ -37,9 +37,8 @@ use Rattle.sentry_calls.specs.declared.call.Reply.{Reply}
 use Rattle.sentry_laws.proofs.Effects.{Effect}
 use Rattle.sentry_laws.proofs.Changes.{Change, SpanChange, changes_transaction, changes_span, keeps_span, drops_transaction, drops_span, after_arrival, envelopes_on_arrival, makes_hub, makes_hub_from, changes_hub, leaves_hub, notes_event_id, releases_hub, adds_client, clones_client, drops_client, arrives, accepts, accepts_none, mails, loses, takes_report, absorbs, starts_none, starts_session, changes_session, ends_session, starts_transaction, starts_span, changes_spans}
 use Rattle.sentry_laws.specs.Traces.{KeptSpansAreInTrace, HeldSpansAreInTrace}
-use Rattle.sentry_laws.proofs.Found.{same_number, found_put, found_replaced, found_without, all_by, all_without}
+use Rattle.sentry_laws.proofs.Found.{same_number, found_put, found_replaced, found_without, all_by, all_without, own_number}
 use Rattle.sentry_laws.proofs.Keeping.{kept_by_run}
-use Rattle.sentry_laws.proofs.LabelBooks.{own_number}
 use Rattle.sentry_laws.proofs.Numbered.{IsNumbered, client_numbered, numbered_change, none_numbered}
 use Rattle.sentry_laws.proofs.Numbers.{free_from}
 use Rattle.sentry_laws.proofs.Tests.{fails_found}
@@ -333,18 +332,6 @@ module _ {P C : Type 0} where
 module _ {P C : Type 0} (meanings : C → Meanings) where
   traced_by : {given : Option Envelope} {old new : World P C} {some : List (Effect P C)} {sent : List
       (ClientKey × Envelope)} → Change meanings given old some sent new → IsNumbered new → IsTraced old → IsTraced new
-  traced_by (makes_hub world client scope held active) n t = record { numbers = n; kept = t.kept; held = t.held }
-  traced_by (makes_hub_from world maker hub found) n t = record { numbers = n; kept = t.kept; held = t.held }
-  traced_by (changes_hub world number old new change found fits allowed) n t =
-      record { numbers = n; kept = t.kept; held = t.held }
-  traced_by (leaves_hub world number hub change found fits) n t = t
-  traced_by (notes_event_id world number old new found same) n t = record { numbers = n; kept = t.kept; held = t.held }
-  traced_by (releases_hub world number hub found alone) n t = record { numbers = n; kept = t.kept; held = t.held }
-  traced_by (adds_client world client now queues open_ of_engine) n t =
-      record { numbers = n; kept = t.kept; held = t.held }
-  traced_by (clones_client world original client now found) n t = record { numbers = n; kept = t.kept; held = t.held }
-  traced_by (drops_client world key client label found same none) n t =
-      record { numbers = n; kept = t.kept; held = t.held }
   traced_by (arrives world key client arrival is_off found open_ came) n t =
       traced_sending client.label (send key client (envelopes_on_arrival arrival client)
       (with_client_history world key (after_arrival arrival client))).sent
@@ -365,21 +352,11 @@ module _ {P C : Type 0} (meanings : C → Meanings) where
         held =
             t.held;
       })
-  traced_by (mails world key client envelope found occupied plain told_) n t =
-      record { numbers = n; kept = t.kept; held = t.held }
-  traced_by (loses world key client losses found) n t = record { numbers = n; kept = t.kept; held = t.held }
-  traced_by (takes_report world label has) n t = record { numbers = n; kept = t.kept; held = t.held }
-  traced_by (absorbs world label losses has) n t = record { numbers = n; kept = t.kept; held = t.held }
-  traced_by (starts_none world number id) n t = record { numbers = n; kept = t.kept; held = t.held }
-  traced_by (accepts_none world kind) n t = record { numbers = n; kept = t.kept; held = t.held }
-  traced_by (starts_session world number start) n t = record { numbers = n; kept = t.kept; held = t.held }
-  traced_by (changes_session world number old new later found same) n t =
-      record { numbers = n; kept = t.kept; held = t.held }
-  traced_by (ends_session world number) n t = record { numbers = n; kept = t.kept; held = t.held }
   traced_by (starts_transaction world state new_) n t = started_traced world state new_ n t
   traced_by (starts_span world parent place held found of_ traced) n t =
       span_traced world parent place held found of_ traced n t
   traced_by (changes_spans world transactions spans change) n t = traced_spans world transactions spans change n t
+  traced_by _ n t = record { numbers = n; kept = t.kept; held = t.held }
 
   pub traced_change : {given : Option Envelope} {old new : World P C} {some : List (Effect P C)} {sent : List
       (ClientKey × Envelope)} → Change meanings given old some sent new → IsTraced old → IsTraced new

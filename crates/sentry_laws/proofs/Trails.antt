@@ -1,12 +1,13 @@
 -- How the calls are put together out of changes.
-use Rattle.std.proofs.Common.{◌≡◌, refl, sym, subst, ℕ, List, [], ◌∷◌, ◌++◌, Bool, true, false, cond}
+use Rattle.std.proofs.Common.{◌≡◌, refl, ap, ◌∙◌, sym, subst, ℕ, List, [], ◌∷◌, ◌++◌, Bool, true, false, cond}
 use Rattle.std.proofs.lemmas.List.{append-nil}
-use Rattle.std.specs.Prelude.{Option, Some, None, Result, Ok, Err, ◌==◌, if◌then◌else◌}
+use Rattle.std.specs.Prelude.{Option, Some, None, Result, Ok, Err, ◌==◌, ◌||◌, if◌then◌else◌}
 use Rattle.std.specs.List.{list_any}
 use Rattle.std.specs.Option.{option_map}
 use Rattle.sentry_plain.specs.Tables.{value_at}
 use Rattle.sentry_base.specs.declared.protocol.envelope.Envelope.{Envelope}
 use Rattle.sentry_base.specs.declared.protocol.keys.ClientKey.{ClientKey}
+use Rattle.sentry_base.specs.declared.protocol.keys.SessionKey.{SessionKey}
 use Rattle.sentry_base.specs.declared.protocol.refusal.Refusal.{Refusal}
 use Rattle.sentry_options.specs.Meanings.{Meanings}
 use Rattle.sentry_state.specs.declared.state.ClientState.{ClientState}
@@ -15,7 +16,8 @@ use Rattle.sentry_state.specs.Worlds.{World, ClientHistory, stored_client}
 use Rattle.sentry_state.specs.Outcomes.{Outcome, require_some, let_some, require, reply_with, value_under}
 use Rattle.sentry_sending.specs.Sending.{Sending, send_nothing, send_some, reply_sending}
 use Rattle.sentry_calls.specs.Replies.{map_reply, map_answer}
-use Rattle.sentry_laws.proofs.Effects.{Effect, hub_changed, session_named}
+use Rattle.sentry_laws.specs.OwnCalls as own
+use Rattle.sentry_laws.proofs.Effects.{Effect, seen, session_named}
 use Rattle.sentry_laws.proofs.Changes.{Change, Changes, nothing, one, both}
 use Rattle.sentry_laws.specs.Reachable.{SessionsAreNamed}
 use Rattle.sentry_laws.proofs.Numbered.{IsNumbered}
@@ -37,13 +39,33 @@ found_under tag entries key_tag number x h = under-at (key_tag == tag) (value_at
 module _ {P C : Type 0} where
   -- the effect is one that calls tell of
   abbrev pub is_own : Effect P C → Bool
-  is_own (hub_changed number (session_named session)) = false
+  is_own (session_named number session) = false
   is_own _ = true
 
   -- the effects, names of sessions aside
   abbrev pub own_effects : List (Effect P C) → List (Effect P C)
   own_effects [] = []
   own_effects (effect ∷ rest) = cond (is_own effect) (effect ∷ own_effects rest) (own_effects rest)
+
+  -- a test that no name of a session passes
+  pub own_any : (test : Effect P C → Bool) → ((number : ℕ) (session : Option SessionKey)
+      → test (session_named number session) ≡ false)
+      → (some : List (Effect P C)) → list_any test (own_effects some) ≡ list_any test some
+  own_any test none [] = refl
+  own_any test none (session_named number session ∷ rest) =
+      own_any test none rest ∙ ap (λ b. b || list_any test rest) (sym (none number session))
+  own_any test none (effect ∷ rest) = ap (λ b. test effect || b) (own_any test none rest)
+
+  -- what the clause of `IsIsolated` sees of effects
+  abbrev pub seen_in : List (Effect P C) → List (own.Effect P C)
+  seen_in [] = []
+  seen_in (seen effect ∷ rest) = effect ∷ seen_in rest
+  seen_in (_ ∷ rest) = seen_in rest
+
+  pub own_seen : (some : List (Effect P C)) → seen_in (own_effects some) ≡ seen_in some
+  own_seen [] = refl
+  own_seen (seen effect ∷ rest) = ap (λ l. effect ∷ l) (own_seen rest)
+  own_seen (_ ∷ rest) = own_seen rest
 
 module _ {P C : Type 0} (meanings : C → Meanings) (given : Option Envelope) where
   -- changes whose effects, names of sessions aside, are these, and after which each session that is held is named as

@@ -43,13 +43,13 @@ use Rattle.sentry_calls.specs.Runs.{StepsTo, Run}
 use Rattle.sentry_laws.specs.SentItems.{handed_in}
 use Rattle.sentry_laws.specs.Statuses.{Among, status_of, GoesOn}
 use Rattle.sentry_laws.specs.Updates.{updates_in, updates_sent, updates_among, all_queued, queued_at, queued_below, updates_told, StaysEnded, started_id, IsNotStarted, IsStartedOnce, StatusStays}
-use Rattle.sentry_laws.proofs.Effects.{Came, Effect, scope_edited, breadcrumbs_came, client_bound, layer_pushed, layer_popped, session_named, hub_changed, hub_made, hub_made_from, hub_released, losses_absorbed, report_taken, session_begun, client_dropped, came_to_queues, client_added, client_cloned, effects, client_effects, hub_effects}
+use Rattle.sentry_laws.proofs.Effects.{Came, Effect, session_named, session_begun, effects, client_effects, hub_effects}
 use Rattle.sentry_laws.proofs.Changes.{Change, Changes, nothing, one, both, IsOfHeld, AreOfHeld, IsArrival, kind_of, Arrival, log_came, metric_came, session_ended, flush_came, after_arrival, envelopes_on_arrival, makes_hub, makes_hub_from, changes_hub, leaves_hub, notes_event_id, releases_hub, adds_client, clones_client, drops_client, arrives, accepts, accepts_none, mails, loses, takes_report, absorbs, starts_none, starts_session, changes_session, ends_session, starts_transaction, starts_span, changes_spans}
-use Rattle.sentry_laws.proofs.Found.{same_number, found_put, found_replaced, found_without}
+use Rattle.sentry_laws.proofs.Found.{same_number, found_put, found_replaced, found_without, other_number}
 use Rattle.sentry_laws.proofs.Keeping.{trail_of}
 use Rattle.sentry_laws.proofs.Tests.{any_first, any_second}
 use Rattle.sentry_laws.proofs.Numbered.{IsNumbered, numbered_changes, none_numbered}
-use Rattle.sentry_laws.proofs.Trails.{found_under, own_effects}
+use Rattle.sentry_laws.proofs.Trails.{found_under, own_effects, own_any}
 use Rattle.sentry_laws.proofs.ToldUpdates.{among_append, among_dropped, among_reported, from_slot, ComesBy, sent_on_arrival}
 
 -- ---- updates and sessions of one id
@@ -511,12 +511,6 @@ module _ {P C : Type 0} (meanings : C → Meanings) where
   pub step_of : (f : Option Envelope) {old new : World P C} {some : List (Effect P C)} {sent : List
       (ClientKey × Envelope)} → Change meanings f old some sent new
       → IsNumbered old → Step old new some (updates_sent f sent)
-  step_of f (makes_hub world client scope held active) n = quiet world _ _ f refl refl (λ u q. q)
-  step_of f (makes_hub_from world maker hub found) n = quiet world _ _ f refl refl (λ u q. q)
-  step_of f (changes_hub world number old new change found fits allowed) n = quiet world _ _ f refl refl (λ u q. q)
-  step_of f (leaves_hub world number hub change found fits) n = quiet world _ _ f refl refl (λ u q. q)
-  step_of f (notes_event_id world number old new found same) n = quiet world _ _ f refl refl (λ u q. q)
-  step_of f (releases_hub world number hub found alone) n = quiet world _ _ f refl refl (λ u q. q)
   step_of f (adds_client world client now queues open_ of_engine) n =
       quiet world _ _ f refl refl (λ u q. added_queues world world.next.client client
       (ap (λ (q : QueueHistories). all_queued q.sessions) queues) u q.0 q.1 q.2 q.3)
@@ -539,18 +533,11 @@ module _ {P C : Type 0} (meanings : C → Meanings) where
       (pending_report world client.label))
   step_of f (mails world key client envelope found occupied plain told_) n =
       mailed world _ _ f key (pending_report world client.label) envelope refl refl refl (λ e. (told_ e).0)
-  step_of f (loses world key client losses found) n = quiet world _ _ f refl refl (λ u q. q)
-  step_of f (takes_report world label has) n = quiet world _ _ f refl refl (λ u q. q)
-  step_of f (absorbs world label losses has) n = quiet world _ _ f refl refl (λ u q. q)
-  step_of f (starts_none world number other) n = quiet world world _ f refl refl (λ u q. q)
-  step_of f (accepts_none world kind) n = quiet world world _ f refl refl (λ u q. q)
   step_of f (starts_session world number start) n = started_tells world number start _ f refl refl refl
   step_of f (changes_session world number old new later found same) n =
       changed_tells world number old new later _ f found same
   step_of f (ends_session world number) n = gone_tells world number _ f n
-  step_of f (starts_transaction world state new_) n = quiet world _ _ f refl refl (λ u q. q)
-  step_of f (starts_span world parent place held found of_ traced) n = quiet world _ _ f refl refl (λ u q. q)
-  step_of f (changes_spans world transactions spans change) n = quiet world _ _ f refl refl (λ u q. q)
+  step_of f _ n = quiet _ _ _ f refl refl (λ u q. q)
 
 module _ (id : List ℕ) {P C : Type 0} where
   -- the first session of this id
@@ -748,59 +735,16 @@ module _ (id : List ℕ) {P C : Type 0} where
   own_starts : (some : List (Effect P C)) → NoStart id (own_effects some) → NoStart id some
   own_starts [] h = tt
   own_starts (session_begun number other ∷ rest) h = (h.0, own_starts rest h.1)
-  own_starts (hub_changed number (session_named session) ∷ rest) h = own_starts rest h
-  own_starts (hub_changed number (scope_edited edits) ∷ rest) h = own_starts rest h
-  own_starts (hub_changed number (breadcrumbs_came breadcrumbs) ∷ rest) h = own_starts rest h
-  own_starts (hub_changed number (client_bound client) ∷ rest) h = own_starts rest h
-  own_starts (hub_changed number layer_pushed ∷ rest) h = own_starts rest h
-  own_starts (hub_changed number (layer_popped given) ∷ rest) h = own_starts rest h
-  own_starts (client_added key options ∷ rest) h = own_starts rest h
-  own_starts (client_cloned key original ∷ rest) h = own_starts rest h
-  own_starts (hub_made number stack ∷ rest) h = own_starts rest h
-  own_starts (hub_made_from number maker ∷ rest) h = own_starts rest h
-  own_starts (hub_released number ∷ rest) h = own_starts rest h
-  own_starts (losses_absorbed label losses ∷ rest) h = own_starts rest h
-  own_starts (report_taken label report ∷ rest) h = own_starts rest h
-  own_starts (client_dropped number ∷ rest) h = own_starts rest h
-  own_starts (came_to_queues kind ∷ rest) h = own_starts rest h
+  own_starts (_ ∷ rest) h = own_starts rest h
 
   own_begins : (some : List (Effect P C)) → list_any (begins id) (own_effects some) ≡ list_any (begins id) some
-  own_begins [] = refl
-  own_begins (session_begun number other ∷ rest) = refl
-  own_begins (hub_changed number (session_named session) ∷ rest) = own_begins rest
-  own_begins (hub_changed number (scope_edited edits) ∷ rest) = own_begins rest
-  own_begins (hub_changed number (breadcrumbs_came breadcrumbs) ∷ rest) = own_begins rest
-  own_begins (hub_changed number (client_bound client) ∷ rest) = own_begins rest
-  own_begins (hub_changed number layer_pushed ∷ rest) = own_begins rest
-  own_begins (hub_changed number (layer_popped given) ∷ rest) = own_begins rest
-  own_begins (client_added key options ∷ rest) = own_begins rest
-  own_begins (client_cloned key original ∷ rest) = own_begins rest
-  own_begins (hub_made number stack ∷ rest) = own_begins rest
-  own_begins (hub_made_from number maker ∷ rest) = own_begins rest
-  own_begins (hub_released number ∷ rest) = own_begins rest
-  own_begins (losses_absorbed label losses ∷ rest) = own_begins rest
-  own_begins (report_taken label report ∷ rest) = own_begins rest
-  own_begins (client_dropped number ∷ rest) = own_begins rest
-  own_begins (came_to_queues kind ∷ rest) = own_begins rest
+  own_begins = own_any (begins id) (λ number session. refl)
 
   own_once : (some : List (Effect P C)) → Once id (own_effects some) → Once id some
   own_once [] h = tt
   own_once (session_begun number other ∷ rest) h = (λ e. sym (own_begins rest) ∙ h.0 refl, own_once rest h.1)
-  own_once (hub_changed number (session_named session) ∷ rest) h = (λ e. absurd cc, own_once rest h)
-  own_once (hub_changed number (scope_edited edits) ∷ rest) h = (λ e. absurd cc, own_once rest h.1)
-  own_once (hub_changed number (breadcrumbs_came breadcrumbs) ∷ rest) h = (λ e. absurd cc, own_once rest h.1)
-  own_once (hub_changed number (client_bound client) ∷ rest) h = (λ e. absurd cc, own_once rest h.1)
-  own_once (hub_changed number layer_pushed ∷ rest) h = (λ e. absurd cc, own_once rest h.1)
-  own_once (hub_changed number (layer_popped given) ∷ rest) h = (λ e. absurd cc, own_once rest h.1)
-  own_once (client_added key options ∷ rest) h = (λ e. absurd cc, own_once rest h.1)
-  own_once (client_cloned key original ∷ rest) h = (λ e. absurd cc, own_once rest h.1)
-  own_once (hub_made number stack ∷ rest) h = (λ e. absurd cc, own_once rest h.1)
-  own_once (hub_made_from number maker ∷ rest) h = (λ e. absurd cc, own_once rest h.1)
-  own_once (hub_released number ∷ rest) h = (λ e. absurd cc, own_once rest h.1)
-  own_once (losses_absorbed label losses ∷ rest) h = (λ e. absurd cc, own_once rest h.1)
-  own_once (report_taken label report ∷ rest) h = (λ e. absurd cc, own_once rest h.1)
-  own_once (client_dropped number ∷ rest) h = (λ e. absurd cc, own_once rest h.1)
-  own_once (came_to_queues kind ∷ rest) h = (λ e. absurd cc, own_once rest h.1)
+  own_once (session_named number session ∷ rest) h = (λ e. absurd cc, own_once rest h)
+  own_once (_ ∷ rest) h = (λ e. absurd cc, own_once rest h.1)
 
 module _ (id : List ℕ) {P C : Type 0} (meanings : C → Meanings) where
   client_starts : (call : ClientCall P C) (made : Reply P C) → NoStart id (client_effects meanings call made)
@@ -913,13 +857,10 @@ same_ids (x ∷ xs) (y ∷ ys) = by_first (x == y) refl (same_ids xs ys)
       where
         tails : x ∷ xs ≡ y ∷ ys → xs ≡ ys
         tails p = cc
-    by_first false e h = inr (λ p. differs x y e (heads p))
+    by_first false e h = inr (λ p. other_number x y e (heads p))
       where
         heads : x ∷ xs ≡ y ∷ ys → x ≡ y
         heads p = cc
-
-        differs : (x y : ℕ) → (x == y) ≡ false → x ≡ y → ⊥
-        differs x y e p = grind (arith, nat_tests)
 
 starts_by : (id : List ℕ) (o : Option (List ℕ)) → (o ≡ Some id) ⊎ (o ≢ Some id)
 starts_by id None = inr (λ e. absurd cc)

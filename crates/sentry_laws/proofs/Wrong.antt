@@ -2,6 +2,7 @@
 use Rattle.std.proofs.Common.{◌≡◌, ◌≢◌, refl, ap, ◌∙◌, sym, subst, [], ◌∷◌, true, false}
 use Rattle.std.specs.List.{AllByRecursion}
 use Rattle.std.specs.Prelude.{Some, ◌||◌}
+use Rattle.sentry_laws.proofs.Found.{own_number}
 use Rattle.sentry_hub_table.specs.Hubs.{is_session_named}
 use Rattle.sentry_base.specs.declared.protocol.envelope.EnvelopeItem.TheVariants as item
 use Rattle.sentry_base.specs.declared.protocol.session.SessionStatus.{SessionStatus}
@@ -11,7 +12,6 @@ use Rattle.sentry_options.specs.Meanings.{Meanings}
 use Rattle.sentry_batches.specs.Batches.{queued_items, accepted_items}
 use Rattle.sentry_laws.specs.Traces.{ItemIsInTrace}
 use Rattle.sentry_laws.specs.Wrong.{DerivedHubLeavesMaker, SilentFlushIsRefused, KeptLogIsRefused, LaterCrashIsRefused, OverwrittenStatusIsRefused, ForeignSpanIsRefused, OutlivingSessionIsRefused}
-use Rattle.sentry_laws.proofs.LabelBooks.{own_number}
 
 module _ (P C : Type 0) (meanings : C → Meanings) where
   pub derived_leaves : DerivedHubLeavesMaker P C meanings
