@@ -1,5 +1,6 @@
 -- Spans and queues may go to another thread: their records hold a `Value`, so that follows here from their fields.
 use denote.Param.Send.{IsSend, sendable}
+use Rattle.std.proofs.Crossing as heap
 use Rattle.std.proofs.MapsCrossing as maps
 use Rattle.std.proofs.option.Option.TheSendSync as Option
 use Rattle.sentry_plain.proofs.items.Items.TheSendSync as Items
@@ -22,10 +23,10 @@ use Rattle.sentry_span_table.specs.contracts.table.records.SpanRecord as SpanRec
 use Rattle.sentry_span_table.specs.contracts.table.records.SpanTable as SpanTable
 use Rattle.sentry_sessions.specs.contracts.session.queue.SessionQueue as SessionQueue
 use Rattle.sentry_state.specs.contracts.state.Queues as Queues
-use Rattle.sentry_base.proofs.Crossing.{Log_send, Metric_send, Span_field_send, Span_send, TraceContext_field_send, Transaction_field_send}
+use Rattle.sentry_base.proofs.Crossing.{Log_send, Metric_send, Span_field_send, Span_send, TraceContext_field_send, Transaction_send}
 
 pub Unfinished_field_send : IsSend (Unfinished.the_field).row
-Unfinished_field_send = search (ClientKey.the_field_send, Transaction_field_send, sendable) depth 60 fits 20000
+Unfinished_field_send = search (ClientKey.the_field_send, Boxed.the_send, Transaction_send, sendable) depth 60 fits 20000
 
 pub Unfinished_send : IsSend Unfinished.the_row
 Unfinished_send = search (Unfinished_field_send, sendable)
@@ -49,7 +50,7 @@ pub SpanTable_send : IsSend SpanTable.the_row
 SpanTable_send = search (SpanTable_field_send, sendable)
 
 pub SessionQueue_send : IsSend SessionQueue.the_row
-SessionQueue_send = search (SessionMode.the_field_send, AggregateKey.the_send, AggregateCounts.the_send, Option.the_field_send, Shared.the_send, SessionAttributes.the_send, SessionAttributes.the_sync, Items.the_send, SessionUpdate.the_send, maps.crosses, sendable) depth 60 fits 20000
+SessionQueue_send = search (SessionMode.the_field_send, AggregateKey.the_send, AggregateCounts.the_send, Option.the_field_send, Shared.the_send, SessionAttributes.the_send, SessionAttributes.the_sync, SessionUpdate.the_send, heap.crosses, maps.crosses, sendable) depth 60 fits 20000
 
 pub Queues_field_send : IsSend (Queues.the_field).row
 Queues_field_send = search (SessionQueue_send, LastTick.the_field_send, Batch.the_send, Log_send, Metric_send, sendable) depth 60 fits 20000

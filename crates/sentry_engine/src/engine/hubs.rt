@@ -76,6 +76,16 @@ fn only<T: Drop>(mut items: Vec<T>) -> Result<T, Vec<T>>
     items.pop().ok_or(items)
 }
 
+// A list of one item.
+fn list_of<T: Drop>(alloc: Global, item: T) -> Result<Vec<T>, AllocError>
+    ensures { IfOk result (λ items. items.items ≡ item ∷ []) }
+{
+    let mut items = Vec::new(alloc);
+    items.reserve(1)?;
+    items.push_reserved(item);
+    Ok(items)
+}
+
 impl<P: Drop, C: Callbacks> Engine<P, C> {
     /// Adds a hub with one layer, of a client or none and a scope, and answers its key.
     ///
@@ -185,6 +195,32 @@ impl<P: Drop, C: Callbacks> Engine<P, C> {
             Ok(edit) => self.configure_one(hub, edit),
             Err(edits) => self.configure_all(hub, edits),
         }
+    }
+
+    /// Does one edit, as `configure` does, and without a list where the edit doesn't clear the scope.
+    ///
+    /// `Stale`: the hub isn't held, or the transaction or the span that the edit makes active isn't. `OutOfMemory`: the
+    /// edit isn't done.
+    #[tactic(auto, unfolding(sentry_calls::specs::Hubs::configure))]
+    pub fn edit_scope(
+        &mut self,
+        hub: HubKey,
+        edit: ScopeEdit<P>,
+        now: u64,
+    ) -> Result<Out<()>, Refusal>
+        ensures { Does self.old self.new result (call.configure hub (edit ∷ []) now) }
+    {
+        if !is_clear(&edit) {
+            return self.configure_one(hub, edit);
+        }
+        let Some(_held) = self.state.hub_at(hub) else {
+            return Err(Refusal::Stale);
+        };
+        if !edit.names_held_span(self.state.span_table()) {
+            return Err(Refusal::Stale);
+        }
+        let edits = list_of(self.state.alloc, edit)?;
+        self.clear_and_configure(hub, edits, now)
     }
 
     /// Adds breadcrumbs to the top scope of a hub. Each goes through the `before_breadcrumb` of the top layer's client.

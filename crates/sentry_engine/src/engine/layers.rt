@@ -52,14 +52,13 @@ impl<P: Drop, C: Callbacks> Engine<P, C> {
         Ok(self.state.out(ScopeGuard { hub, depth }))
     }
 
-    // The same as `pop_scope`, of plain numbers.
+    /// Removes the layer of a depth from a hub, as `pop_scope` does, for a caller that keeps no guard: other languages
+    /// hold the depth as a number. The Rust crate has only guards.
+    ///
+    /// `Stale`: the hub isn't held. `OutOfOrder`: the layer of this depth isn't the top one, or is the only one.
+    /// `OutOfMemory`.
     #[tactic(auto, unfolding(sentry_calls::specs::Layers::pop_scope))]
-    pub(crate) fn pop_scope_at(
-        &mut self,
-        hub: HubKey,
-        depth: usize,
-        now: u64,
-    ) -> Result<Out<()>, Refusal>
+    pub fn pop_scope_at(&mut self, hub: HubKey, depth: usize, now: u64) -> Result<Out<()>, Refusal>
         ensures { Does self.old self.new result (call.pop_scope hub depth now) }
     {
         let Some(held) = self.state.hub_at(hub) else {

@@ -6,7 +6,7 @@ use Rattle.sentry_laws.proofs.Accepted.{accepts_logs, accepts_metrics}
 use Rattle.sentry_laws.proofs.ActiveSpans.{active_spans_held}
 use Rattle.sentry_laws.proofs.Closings.{closed_by_calls}
 use Rattle.sentry_laws.proofs.CallsAddUp.{calls_add_up}
-use Rattle.sentry_laws.proofs.Isolation.{named_clients_held}
+use Rattle.sentry_laws.proofs.Isolation.{named_clients_held, isolated, keeps_options}
 use Rattle.sentry_laws.proofs.LabelBooks.{books_of_clients}
 use Rattle.sentry_laws.proofs.KeptStatuses.{statuses_kept}
 use Rattle.sentry_laws.proofs.LossesByCalls.{records_losses}
@@ -17,7 +17,6 @@ use Rattle.sentry_laws.proofs.Reports.{reports_add_up}
 use Rattle.sentry_laws.proofs.SentKinds.{sends_logs, sends_metrics, sends_logs_at_each_call, sends_metrics_at_each_call}
 use Rattle.sentry_laws.proofs.SecondEnds.{all_ends_silent}
 use Rattle.sentry_laws.proofs.SentTraces.{sent_in_trace}
-use Rattle.sentry_laws.proofs.Shown.{isolated, keeps_options}
 use Rattle.sentry_laws.proofs.Traces.{kept_in_trace, held_in_trace}
 use Rattle.sentry_laws.proofs.Updates.{statuses_stay}
 use Rattle.sentry_engine.proofs.RunLemmas.{Reaches, reaches_more, reaches_end}
