@@ -12,3 +12,4 @@ mod Silent
 mod Walks
 mod Sent
 mod LockAnswers
+mod Refusals

@@ -1,15 +1,18 @@
 -- What was answered by what the lock held.
-use Rattle.std.proofs.Common.{◌≡◌, refl, subst, sym}
-use Rattle.std.specs.Prelude.{Bool, Result, Ok, Err, IfOk, IfErr}
+use Rattle.std.proofs.Common.{◌≡◌, refl, subst, sym, inl, inr}
+use Rattle.std.specs.Prelude.{◌⊎◌, Bool, true, false, Option, Result, Ok, Err, IfOk, IfErr, MatchOption}
+use Rattle.sentry_base.specs.declared.protocol.keys.Label.{Label}
+use Rattle.sentry_base.specs.declared.protocol.losses.Losses.{Losses}
 use Rattle.sentry_base.specs.declared.protocol.refusal.Refusal.{Refusal}
+use Rattle.sentry_base.specs.declared.protocol.refusal.Refusal.TheVariants.{ForeignLosses, OutOfMemory}
 use Rattle.sentry_state.specs.declared.state.Out.{Out}
 use Rattle.sentry_state.specs.declared.state.State.{State}
 use Rattle.sentry_state.specs.Outcomes.{Outcome, DoesWith, Need}
 use Rattle.sentry_state.specs.Worlds.{World}
-use Rattle.sentry_lock.specs.Answers.{RepliesWith, AnswersWith, RefusesWith, DrainsAndAnswers, LockAnswers, LockDrainsAndAnswers, LockMakes}
+use Rattle.sentry_lock.specs.Answers.{RepliesWith, AnswersWith, RefusesWith, DrainsAndAnswers, LockAnswers, LockDrainsAndAnswers, LockDrainsLabel, LockEndsLabel, LockIsForeign, LockMakes, LockRefuses, MakesNot}
 use Rattle.sentry_lock.specs.declared.locked.Core.{Core}
-use Rattle.sentry_lock.specs.Locked.{DrainsAndDoes, DrainsFor}
-use Rattle.sentry_lock.specs.Words.{Drainers}
+use Rattle.sentry_lock.specs.Locked.{DrainsAndAbsorbs, DrainsAndDoes, DrainsFor, EndsAndAbsorbs, FindsNoWords, IsHeld}
+use Rattle.sentry_lock.specs.Words.{Drainers, HasOpenWords}
 
 module _ {P C T A : Type 0} (held : Core P C T) where
   -- by a method of the core
@@ -77,6 +80,14 @@ module _ {P C T A : Type 0} (held : Core P C T) where
   lock_makes drains need between new drained outcome out first did =
       (held, between, new, drained, first, (out.sent, did))
 
+  pub makes_not : (drains : Bool) (need : Need) (between : State P C) (drained : Drainers)
+      (outcome : World P C → Outcome P C A) (refusal : Refusal)
+      → DrainsFor drains held.tag held.engine between held.drainers drained
+      → (refusal ≡ OutOfMemory) ⊎ DoesWith need between between (Err refusal) outcome
+      → MakesNot held drains need refusal outcome
+  makes_not drains need between drained outcome refusal first (inl out) = inl out
+  makes_not drains need between drained outcome refusal first (inr did) = inr (between, drained, first, did)
+
   -- the same where the core is the one that the lock held when the call began
   module _ (core : Core P C T) (is : held ≡ core) where
     pub answers : (need : Need) (new : State P C) (outcome : World P C → Outcome P C A) (r : Result A Refusal)
@@ -140,6 +151,39 @@ module _ {P C T B : Type 0} (outcome : World P C → Outcome P C (Result B Refus
       → IfOk r (λ reply. LockDrainsAndAnswers P C T (Ok reply) outcome)
   if_drained (Ok reply) did = did
   if_drained (Err refusal) did = tt
+
+  -- either part was refused
+  pub if_refused : (r : Result B Refusal) → LockAnswers P C T r outcome
+      → IfErr r (λ refusal. LockRefuses P C T refusal outcome ⊎ LockAnswers P C T (Err refusal) outcome)
+  if_refused (Ok reply) did = tt
+  if_refused (Err refusal) did = inr did
+
+-- by a call on the losses of a label
+module _ {P C T : Type 0} (held : Core P C T) (label : Label) (new : State P C) (after : Drainers) where
+  pub drains_label : (r : Result (Option Losses) Refusal)
+      → IfOk r (λ drained. IsHeld true label held.engine
+      × MatchOption drained (FindsNoWords label held.engine new held.drainers after)
+      (λ losses. DrainsAndAbsorbs label losses.quantities held.engine new held.drainers after))
+      → IfOk r (λ drained. LockDrainsLabel P C T label drained)
+  drains_label (Ok drained) did = (held, (new, after, did.0, did.1))
+  drains_label (Err refusal) did = did
+
+  pub ends_label : (r : Result Bool Refusal) → IfOk r (λ _. IsHeld true label held.engine)
+      → IfOk r (λ ended. ended ≡ true → FindsNoWords label held.engine new held.drainers after
+      ⊎ EndsAndAbsorbs label held.engine new held.drainers after)
+      → IfOk r (λ ended. ended ≡ false → HasOpenWords held.drainers label.number × (new ≡ held.engine)
+      × (after ≡ held.drainers))
+      → IfOk r (λ ended. LockEndsLabel P C T label ended)
+  ends_label (Ok true) named ended stay = (held, (new, after, named, ended refl))
+  ends_label (Ok false) named ended stay = (held, (named, (stay refl).0))
+  ends_label (Err refusal) named ended stay = named
+
+  pub is_foreign : {A : Type 0} (r : Result A Refusal)
+      → IfErr r (λ refusal. (refusal ≡ ForeignLosses) × IsHeld false label held.engine × (new ≡ held.engine)
+      × (after ≡ held.drainers))
+      → IfErr r (λ refusal. LockIsForeign P C T label refusal)
+  is_foreign (Ok reply) did = did
+  is_foreign (Err refusal) did = (held, (did.0, did.1))
 
 -- what holds of the value of an answer
 pub of_ok : {X E : Type 0} (Q : X → Type 0) (r : Result X E) (x : X) → r ≡ Ok x → IfOk r Q → Q x

@@ -2,7 +2,7 @@
 use mathlib.Core.HLevel.{⊥_prop}
 use mathlib.Core.Logic.{∥∥₁_elim, ∥∥₁_map}
 use Rattle.std.proofs.Common.{◌≡◌, refl, ap, ◌∙◌, sym, subst, ℕ, List, [], Bool, true, false, arith}
-use Rattle.std.specs.Prelude.{Option, Some, None, Result, Ok, Err, ◌==◌, ◌&&◌, if◌then◌else◌}
+use Rattle.std.specs.Prelude.{Option, Some, None, Result, Ok, Err, IfOk, IfErr, ◌==◌, ◌&&◌, if◌then◌else◌}
 use Rattle.std.specs.Option.{is_some}
 use Rattle.sentry_plain.specs.Tables.{value_at, put, replace_at}
 use Rattle.sentry_base.proofs.ByIndex.{at_index}
@@ -82,6 +82,17 @@ module _ {P C : Type 0} where
       (tied_after_call s.world.books (outcome s.world).after.books drainers (keeps s.world) s.sorted (tied_in_world s)))
   after_call need old new (Err refusal) outcome drainers does keeps sound =
       subst (λ (e : State P C). ∥ IsSound e drainers ∥₁) (sym does.0) sound
+
+  -- the same, where the answer holds what the call came to
+  pub after_handed : {T H : Type 0} (old new : State P C) (result : Result H Refusal) (out : H → Out T)
+      (outcome : World P C → Outcome P C T) (drainers : Drainers)
+      → IfOk result (λ handed. DoesWith memory old new (Ok (out handed)) outcome) → IfErr result (λ _. new ≡ old)
+      → ((world : World P C) → KeepsBooks world.books (outcome world).after.books)
+      → ∥ IsSound old drainers ∥₁ → ∥ IsSound new drainers ∥₁
+  after_handed old new (Ok handed) out outcome drainers does same keeps sound =
+      after_call memory old new (Ok (out handed)) outcome drainers does keeps sound
+  after_handed old new (Err refusal) out outcome drainers does same keeps sound =
+      subst (λ (e : State P C). ∥ IsSound e drainers ∥₁) (sym same) sound
 
   -- ---- losses
 

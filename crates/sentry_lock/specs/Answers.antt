@@ -1,14 +1,17 @@
 -- What calls that take the lock answer, by the core that the lock held.
-use Rattle.std.specs.Prelude.{Bool, List, Ok, Err}
+use Rattle.std.specs.Prelude.{◌≡◌, ◌⊎◌, Bool, true, false, List, Option, Ok, Err, MatchOption}
 use Rattle.sentry_base.specs.declared.protocol.envelope.Envelope.{Envelope}
 use Rattle.sentry_base.specs.declared.protocol.keys.ClientKey.{ClientKey}
+use Rattle.sentry_base.specs.declared.protocol.keys.Label.{Label}
+use Rattle.sentry_base.specs.declared.protocol.losses.Losses.{Losses}
 use Rattle.sentry_base.specs.declared.protocol.refusal.Refusal.{Refusal}
+use Rattle.sentry_base.specs.declared.protocol.refusal.Refusal.TheVariants.{ForeignLosses, OutOfMemory}
 use Rattle.sentry_state.specs.declared.state.State.{State}
 use Rattle.sentry_state.specs.Outcomes.{Outcome, DoesWith, Need, memory, nothing}
 use Rattle.sentry_state.specs.Worlds.{World}
 use Rattle.sentry_lock.specs.declared.locked.Core.{Core}
-use Rattle.sentry_lock.specs.Locked.{DrainsAndDoes, DrainsFor}
-use Rattle.sentry_lock.specs.Words.{Drainers}
+use Rattle.sentry_lock.specs.Locked.{DrainsAndAbsorbs, DrainsAndDoes, DrainsFor, EndsAndAbsorbs, FindsNoWords, IsHeld}
+use Rattle.sentry_lock.specs.Words.{Drainers, HasOpenWords}
 
 module _ {P C : Type 0} where
   -- the call did what its definition says, and this is its reply
@@ -47,6 +50,34 @@ module _ {P C T : Type 0} where
   abbrev pub RefusesWithoutMemory : {A : Type 0} → Core P C T → Refusal → (World P C → Outcome P C A) → Type 0
   RefusesWithoutMemory core refusal outcome = RefusesWith nothing core refusal outcome
 
+  -- the engine of the core refused the call, after all labels were drained, or none; or memory ran out before it
+  abbrev pub MakesNot : {A : Type 0} → Core P C T → Bool → Need → Refusal → (World P C → Outcome P C A) → Type 0
+  MakesNot core drains need refusal outcome =
+      (refusal ≡ OutOfMemory)
+      ⊎ ((between : State P C) × (drained : Drainers)
+      × DrainsFor drains core.tag core.engine between core.drainers drained
+      × DoesWith need between between (Err refusal) outcome)
+
+  -- the words of a label were drained once and its book absorbed what that gave; or none of them were open
+  abbrev pub DrainsLabel : Core P C T → Label → Option Losses → Type 0
+  DrainsLabel core label drained =
+      (new : State P C) × (after : Drainers) × IsHeld true label core.engine
+      × MatchOption drained (FindsNoWords label core.engine new core.drainers after)
+      (λ losses. DrainsAndAbsorbs label losses.quantities core.engine new core.drainers after)
+
+  -- the words of a label were ended and its book absorbed what stood in them, or none of them were open; or they stay
+  -- open
+  abbrev pub EndsLabel : Core P C T → Label → Bool → Type 0
+  EndsLabel core label true =
+      (new : State P C) × (after : Drainers) × IsHeld true label core.engine
+      × (FindsNoWords label core.engine new core.drainers after
+      ⊎ EndsAndAbsorbs label core.engine new core.drainers after)
+  EndsLabel core label false = IsHeld true label core.engine × HasOpenWords core.drainers label.number
+
+  -- no client that is held names the label
+  abbrev pub IsForeign : Core P C T → Label → Refusal → Type 0
+  IsForeign core label refusal = (refusal ≡ ForeignLosses) × IsHeld false label core.engine
+
 -- a core that the lock held gave a reply, after all labels were drained, or none
 module _ {P C : Type 0} (T : Type 0) where
   abbrev pub LockMakes : {A : Type 0} → Bool → Need → A → (World P C → Outcome P C A) → Type 0
@@ -54,6 +85,10 @@ module _ {P C : Type 0} (T : Type 0) where
       (core : Core P C T) × (between : State P C) × (new : State P C) × (drained : Drainers)
       × DrainsFor drains core.tag core.engine between core.drainers drained
       × RepliesWith need between new reply outcome
+
+  -- a core that the lock held refused the call, after all labels were drained, or none; or memory ran out before it
+  abbrev pub LockMakesNot : {A : Type 0} → Bool → Need → Refusal → (World P C → Outcome P C A) → Type 0
+  LockMakesNot drains need refusal outcome = (core : Core P C T) × MakesNot core drains need refusal outcome
 
 -- What a call answers by a core that the lock held at some moment of it.
 module _ (P C T : Type 0) where
@@ -71,3 +106,12 @@ module _ (P C T : Type 0) where
 
   abbrev pub LockRefusesWithoutMemory : {A : Type 0} → Refusal → (World P C → Outcome P C A) → Type 0
   LockRefusesWithoutMemory refusal outcome = (core : Core P C T) × RefusesWithoutMemory core refusal outcome
+
+  abbrev pub LockDrainsLabel : Label → Option Losses → Type 0
+  LockDrainsLabel label drained = (core : Core P C T) × DrainsLabel core label drained
+
+  abbrev pub LockEndsLabel : Label → Bool → Type 0
+  LockEndsLabel label ended = (core : Core P C T) × EndsLabel core label ended
+
+  abbrev pub LockIsForeign : Label → Refusal → Type 0
+  LockIsForeign label refusal = (core : Core P C T) × IsForeign core label refusal

@@ -1,6 +1,6 @@
 //! A client: its key, and a share of the core that holds it.
 ghost use Rattle.std.specs.Option.{is_some};
-ghost use Rattle.std.specs.Prelude.{◌≡◌, IfErr, IfOk, Ok, nat_lt, option_copied};
+ghost use Rattle.std.specs.Prelude.{◌≡◌, ◌⊎◌, IfErr, IfOk, Ok, nat_lt, option_copied};
 ghost use Rattle.sentry_base.specs.Losses.{no_losses};
 ghost use Rattle.sentry_calls.specs.Clients as clients;
 ghost use Rattle.sentry_calls.specs.Telemetry as telemetry;
@@ -212,8 +212,10 @@ impl<L: CoreLock> Client<L> {
         scope: Option<&Scope<L::Processor>>,
         fresh: Fresh,
     ) -> Result<Option<Boxed<Event>>, Refusal>
-        ensures { IfOk result (λ reply. LockAnswers L.Processor L.Callbacks L.Transport
+        ensures done { IfOk result (λ reply. LockAnswers L.Processor L.Callbacks L.Transport
             reply (clients.prepare_event L.Processor.gives L.Callbacks.meanings self.now event (option_copied scope.entry) fresh)) }
+        ensures refused { IfErr result (λ refusal. LockRefuses L.Processor L.Callbacks L.Transport
+            refusal (clients.prepare_event L.Processor.gives L.Callbacks.meanings self.now event (option_copied scope.entry) fresh)) }
     {
         self.core
             .lock()
@@ -357,11 +359,17 @@ impl<L: CoreLock> Client<L> {
     ///
     /// `Stale`: the client isn't held. `Full`: the numbers are used up. `OutOfMemory`.
     pub fn clone_client(&self, now: u64) -> Result<Client<L>, Refusal>
-        ensures { IfOk result (λ client. LockAnswers L.Processor L.Callbacks L.Transport client (clients.clone_client self.now now)) }
+        ensures done { IfOk result (λ client. LockAnswers L.Processor L.Callbacks L.Transport
+            client (clients.clone_client self.now now)) }
+        ensures refused { IfErr result (λ refusal. (refusal ≡ Refusal.OutOfMemory)
+            ⊎ LockRefuses L.Processor L.Callbacks L.Transport refusal (clients.clone_client self.now now)) }
     {
         let core = self.core.clone()?;
-        let key = self.core.lock().under.core.clone_client(self.key, now)?;
-        Ok(Client { core, key })
+        let cloned = self.core.lock().under.core.clone_client(self.key, now);
+        match cloned {
+            Ok(key) => Ok(Client { core, key }),
+            Err(refusal) => Err(refusal),
+        }
     }
 
     /// Gives the client back, which no layer of a hub names and under which no session and no transaction goes on. What

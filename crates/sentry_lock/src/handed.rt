@@ -20,23 +20,47 @@ pub(crate) fn reply_of<A: Drop>(answer: Result<Out<A>, Refusal>) -> Result<A, Re
 
 /// The transports by the number of their client. A call takes a share of the whole table before it changes the engine, so
 /// that nothing needs memory after it.
-pub(crate) type Transports<T> = Shared<Table<Shared<T>>>;
+pub(crate) type TransportTable<T> = Shared<Table<Shared<T>>>;
+
+/// What envelopes are handed to: the transports of all clients, or that of the only client that sends.
+#[derive(Drop)]
+pub(crate) enum Transports<T> {
+    All(TransportTable<T>),
+    One(Shared<T>),
+}
+
+impl<T> Transports<T> {
+    // The transport of a client, which sends.
+    fn of(&self, client: ClientKey) -> Option<&Shared<T>> {
+        match self {
+            Transports::All(table) => table.get().get(client.number),
+            Transports::One(transport) => Some(transport),
+        }
+    }
+}
 
 /// The transports, and a share of them that lies ready for a call that hands out envelopes. Most calls hand out none, and
 /// so take none.
 #[derive(Drop)]
 pub(crate) struct Routes<T> {
-    pub(crate) transports: Transports<T>,
-    ready: Option<Transports<T>>,
+    pub(crate) transports: TransportTable<T>,
+    // To be given up before the transports are written to, which otherwise copies them.
+    pub(crate) ready: Option<TransportTable<T>>,
 }
 
 impl<T: Drop> Routes<T> {
     /// By these transports.
-    pub(crate) fn by(transports: Transports<T>) -> Routes<T> {
+    pub(crate) fn by(transports: TransportTable<T>) -> Routes<T> {
         Routes {
             transports,
             ready: None,
         }
+    }
+
+    /// A share of all transports.
+    pub(crate) fn all(&self) -> Result<Transports<T>, AllocError> {
+        let table = self.transports.clone()?;
+        Ok(Transports::All(table))
     }
 
     /// Sees to it that a share lies ready.
@@ -52,7 +76,10 @@ impl<T: Drop> Routes<T> {
         if sent.is_empty() {
             return None;
         }
-        self.ready.take()
+        match self.ready.take() {
+            Some(table) => Some(Transports::All(table)),
+            None => None,
+        }
     }
 }
 
@@ -95,7 +122,7 @@ impl<A: Drop, T: Transport + Drop> Handed<A, T> {
         for (key, envelope) in out.sent.into_vec() {
             send(&transports, key, envelope);
         }
-        let Some(transport) = transports.get().get(key.number) else {
+        let Some(transport) = transports.of(key) else {
             return true;
         };
         match ending {
@@ -106,7 +133,7 @@ impl<A: Drop, T: Transport + Drop> Handed<A, T> {
 }
 
 fn send<T: Transport>(transports: &Transports<T>, key: ClientKey, envelope: Envelope) {
-    if let Some(transport) = transports.get().get(key.number) {
+    if let Some(transport) = transports.of(key) {
         transport.get().send_envelope(envelope);
     }
 }

@@ -269,12 +269,18 @@ impl<P: EventCallback + Drop, C: Callbacks, T: Transport + Drop> LockedHub<'_, P
             pushed.0 (layers.push_scope self.entry.hub)) }
         ensures copy { IfOk result (λ pushed. Answers (mutex_guard_value self.entry.guard.under)
             pushed.1 (hubs.scope self.entry.hub)) }
+        ensures refused { IfErr result (λ refusal. Refuses (mutex_guard_value self.entry.guard.under)
+            refusal (layers.push_scope self.entry.hub)) }
     {
         let LockedHub { mut guard, hub } = self;
         let core = &mut guard.under.core;
-        let out = core.engine().scope(hub)?;
-        let pushed = core.push_scope(hub)?;
-        Ok((pushed, out.reply))
+        match core.engine().scope(hub) {
+            Ok(out) => match core.push_scope(hub) {
+                Ok(pushed) => Ok((pushed, out.reply)),
+                Err(refusal) => Err(refusal),
+            },
+            Err(refusal) => Err(refusal),
+        }
     }
 
     /// Whether the client of the top layer is enabled. It takes no memory.

@@ -6,7 +6,7 @@ ghost use Rattle.sentry_calls.specs.Hubs as hubs;
 ghost use Rattle.sentry_calls.specs.Layers as layers;
 ghost use Rattle.sentry_calls.specs.Losses as losses;
 ghost use Rattle.sentry_calls.specs.Steps.{needs, step};
-ghost use Rattle.sentry_lock.specs.Answers.{LockAnswers, LockDrainsAndAnswers, LockMakes, LockRefuses};
+ghost use Rattle.sentry_lock.specs.Answers.{LockAnswers, LockDrainsAndAnswers, LockDrainsLabel, LockEndsLabel, LockIsForeign, LockMakes, LockMakesNot, LockRefuses};
 ghost use Rattle.sentry_lock.specs.Setups.{IsRecorderOf};
 ghost use Rattle.sentry_lock.specs.ValueCalls.{can_hand_out, is_ordinary_call};
 
@@ -127,12 +127,16 @@ impl<L: CoreLock> SharedCore<L> {
         call: Call<L::Processor, L::Callbacks>,
     ) -> Result<Handed<Reply<L::Processor, L::Callbacks>, L::Transport>, Refusal>
         requires { is_ordinary_call call ≡ true }
-        ensures { IfOk result (λ handed. LockMakes L.Transport (can_hand_out call) (needs call)
+        ensures done { IfOk result (λ handed. LockMakes L.Transport (can_hand_out call) (needs call)
             handed.out.reply (step L.Processor.gives L.Callbacks.meanings call)) }
+        ensures refused { IfErr result (λ refusal. LockMakesNot L.Transport (can_hand_out call) (needs call)
+            refusal (step L.Processor.gives L.Callbacks.meanings call)) }
     {
         let mut guard = self.lock();
-        let handed = guard.under.core.drain_and_apply(call)?;
-        Ok(handed)
+        match guard.under.core.drain_and_apply(call) {
+            Ok(handed) => Ok(handed),
+            Err(refusal) => Err(refusal),
+        }
     }
 
     /// Makes one call and answers its reply. The call adds no client, absorbs nothing, and flushes or closes none:
@@ -144,11 +148,15 @@ impl<L: CoreLock> SharedCore<L> {
         call: Call<L::Processor, L::Callbacks>,
     ) -> Result<Reply<L::Processor, L::Callbacks>, Refusal>
         requires { is_ordinary_call call ≡ true }
-        ensures { IfOk result (λ reply. LockMakes L.Transport (can_hand_out call) (needs call)
+        ensures done { IfOk result (λ reply. LockMakes L.Transport (can_hand_out call) (needs call)
             reply (step L.Processor.gives L.Callbacks.meanings call)) }
+        ensures refused { IfErr result (λ refusal. LockMakesNot L.Transport (can_hand_out call) (needs call)
+            refusal (step L.Processor.gives L.Callbacks.meanings call)) }
     {
-        let handed = self.called(call)?;
-        Ok(handed.deliver())
+        match self.called(call) {
+            Ok(handed) => Ok(handed.deliver()),
+            Err(refusal) => Err(refusal),
+        }
     }
 
     // Makes the calls up to the first refusal, and answers that. What they hand out goes to the end of the list. The lock
@@ -188,7 +196,12 @@ impl<L: CoreLock> SharedCore<L> {
     /// no memory.
     ///
     /// `ForeignLosses`: no client that is held names the label.
-    pub fn drain_and_absorb(&self, label: Label) -> Result<Option<Losses>, Refusal> {
+    pub fn drain_and_absorb(&self, label: Label) -> Result<Option<Losses>, Refusal>
+        ensures done { IfOk result (λ drained.
+            LockDrainsLabel L.Processor L.Callbacks L.Transport label drained) }
+        ensures refused { IfErr result (λ refusal.
+            LockIsForeign L.Processor L.Callbacks L.Transport label refusal) }
+    {
         self.lock().under.core.drain_and_absorb(label)
     }
 
@@ -209,7 +222,11 @@ impl<L: CoreLock> SharedCore<L> {
     /// nothing while a recorder of them is held. True also if they were ended before. It takes no memory.
     ///
     /// `ForeignLosses`: no client that is held names the label.
-    pub fn close_losses(&self, label: Label) -> Result<bool, Refusal> {
+    pub fn close_losses(&self, label: Label) -> Result<bool, Refusal>
+        ensures done { IfOk result (λ ended. LockEndsLabel L.Processor L.Callbacks L.Transport label ended) }
+        ensures refused { IfErr result (λ refusal.
+            LockIsForeign L.Processor L.Callbacks L.Transport label refusal) }
+    {
         self.lock().under.core.close_losses(label)
     }
 

@@ -1,9 +1,10 @@
 //! Calls as values, under the lock.
 
-ghost use Rattle.std.specs.Prelude.{◌≡◌, Ok, [], true, false, IfOk, IfErr};
+ghost use Rattle.std.specs.Prelude.{◌≡◌, ◌⊎◌, Ok, Err, [], true, false, IfOk, IfErr};
 ghost use Rattle.sentry_calls.specs.Steps.{step, needs};
 ghost use Rattle.sentry_state.specs.Outcomes.{DoesWith};
 ghost use Rattle.sentry_state.specs.declared.state.State.{State};
+ghost use Rattle.sentry_lock.specs.Answers.{MakesNot};
 ghost use Rattle.sentry_lock.specs.Locked.{DrainsFor, ForgetsDropped};
 ghost use Rattle.sentry_lock.specs.ValueCalls.{is_ordinary_call, can_hand_out, client_call_can_hand_out, hub_call_can_hand_out};
 ghost use Rattle.sentry_lock.specs.Words.{Drainers};
@@ -66,7 +67,7 @@ impl<P: EventCallback + Drop, C: Callbacks, T: Drop> Core<P, C, T> {
         if !can_hand_out(call) {
             return Ok(None);
         }
-        Ok(Some(self.routes.transports.clone()?))
+        Ok(Some(self.routes.all()?))
     }
 
     // Makes one call of the engine.
@@ -90,6 +91,8 @@ impl<P: EventCallback + Drop, C: Callbacks, T: Drop> Core<P, C, T> {
             ForgetsDropped call self.old.engine self.new.engine self.old.drainers self.new.drainers) }
         ensures refused { IfErr result (λ _. (self.new.engine ≡ self.old.engine)
             × (self.new.drainers ≡ self.old.drainers)) }
+        ensures refusal { IfErr result (λ refusal. (refusal ≡ Refusal.OutOfMemory)
+            ⊎ DoesWith (needs call) self.old.engine self.old.engine (Err refusal) (step P.gives C.meanings call)) }
         ensures labels { self.new.next_label ≡ self.old.next_label }
     {
         let transports = self.transports_for(&call)?;
@@ -129,10 +132,14 @@ impl<P: EventCallback + Drop, C: Callbacks, T: Drop> Core<P, C, T> {
         ensures silent { IfOk result (λ handed. can_hand_out call ≡ false → handed.out.sent ≡ []) }
         ensures refused { IfErr result (λ _. DrainsFor (can_hand_out call) self.old.tag
             self.old.engine self.new.engine self.old.drainers self.new.drainers) }
+        ensures refusal { IfErr result (λ refusal. MakesNot self.old (can_hand_out call) (needs call)
+            refusal (step P.gives C.meanings call)) }
         ensures labels { self.new.next_label ≡ self.old.next_label }
     {
         self.drain_for(&call);
-        let handed = self.apply(call)?;
-        Ok(handed)
+        match self.apply(call) {
+            Ok(handed) => Ok(handed),
+            Err(refusal) => Err(refusal),
+        }
     }
 }

@@ -1,7 +1,7 @@
 //! Clients that come and go, with their transports and the drainers of their losses.
 
-ghost use Rattle.std.specs.Prelude.{◌≡◌, ◌+◌, ◌-◌, ◌^◌, ◌⊎◌, List, None, Ok, Some, IfOk, IfErr, OnOk, OnErr, false};
-ghost use Rattle.std.specs.Option.{is_some};
+ghost use Rattle.std.specs.Prelude.{◌≡◌, ◌+◌, ◌-◌, ◌^◌, ◌⊎◌, ℕ, List, None, Ok, Err, Some, IfOk, IfErr, OnOk, OnErr, false, is_ok, true};
+ghost use Rattle.std.specs.Option.{is_some, option_map};
 ghost use Rattle.sentry_base.specs.Losses.{no_losses};
 ghost use Rattle.sentry_calls.specs.Clients as clients;
 ghost use Rattle.sentry_plain.specs.Tables.{value_at, put, replace_at, without};
@@ -10,27 +10,28 @@ ghost use Rattle.sentry_state.specs.Outcomes.{Does};
 ghost use Rattle.sentry_state.specs.Worlds.{World, Stands};
 ghost use Rattle.sentry_state.specs.declared.state.State.{State};
 ghost use Rattle.sentry_lock.specs.Locked.{DrainsAll, ForgetsDropped, Replies};
+ghost use Rattle.sentry_lock.specs.Routes.{AddsTransport, ForgetsTransport, transports_with};
 ghost use Rattle.sentry_lock.specs.ValueCalls.{dropped_label};
 ghost use Rattle.sentry_lock.specs.Words.{AddsDrainer, Drainers};
 
-use crate::handed::{Handed, Routes, Transports};
+use crate::handed::{Handed, TransportTable, Transports};
 use crate::locked::Core;
 use sentry_base::callbacks::EventCallback;
 use sentry_base::protocol::{ClientKey, Label, Refusal};
 use sentry_client_reports::CountedDrainer;
-use sentry_engine::Out;
 use sentry_engine::call::{Call, ClientCall};
+use sentry_engine::{Engine, Out};
 use sentry_options::{Callbacks, ClientOptions};
-use sentry_plain::Shared;
+use sentry_plain::{Shared, Table};
 use std::alloc::{AllocError, Global};
 
 // The transports with one more, under this number.
 fn with_transport<T: Drop>(
     alloc: Global,
-    transports: &Transports<T>,
+    transports: &TransportTable<T>,
     number: u64,
     transport: Option<Shared<T>>,
-) -> Result<Transports<T>, AllocError> {
+) -> Result<TransportTable<T>, AllocError> {
     let Some(transport) = transport else {
         return transports.clone();
     };
@@ -42,9 +43,9 @@ fn with_transport<T: Drop>(
 // The transports without the one under this number.
 fn without_transport<T: Drop>(
     alloc: Global,
-    transports: &Transports<T>,
+    transports: &TransportTable<T>,
     number: u64,
-) -> Result<Transports<T>, AllocError> {
+) -> Result<TransportTable<T>, AllocError> {
     let mut table = transports.get().clone()?;
     drop(table.remove(number));
     Shared::new(alloc, table)
@@ -52,13 +53,101 @@ fn without_transport<T: Drop>(
 
 // A share of the transport under this number.
 fn share_at<T: Drop>(
-    transports: &Transports<T>,
+    transports: &TransportTable<T>,
     number: u64,
-) -> Result<Option<Shared<T>>, AllocError> {
+) -> Result<Option<Shared<T>>, AllocError>
+    ensures { IfOk result (λ share. share ≡ value_at transports.now number) }
+{
     match transports.get().get(number) {
         Some(transport) => Ok(Some(transport.clone()?)),
         None => Ok(None),
     }
+}
+
+// Puts the transport of a client that is to come, if it has one.
+fn put_transport<T: Drop>(
+    transports: &mut Table<Shared<T>>,
+    number: u64,
+    transport: Option<Shared<T>>,
+) -> Result<(), AllocError>
+    ensures ok { OnOk result (transports.new ≡ transports_with transports.old number transport) }
+    ensures err { OnErr result (transports.new ≡ transports.old) }
+{
+    let Some(transport) = transport else {
+        return Ok(());
+    };
+    transports.insert(number, transport)
+}
+
+// Adds a client with its transport. If it is refused, its transport is forgotten.
+fn add_with<P: EventCallback + Drop, C: Callbacks, T: Drop>(
+    engine: &mut Engine<P, C>,
+    transports: &mut Table<Shared<T>>,
+    options: ClientOptions<C>,
+    transport: Option<Shared<T>>,
+    label: Label,
+    now: u64,
+) -> Result<Out<ClientKey>, Refusal>
+    ensures done { IfOk result (λ out. Does engine.old engine.new (Ok out)
+        (clients.add_client C.meanings options (is_some transport) label now)) }
+    ensures refused { IfErr result (λ _. engine.new ≡ engine.old) }
+    ensures added { OnOk result (AddsTransport engine.old transport transports.old transports.new) }
+    ensures forgotten { OnErr result (ForgetsTransport transport transports.old transports.new) }
+{
+    let has_transport = transport.is_some();
+    let number = engine.next_client();
+    put_transport(transports, number, transport)?;
+    match engine.add_client(options, has_transport, label, now) {
+        Ok(out) => Ok(out),
+        Err(refusal) => {
+            drop(transports.remove(number));
+            Err(refusal)
+        }
+    }
+}
+
+// Clones a client, with a share of its transport. If it is refused, the share is forgotten.
+fn clone_with<P: EventCallback + Drop, C: Callbacks, T: Drop>(
+    engine: &mut Engine<P, C>,
+    transports: &mut Table<Shared<T>>,
+    client: ClientKey,
+    share: Option<Shared<T>>,
+    now: u64,
+) -> Result<Out<ClientKey>, Refusal>
+    requires { (world : World P C) → Stands engine.old world → is_ok (clients.clone_client client now world).answer ≡ true }
+    ensures does { Does engine.old engine.new result (clients.clone_client client now) }
+    ensures added { OnOk result (AddsTransport engine.old share transports.old transports.new) }
+    ensures forgotten { OnErr result (ForgetsTransport share transports.old transports.new) }
+{
+    let clone = engine.next_client();
+    put_transport(transports, clone, share)?;
+    match engine.clone_client(client, now) {
+        Ok(out) => Ok(out),
+        Err(refusal) => {
+            drop(transports.remove(clone));
+            Err(refusal)
+        }
+    }
+}
+
+// Drops a client, and takes its transport.
+fn drop_with<P: EventCallback + Drop, C: Callbacks, T: Drop>(
+    engine: &mut Engine<P, C>,
+    transports: &mut Table<Shared<T>>,
+    client: ClientKey,
+) -> Result<Handed<(), T>, Refusal>
+    ensures done { IfOk result (λ handed. Does engine.old engine.new (Ok handed.out) (clients.drop_client client)) }
+    ensures refused { IfErr result (λ _. engine.new ≡ engine.old) }
+    ensures taken { IfOk result (λ handed. handed.transports ≡ option_map Transports.One (value_at transports.old client.number)) }
+    ensures forgotten { OnOk result (transports.new ≡ without transports.old client.number) }
+    ensures kept { OnErr result (transports.new ≡ transports.old) }
+{
+    let out = engine.drop_client(client)?;
+    let transports = match transports.remove(client.number) {
+        Some(transport) => Some(Transports::One(transport)),
+        None => None,
+    };
+    Ok(Handed { out, transports })
 }
 
 impl<P: EventCallback + Drop, C: Callbacks, T: Drop> Core<P, C, T> {
@@ -87,7 +176,7 @@ impl<P: EventCallback + Drop, C: Callbacks, T: Drop> Core<P, C, T> {
     pub(super) fn transports_after(
         &self,
         call: &Call<P, C>,
-    ) -> Result<Option<Transports<T>>, AllocError> {
+    ) -> Result<Option<TransportTable<T>>, AllocError> {
         let Call::Client(call) = call else {
             return Ok(None);
         };
@@ -123,6 +212,7 @@ impl<P: EventCallback + Drop, C: Callbacks, T: Drop> Core<P, C, T> {
         ensures place { IfOk result (λ _. value_at self.new.drainers number ≡ Some None) }
         ensures made { OnOk result (self.new.drainers ≡ put self.old.drainers number None) }
         ensures refused { OnErr result (self.new.drainers ≡ self.old.drainers) }
+        ensures transports { self.new.routes.transports ≡ self.old.routes.transports }
         ensures labels { self.new.next_label ≡ self.old.next_label }
     {
         self.drainers.insert(number, None)?;
@@ -133,6 +223,7 @@ impl<P: EventCallback + Drop, C: Callbacks, T: Drop> Core<P, C, T> {
     fn forget_place(&mut self, number: u64)
         ensures engine { self.new.engine ≡ self.old.engine }
         ensures drainers { self.new.drainers ≡ without self.old.drainers number }
+        ensures transports { self.new.routes.transports ≡ self.old.routes.transports }
         ensures labels { self.new.next_label ≡ self.old.next_label }
     {
         drop(self.drainers.remove(number));
@@ -142,7 +233,7 @@ impl<P: EventCallback + Drop, C: Callbacks, T: Drop> Core<P, C, T> {
     fn add_at_place(
         &mut self,
         options: ClientOptions<C>,
-        transport: bool,
+        transport: Option<Shared<T>>,
         label: Label,
         drainer: CountedDrainer,
         now: u64,
@@ -153,18 +244,28 @@ impl<P: EventCallback + Drop, C: Callbacks, T: Drop> Core<P, C, T> {
         requires label { drainer.part.label ≡ label }
         requires none { drainer.taken ≡ no_losses }
         ensures done { IfOk result (λ out. Does self.old.engine self.new.engine (Ok out)
-            (clients.add_client C.meanings options transport label now)) }
+            (clients.add_client C.meanings options (is_some transport) label now)) }
         ensures taken { OnOk result (self.new.drainers ≡ replace_at self.old.drainers label.number (Some drainer)) }
         ensures refused { IfErr result (λ _. (self.new.engine ≡ self.old.engine)
             × (self.new.drainers ≡ self.old.drainers)) }
+        ensures added { OnOk result (AddsTransport self.old.engine transport
+            self.old.routes.transports self.new.routes.transports) }
+        ensures forgotten { OnErr result (ForgetsTransport transport
+            self.old.routes.transports self.new.routes.transports) }
         ensures labels { self.new.next_label ≡ self.old.next_label }
     {
-        match self.engine.add_client(options, transport, label, now) {
-            Ok(out) => {
-                self.drainers.set(label.number, Some(drainer));
-                Ok(out)
+        self.routes.ready = None;
+        match self.routes.transports.make_mut() {
+            Ok(transports) => {
+                match add_with(&mut self.engine, transports, options, transport, label, now) {
+                    Ok(out) => {
+                        self.drainers.set(label.number, Some(drainer));
+                        Ok(out)
+                    }
+                    Err(refusal) => Err(refusal),
+                }
             }
-            Err(refusal) => Err(refusal),
+            Err(error) => Err(Refusal::from(error)),
         }
     }
 
@@ -189,23 +290,21 @@ impl<P: EventCallback + Drop, C: Callbacks, T: Drop> Core<P, C, T> {
         ensures refused { IfErr result (λ _. (self.new.engine ≡ self.old.engine)
             × ((self.new.drainers ≡ self.old.drainers)
             ⊎ (self.new.drainers ≡ without (put self.old.drainers label.number None) label.number))) }
+        ensures added { OnOk result (AddsTransport self.old.engine transport
+            self.old.routes.transports self.new.routes.transports) }
+        ensures forgotten { OnErr result (ForgetsTransport transport
+            self.old.routes.transports self.new.routes.transports) }
         ensures labels { self.new.next_label ≡ self.old.next_label }
     {
         if label.tag != self.tag || self.engine.has_book(label) {
             return Err(Refusal::ForeignLosses);
         }
-        let has_transport = transport.is_some();
-        let number = self.engine.next_client();
-        if number == u64::MAX {
+        if self.engine.next_client() == u64::MAX {
             return Err(Refusal::Full);
         }
-        let transports = with_transport(self.alloc, &self.routes.transports, number, transport)?;
         self.make_place(label.number)?;
-        match self.add_at_place(options, has_transport, label, drainer, now) {
-            Ok(out) => {
-                self.routes = Routes::by(transports);
-                Ok(out)
-            }
+        match self.add_at_place(options, transport, label, drainer, now) {
+            Ok(out) => Ok(out),
             Err(refusal) => {
                 self.forget_place(label.number);
                 Err(refusal)
@@ -213,29 +312,52 @@ impl<P: EventCallback + Drop, C: Callbacks, T: Drop> Core<P, C, T> {
         }
     }
 
+    // Whether a client is held, and a number left for its clone.
+    fn check_clone(&self, client: ClientKey) -> Result<(), Refusal>
+        ensures made { OnOk result ((world : World P C) → Stands self.now.engine world → (now : ℕ)
+            → is_ok (clients.clone_client client now world).answer ≡ true) }
+        ensures refused { IfErr result (λ refusal. (now : ℕ) → Does self.now.engine self.now.engine
+            (Err refusal) (clients.clone_client client now)) }
+    {
+        let Some(_) = self.engine.client_label(client) else {
+            return Err(Refusal::Stale);
+        };
+        if self.engine.next_client() == u64::MAX {
+            return Err(Refusal::Full);
+        }
+        Ok(())
+    }
+
     /// Adds a client with the options, the label and the transport of another one, and answers its key.
     pub(crate) fn clone_client(&mut self, client: ClientKey, now: u64) -> Result<ClientKey, Refusal>
         ensures done { IfOk result (λ reply. Replies self.old.engine self.new.engine reply
             (clients.clone_client client now)) }
-        ensures refused { IfErr result (λ _. self.new.engine ≡ self.old.engine) }
+        ensures refused { IfErr result (λ refusal. Does self.old.engine self.new.engine
+            (Err refusal) (clients.clone_client client now)) }
+        ensures added { OnOk result (AddsTransport self.old.engine (value_at self.old.routes.transports client.number)
+            self.old.routes.transports self.new.routes.transports) }
+        ensures forgotten { OnErr result (ForgetsTransport (value_at self.old.routes.transports client.number)
+            self.old.routes.transports self.new.routes.transports) }
         ensures drainers { self.new.drainers ≡ self.old.drainers }
         ensures labels { self.new.next_label ≡ self.old.next_label }
     {
-        if self.engine.client_label(client).is_none() {
-            return Err(Refusal::Stale);
-        }
-        let number = self.engine.next_client();
-        if number == u64::MAX {
-            return Err(Refusal::Full);
+        if let Err(refusal) = self.check_clone(client) {
+            return Err(refusal);
         }
         let share = share_at(&self.routes.transports, client.number)?;
-        let transports = with_transport(self.alloc, &self.routes.transports, number, share)?;
-        let out = self.engine.clone_client(client, now)?;
-        self.routes = Routes::by(transports);
-        Ok(out.reply)
+        self.routes.ready = None;
+        match self.routes.transports.make_mut() {
+            Ok(transports) => match clone_with(&mut self.engine, transports, client, share, now) {
+                Ok(out) => Ok(out.reply),
+                Err(refusal) => Err(refusal),
+            },
+            Err(error) => Err(Refusal::from(error)),
+        }
     }
 
-    /// Gives a client back, with its transport, and with the drainer of its label unless another client names that.
+    /// Gives a client back, with its transport, and with the drainer of its label unless another client names that. Only
+    /// while envelopes are on their way does it ask for memory before it may be refused as `StillNamed`.
+    #[tactic(auto, unfolding(crate::specs::Locked::DrainsAll))]
     pub(crate) fn drop_client(&mut self, client: ClientKey) -> Result<Handed<(), T>, Refusal>
         ensures done { IfOk result (λ handed. (between : State P C) × (drained : Drainers)
             × DrainsAll self.old.tag self.old.engine between self.old.drainers drained
@@ -246,15 +368,18 @@ impl<P: EventCallback + Drop, C: Callbacks, T: Drop> Core<P, C, T> {
             DrainsAll self.old.tag self.old.engine self.new.engine self.old.drainers self.new.drainers) }
         ensures labels { self.new.next_label ≡ self.old.next_label }
     {
-        let transports = self.drained()?;
-        let left = without_transport(self.alloc, &self.routes.transports, client.number)?;
+        self.drain_each_label();
         let label = self.engine.client_label(client);
-        let out = self.engine.drop_client(client)?;
-        self.routes = Routes::by(left);
-        self.forget_dropped(label);
-        Ok(Handed {
-            out,
-            transports: Some(transports),
-        })
+        self.routes.ready = None;
+        match self.routes.transports.make_mut() {
+            Ok(transports) => match drop_with(&mut self.engine, transports, client) {
+                Ok(handed) => {
+                    self.forget_dropped(label);
+                    Ok(handed)
+                }
+                Err(refusal) => Err(refusal),
+            },
+            Err(error) => Err(Refusal::from(error)),
+        }
     }
 }

@@ -137,7 +137,7 @@ impl<P: EventCallback + Drop, C: Callbacks, T: Drop> Core<P, C, T> {
         ensures labels { self.new.next_label ≡ self.old.next_label }
     {
         self.drain_and_make_ready()?;
-        let transports = self.routes.transports.clone()?;
+        let transports = self.routes.all()?;
         Ok(transports)
     }
 

@@ -1,5 +1,5 @@
 //! Calls on transactions and spans, made by methods of their own: no value of a call or of a reply is made for them.
-ghost use Rattle.std.specs.Prelude.{IfErr, IfOk, Ok};
+ghost use Rattle.std.specs.Prelude.{◌⊎◌, Err, IfErr, IfOk, Ok};
 ghost use Rattle.sentry_spans.specs.Discards as discards;
 ghost use Rattle.sentry_span_edits.specs.Reads as reads;
 ghost use Rattle.sentry_span_edits.specs.Setters as setters;
@@ -98,13 +98,18 @@ impl<L: CoreLock> SharedCore<L> {
     ///
     /// `Stale`: it isn't held. `OutOfMemory`. `StillNamed`: a layer of a hub names it, which is finished then, and stays.
     pub fn end_span(&self, span: SpanKey, moment: u64) -> Result<(), Refusal>
-        ensures { IfOk result (λ reply. LockAnswers L.Processor L.Callbacks L.Transport
+        ensures done { IfOk result (λ reply. LockAnswers L.Processor L.Callbacks L.Transport
             (Ok reply) (ends.end_span span moment)) }
+        ensures refused { IfErr result (λ refusal. LockRefuses L.Processor L.Callbacks L.Transport
+            refusal (ends.end_span span moment)
+            ⊎ LockAnswers L.Processor L.Callbacks L.Transport (Err refusal) (ends.end_span span moment)) }
     {
         let mut guard = self.lock();
         let core = &mut guard.under.core;
-        let discarded = core.end_span(span, moment)?;
-        discarded
+        match core.end_span(span, moment) {
+            Ok(discarded) => discarded,
+            Err(refusal) => Err(refusal),
+        }
     }
 
     /// Finishes a transaction at a moment in nanoseconds since the epoch, under the top scope of a hub, and forgets it.

@@ -4,22 +4,15 @@ use Rattle.sentry_lock.proofs.Keeps.{clone_client_keeps}
 use Rattle.sentry_lock.proofs.Sound.{after_call}
 use Rattle.sentry_lock.proofs.locked.Core.clone_client.Goals as goal
 
--- the call was refused
-pub invariant_of-self : goal.invariant_of-self
-invariant_of-self g c =
+pub invariant_of-self-in-Ok : goal.invariant_of-self-in-Ok
+invariant_of-self-in-Ok g c =
     let self = c.args.self.now in
     record {
-      sound = after_call memory self.engine c.clone_client.new.self c.clone_client.result (clients.clone_client c.args.client c.args.now) self.drainers c.clone_client.ensures
+      sound = after_call memory self.engine c.clone_with.new.engine c.clone_with.result (clients.clone_client c.args.client c.args.now) self.drainers c.clone_with.ensures.does
           (λ world. clone_client_keeps g.P.EventCallback.gives g.C.Callbacks.meanings c.args.client c.args.now world) self.sound;
       labelled = self.labelled;
     }
 
--- the call was made
-pub invariant_of-self-2 : goal.invariant_of-self-2
-invariant_of-self-2 g c =
-    let self = c.args.self.now in
-    record {
-      sound = after_call memory self.engine c.clone_client.new.self c.clone_client.result (clients.clone_client c.args.client c.args.now) self.drainers c.clone_client.ensures
-          (λ world. clone_client_keeps g.P.EventCallback.gives g.C.Callbacks.meanings c.args.client c.args.now world) self.sound;
-      labelled = self.labelled;
-    }
+-- the client isn't held, or no number is left
+pub returns-in-Err-clause-refused : goal.returns-in-Err-clause-refused
+returns-in-Err-clause-refused g c = c.in-Err.ensures.refused c.args.now

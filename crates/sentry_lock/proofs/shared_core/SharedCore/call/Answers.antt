@@ -1,5 +1,5 @@
 use Rattle.sentry_lock.proofs.shared_core.SharedCore.call.Goals as goal
 
-pub returns : goal.returns
-returns g c =
-    rw c.deliver.ensures c.in_ok-handed.ensures
+pub returns-in-Ok-clause-done : goal.returns-in-Ok-clause-done
+returns-in-Ok-clause-done g c =
+    rw c.deliver.ensures c.in-Ok.ensures.done
