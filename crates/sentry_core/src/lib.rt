@@ -93,6 +93,7 @@ pub use sentry_hub::api::transaction_context;
 pub use sentry_hub::api::with_integration;
 pub use sentry_hub::api::with_scope;
 pub use sentry_hub::breadcrumbs::IntoBreadcrumbs;
+pub use sentry_hub::breadcrumbs::IntoBreadcrumbsAt;
 pub use sentry_hub::errors::IntoErrorLinks;
 pub use sentry_hub::errors::link_of;
 pub use sentry_hub::performance::Data;

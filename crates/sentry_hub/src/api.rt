@@ -8,7 +8,7 @@ ghost use Rattle.std.specs.Prelude.{◌≡◌, IfOk};
 ghost use Rattle.std.specs.Iterator.{IsFiniteIterable};
 ghost use Rattle.sentry_hub.specs.Requests.{message_event, with_request};
 
-use crate::breadcrumbs::IntoBreadcrumbs;
+use crate::breadcrumbs::IntoBreadcrumbsAt;
 use crate::errors::IntoErrorLinks;
 use crate::hub::{Hub, WithScopeError, refuse_scope};
 use crate::performance::Transaction;
@@ -240,7 +240,7 @@ pub fn continue_from_headers<
 /// thread's clock.
 ///
 /// `Stale`: the hub isn't held. `OutOfMemory`.
-pub fn add_breadcrumb<L: CoreLock, K: Clock, G, B: IntoBreadcrumbs>(
+pub fn add_breadcrumb<L: CoreLock, K: Clock, G, B: IntoBreadcrumbsAt>(
     thread: &mut ThreadHub<Hub<L>, K, G>,
     breadcrumb: B,
 ) -> Result<(), Refusal>
@@ -252,7 +252,7 @@ pub fn add_breadcrumb<L: CoreLock, K: Clock, G, B: IntoBreadcrumbs>(
         return Ok(());
     };
     let alloc = hub.core().allocator();
-    let breadcrumbs = breadcrumb.into_breadcrumbs(alloc, &mut thread.clock)?;
+    let breadcrumbs = breadcrumb.into_breadcrumbs_at(alloc, &mut thread.clock)?;
     active.add_breadcrumbs(breadcrumbs)
 }
 

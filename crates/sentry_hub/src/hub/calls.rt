@@ -1,5 +1,5 @@
 //! The calls on a hub, its client, its trail and its sessions.
-use crate::breadcrumbs::{At, IntoBreadcrumbs};
+use crate::breadcrumbs::{At, IntoBreadcrumbsAt};
 use crate::hub::Hub;
 use sentry_base::protocol::{Breadcrumb, Fresh, Refusal, SessionStatus, Uuid};
 use sentry_lock::{Client, CoreLock};
@@ -64,19 +64,19 @@ impl<L: CoreLock> Hub<L> {
     /// in nanoseconds since the epoch.
     ///
     /// `Stale`: the hub isn't held. `OutOfMemory`.
-    pub fn add_breadcrumb<B: IntoBreadcrumbs>(
+    pub fn add_breadcrumb<B: IntoBreadcrumbsAt>(
         &self,
         breadcrumb: B,
         now: u64,
     ) -> Result<(), Refusal> {
-        let breadcrumbs = breadcrumb.into_breadcrumbs(self.core.allocator(), &mut At(now))?;
+        let breadcrumbs = breadcrumb.into_breadcrumbs_at(self.core.allocator(), &mut At(now))?;
         self.lock().add_breadcrumbs(breadcrumbs)
     }
 
     /// The same of what a closure makes, which is called only if the top layer has a client. It runs without the lock.
     ///
     /// `Stale`: the hub isn't held. `OutOfMemory`, also where the closure answers it.
-    pub fn add_breadcrumb_with<B: IntoBreadcrumbs, F: FnOnce() -> Result<B, AllocError> + Drop>(
+    pub fn add_breadcrumb_with<B: IntoBreadcrumbsAt, F: FnOnce() -> Result<B, AllocError> + Drop>(
         &self,
         now: u64,
         make: F,
