@@ -2,13 +2,8 @@
 ghost use Rattle.std.specs.Prelude.{◌≡◌, Some};
 ghost use Rattle.sentry_calls.specs.Hubs as hubs;
 ghost use Rattle.sentry_calls.specs.Layers as layers;
-ghost use Rattle.sentry_calls.specs.Steps.{step};
-ghost use Rattle.sentry_calls.specs.declared.call.Call.TheVariants.{Hub};
-ghost use Rattle.sentry_calls.specs.declared.call.hubs.HubCall.TheVariants.{PopScope};
 ghost use Rattle.sentry_scope.specs.Scopes.{new_scope};
 ghost use Rattle.c_engine.specs.Calls.{anything};
-ghost use Rattle.c_engine.specs.Engines.{same_event};
-ghost use Rattle.c_records.specs.Filters.{filter_meanings};
 ghost use Rattle.c_engine.specs.Keys.{client_key, hub_key};
 ghost use Rattle.c_engine.specs.Moments.{fresh_of};
 ghost use Rattle.dochirwa.specs.Exports.{IsCalled};
@@ -88,7 +83,7 @@ pub extern "C" fn dochirwa_push_scope(seat: &mut Seat, hub: u64, depth: &mut usi
 #[unsafe(no_mangle)]
 pub extern "C" fn dochirwa_pop_scope(seat: &mut Seat, hub: u64, depth: usize, now: u64) -> u32
     ensures { IsCalled seat.old.engine seat.new.engine result anything
-        (step same_event filter_meanings (Hub (PopScope (hub_key hub) depth now))) }
+        (layers.pop_scope (hub_key hub) depth now) }
 {
     if seat.is_closed() {
         return CLOSED;

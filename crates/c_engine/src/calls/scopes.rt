@@ -60,13 +60,14 @@ impl OutboxEngine {
     }
 
     // Does one edit.
+    #[tactic(auto, using(crate::proofs::Calling::called, crate::proofs::Calling::refused, crate::proofs::Calling::unasked))]
     fn edit(&mut self, hub: u64, edit: ScopeEdit<NoProcessor>, now: u64) -> Result<(), CallFault>
         ensures { Calls self.old self.new result anything (call.configure (hub_key hub) (edit ∷ []) now) }
     {
-        let mut edits = Vec::new(self.alloc);
-        edits.reserve(1)?;
-        edits.push_reserved(edit);
-        self.configure(hub, edits, now)
+        self.outbox.make_room()?;
+        let out = self.engine.edit_scope(hub_key(hub), edit, now)?;
+        self.outbox.keep(out.sent);
+        Ok(())
     }
 
     /// Sets a tag.
