@@ -27,10 +27,7 @@ fn prepare<L: CoreLock>(thread: &mut Thread<L>) -> Result<bool, Refusal> {
 // Whether the scope has tags and breadcrumbs, and whether it has some of these.
 fn ask_scope<L: CoreLock>(hub: &Hub<L>) -> Result<(bool, bool), Refusal> {
     let scope = hub.scope()?;
-    let (has_tags, has_trail) = (
-        scope.tags.get().is_some(),
-        scope.breadcrumbs.get().is_some(),
-    );
+    let (has_tags, has_trail) = (!scope.tags.is_empty(), scope.breadcrumbs.get().is_some());
     Ok((has_tags && has_trail, has_tags || has_trail))
 }
 

@@ -193,7 +193,7 @@ impl<L: CoreLock> Bench<L> {
 pub(crate) fn set_tag<L: CoreLock>(hub: &Hub<L>, key: &str, value: &str) -> Result<bool, Refusal> {
     hub.configure_scope(at(1), |edits| {
         edits.set_tag(key, value)?;
-        Ok(edits.scope().tags.get().is_none())
+        Ok(edits.scope().tags.is_empty())
     })
 }
 

@@ -2,10 +2,12 @@
 use crate::engines::scope;
 use scenario_run::callbacks::Handler;
 use sentry_base::callbacks::EventCallback;
+use sentry_base::protocol::Transaction;
 use sentry_core::protocol::{
     Breadcrumb, ClientKey, Context, Event, SessionKey, Uuid, Value, ValueMap,
 };
 use sentry_core::{Level, SpanTable};
+use sentry_plain::Text;
 use sentry_scope::{Scope, ScopeEdit, Stack, Trail};
 use std::alloc::{AllocError, Global};
 use std::test::Fail;
@@ -31,6 +33,16 @@ fn filled<P: EventCallback + Drop>(alloc: Global) -> Result<Option<Event>, Alloc
     scope.apply_to_event(&spans, event)
 }
 
+/// What such a scope makes of a transaction on which nothing is set.
+fn filled_transaction<P: Drop>(alloc: Global) -> Result<Transaction, AllocError> {
+    let mut scope: Scope<P> = scope(alloc);
+    set_all(alloc, &mut scope)?;
+    let name = Text::new(alloc, "sell")?;
+    let mut transaction = Transaction::new(alloc, Uuid::nil(), name, 5)?;
+    scope.apply_to_transaction(&mut transaction)?;
+    Ok(transaction)
+}
+
 /// Whether an event has all that was set.
 fn has_all(event: &Event) -> bool {
     let is_named = match &event.transaction {
@@ -52,6 +64,9 @@ fn a_scope_fills_in_what_is_set(rt: HostRuntime) -> Result<(), Fail> {
         None => false,
     };
     assert!(rt; is_whole);
+    let transaction = filled_transaction::<Handler>(rt.alloc())?;
+    assert!(rt; transaction.extra.get("lamps").is_some());
+    assert!(rt; transaction.contexts.get("shop").is_some());
     Ok(())
 }
 
