@@ -111,6 +111,10 @@ module _ {X : Type 0} where
   pub full_at : (rows : List (Row X)) (i : ℕ) (r d : Row X) → i < length rows → r ≡ get_or rows i r → is_some (value_of r) ≡ true → is_some (value_of (get_or rows i d)) ≡ true
   full_at rows i r d lt here e = ap (λ (q : Row X). is_some (value_of q)) (same_place rows i d r lt ∙ sym here) ∙ e
 
+  has_value : (r : Row X) → is_some (value_of r) ≡ true → (x : X) × (value_of r ≡ Some x)
+  has_value (Empty m) h = absurd cc
+  has_value (Full m x) h = (x , refl)
+
   -- ---- at the row of a number
   module _ (rows : List (Row X)) (full n i : ℕ) (is : IsTable rows full) (at : IsRowOf rows n i) (r : Row X) (here : r ≡ get_or rows i r) where
     numbered : number_of r ≡ n
@@ -166,6 +170,13 @@ module _ {X : Type 0} where
       order = order_emptied q e;
       count = let less = fewer x q some e in omega (arith, less, one);
     }
+
+    -- its value goes, if it has one
+    pub table_cleared : (left : ℕ) (q : Row X) → is_some (value_of r) ≡ true → q ≡ Empty (number_of r) → left + 1 ≡ full → IsTable (set rows i q) left
+    table_cleared left q some e one = let value = has_value r some in table_taken left value.0 q value.1 e one
+
+    pub fewer_cleared : (q : Row X) → is_some (value_of r) ≡ true → q ≡ Empty (number_of r) → length (live_rows (set rows i q)) + 1 ≡ full
+    fewer_cleared q some e = let value = has_value r some in fewer value.0 q value.1 e
 
     pub table_kept : (q : Row X) → value_of r ≡ None → q ≡ Empty (number_of r) → IsTable (set rows i q) full
     table_kept q none e = record {

@@ -96,6 +96,18 @@ impl<T> Row<T> {
     }
 }
 
+impl<T: Drop> Row<T> {
+    // Drops the value where it lies, and returns whether there was one.
+    fn clear(&mut self) -> bool
+        ensures was { result ≡ is_some (value_of self.old) }
+        ensures rest { self.new ≡ Row.Empty (number_of self.old) }
+    {
+        let full = self.is_full();
+        *self = Row::Empty(self.number());
+        full
+    }
+}
+
 // Where the row of a number stands, or where it would.
 fn search<T>(rows: &[Row<T>], number: u64) -> Result<usize, usize>
     requires { IsStrictlySortedBy nat_cmp (numbers rows.now) }
@@ -220,6 +232,30 @@ pub(crate) fn take_value<T>(rows: &mut Vec<Row<T>>, full: &mut usize, number: u6
     match find(rows.as_slice(), number) {
         Ok(place) => take_out(rows, full, place, number),
         Err(_) => None,
+    }
+}
+
+// Drops the value of a row.
+fn clear_row<T: Drop>(rows: &mut Vec<Row<T>>, full: &mut usize, place: usize, number: u64)
+    requires at { IsRowOf rows.old.items number place }
+    requires table { IsTable rows.old.items full.old }
+    ensures live { live_rows rows.new.items ≡ without (live_rows rows.old.items) number }
+    ensures table { IsTable rows.new.items full.new }
+{
+    if rows[place].clear() {
+        *full -= 1;
+    }
+}
+
+/// Drops the value at a number where it lies. Its row stays, without one.
+pub(crate) fn drop_value<T: Drop>(rows: &mut Vec<Row<T>>, full: &mut usize, number: u64)
+    requires { IsTable rows.old.items full.old }
+    ensures live { live_rows rows.new.items ≡ without (live_rows rows.old.items) number }
+    ensures table { IsTable rows.new.items full.new }
+{
+    match find(rows.as_slice(), number) {
+        Ok(place) => clear_row(rows, full, place, number),
+        Err(_) => {}
     }
 }
 
