@@ -1,12 +1,13 @@
 -- How a table is walked: what is above a number, and what an iterator gives.
-use Rattle.std.proofs.Common.{◌≡◌, ℕ, suc, ◌+◌, ◌<◌, ◌≤◌, length, get_or, take, drop, true, false, cond, ◌&&◌, Option, Some, List, [], ◌∷◌, ◌++◌, refl, sym, ap, ◌∙◌, subst, Less}
+use Rattle.std.proofs.Common.{◌≡◌, ℕ, suc, ◌+◌, ◌<◌, ◌≤◌, length, get_or, take, drop, true, false, cond, ◌&&◌, Bool, Option, Some, List, [], ◌∷◌, ◌++◌, refl, sym, ap, ◌∙◌, subst, Less}
+use Rattle.std.proofs.lemmas.Cmp.{nat_cmp_total, tied_itself}
 use Rattle.std.proofs.lemmas.List.{take_more, take_all}
 use Rattle.std.proofs.lemmas.List.Elements.{filter-append}
 use Rattle.std.specs.List.Sorted.{IsStrictlySortedBy}
 use Rattle.std.specs.Map.{keys_of}
 use Rattle.std.specs.Option.{is_some, IsSomeAnd}
 use Rattle.std.specs.Ordering.{is_lt, nat_cmp}
-use Rattle.sentry_plain.proofs.RowLemmas.{AllBelow, flip, before_below, below_gap, live_push, live_split, sorted_live}
+use Rattle.sentry_plain.proofs.RowLemmas.{AllBelow, flip, before_below, below_gap, live_push, live_split, same_place, sorted_live}
 use Rattle.sentry_plain.proofs.WalkLemmas.{walks}
 use Rattle.sentry_plain.specs.Rows.{number_of, value_of, with_row, live_rows, numbers, IsRowOf, IsRowGap}
 use Rattle.sentry_plain.specs.Tables.{entries_after, is_after, value_at}
@@ -44,6 +45,20 @@ module _ {X : Type 0} where
       ∙ after-append after (live_rows (take i rows)) (with_row r [])
       ∙ ap (λ (l : List (ℕ × X)). l ++ entries_after after (with_row r [])) none
       ∙ skipped after r fails
+
+  -- nor up to its row, with the row itself
+  pub none_to_row : (rows : List (Row X)) (n place : ℕ) → IsStrictlySortedBy nat_cmp (numbers rows) → IsRowOf rows n place → entries_after (Some n) (live_rows (take (place + 1) rows)) ≡ []
+  none_to_row rows n place sorted at =
+      let row = get_or rows place (Empty 0) in
+      skips (Some n) rows place row at.inside (same_place rows place (Empty 0) row at.inside)
+      (ap (λ m. is_some (value_of row) && is_after (Some n) m) (at.same (Empty 0))
+      ∙ ap (λ o. is_some (value_of row) && (is_lt o && true)) (tied_itself nat_cmp_total n)
+      ∙ and_false (is_some (value_of row)))
+      (none_before_row rows n place sorted at)
+    where
+      and_false : (b : Bool) → (b && false) ≡ false
+      and_false true = refl
+      and_false false = refl
 
   -- past all rows
   pub none_left : (after : Option ℕ) (rows : List (Row X)) (i : ℕ) → length rows ≤ i → entries_after after (live_rows (take i rows)) ≡ [] → entries_after after (live_rows rows) ≡ []

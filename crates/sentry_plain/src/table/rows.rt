@@ -140,14 +140,28 @@ pub(crate) fn find<T>(rows: &[Row<T>], number: u64) -> Result<usize, usize>
     search(rows, number)
 }
 
-/// Where the row of a number stands, if it has a value.
-pub(crate) fn find_full<T>(rows: &[Row<T>], number: u64) -> Option<usize>
+/// The same, where the row at a place is looked at first. Any place will do.
+pub(crate) fn find_near<T>(rows: &[Row<T>], number: u64, near: usize) -> Result<usize, usize>
     requires { IsStrictlySortedBy nat_cmp (numbers rows.now) }
+    ensures found { IfOk result (IsRowOf rows.now number) }
+    ensures absent { IfErr result (IsRowGap rows.now number) }
+{
+    if near < rows.len() && rows[near].number() == number {
+        return Ok(near);
+    }
+    find(rows, number)
+}
+
+/// Where the row of a number was found, if it has a value.
+pub(crate) fn if_full<T>(rows: &[Row<T>], number: u64, found: Result<usize, usize>) -> Option<usize>
+    requires sorted { IsStrictlySortedBy nat_cmp (numbers rows.now) }
+    requires row { IfOk found (IsRowOf rows.now number) }
+    requires gap { IfErr found (IsRowGap rows.now number) }
     ensures found { IfSome result (IsRowOf rows.now number) }
     ensures full { IfSome result (λ place. (row : Row T) → is_some (value_of (slice_index_or rows.now place row)) ≡ true) }
     ensures absent { IfNone result (value_at (live_rows rows.now) number ≡ None) }
 {
-    let Ok(place) = find(rows, number) else {
+    let Ok(place) = found else {
         return None;
     };
     if !rows[place].is_full() {
@@ -299,16 +313,16 @@ pub(crate) fn trim<T: Drop>(rows: &mut Vec<Row<T>>, full: usize)
     }
 }
 
-// Where rows may begin that are above a number.
-fn start<T>(rows: &[Row<T>], after: Option<u64>) -> usize
+// Where rows may begin that are above a number, whose own row may be at a place.
+fn start<T>(rows: &[Row<T>], after: Option<u64>, near: usize) -> usize
     requires { IsStrictlySortedBy nat_cmp (numbers rows.now) }
     ensures { entries_after after (live_rows (take result rows.now)) ≡ [] }
 {
     let Some(number) = after else {
         return 0;
     };
-    match find(rows, number) {
-        Ok(place) => place,
+    match find_near(rows, number, near) {
+        Ok(place) => place + 1,
         Err(place) => place,
     }
 }
@@ -329,17 +343,18 @@ fn is_next<T>(row: &Row<T>, after: Option<u64>) -> bool
     row.is_full() && is_above(row.number(), after)
 }
 
-/// The number of the first row above another that has a value, or of the first of all.
-pub(crate) fn next_row<T>(rows: &[Row<T>], after: Option<u64>) -> Option<u64>
+/// The number of the first row above another that has a value, or of the first of all, and where that row stands. The row
+/// of the other is looked for at a place first.
+pub(crate) fn next_row<T>(rows: &[Row<T>], after: Option<u64>, near: usize) -> Option<(u64, usize)>
     requires { IsStrictlySortedBy nat_cmp (numbers rows.now) }
-    ensures { MatchOption result (entries_after after (live_rows rows.now) ≡ []) (λ number.
-        IsSomeAnd (value_at (live_rows rows.now) number) (λ value.
-        entries_after after (live_rows rows.now) ≡ (number, value) ∷ entries_after (Some number) (live_rows rows.now))) }
+    ensures { MatchOption result (entries_after after (live_rows rows.now) ≡ []) (λ next.
+        IsSomeAnd (value_at (live_rows rows.now) next.0) (λ value.
+        entries_after after (live_rows rows.now) ≡ (next.0, value) ∷ entries_after (Some next.0) (live_rows rows.now))) }
 {
-    for place in start(rows, after)..rows.len() {
+    for place in start(rows, after, near)..rows.len() {
         let row = &rows[place];
         if is_next(row, after) {
-            return Some(row.number());
+            return Some((row.number(), place));
         }
     }
     None

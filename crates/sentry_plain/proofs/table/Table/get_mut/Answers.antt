@@ -6,13 +6,13 @@ use Rattle.sentry_plain.proofs.table.Table.get_mut.Goals as goal
 pub invariant_of-self-lent : goal.invariant_of-self-lent
 invariant_of-self-lent g c w =
     let rows = c.self.inside.rows.items in
-    let at = row_of c.as_slice.result.now rows c.args.number c.in_ok-place.place c.as_slice.ensures.value c.in_ok-place.ensures.found in
+    let at = row_of c.as_slice-rows.result.now rows c.args.number c.in_ok-place.place c.as_slice-rows.ensures.value c.in_ok-place.ensures.found in
     table_replaced rows c.self.inside.full c.args.number c.in_ok-place.place c.self.invariant at c.index_mut.result.now c.index_mut.ensures.value c.value_mut.result.now w c.value_mut.ensures.value
 
 pub returns : goal.returns
 returns g c =
     let rows = c.self.inside.rows.items in
-    let at = row_of c.as_slice.result.now rows c.args.number c.in_ok-place.place c.as_slice.ensures.value c.in_ok-place.ensures.found in
+    let at = row_of c.as_slice-rows.result.now rows c.args.number c.in_ok-place.place c.as_slice-rows.ensures.value c.in_ok-place.ensures.found in
     let written = λ (w : g.row.T.Denot).
     sym (replace_row rows c.self.inside.full c.args.number c.in_ok-place.place c.self.invariant at c.index_mut.result.now c.index_mut.ensures.value c.value_mut.result.now w c.value_mut.ensures.value)
     ∙ ap (λ m. replace_at m c.args.number w) c.self.view_is in (
