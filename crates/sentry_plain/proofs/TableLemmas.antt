@@ -113,7 +113,7 @@ module _ {X : Type 0} where
 
   has_value : (r : Row X) → is_some (value_of r) ≡ true → (x : X) × (value_of r ≡ Some x)
   has_value (Empty m) h = absurd cc
-  has_value (Full m x) h = (x , refl)
+  has_value (Full m x) h = (x, refl)
 
   -- ---- at the row of a number
   module _ (rows : List (Row X)) (full n i : ℕ) (is : IsTable rows full) (at : IsRowOf rows n i) (r : Row X) (here : r ≡ get_or rows i r) where
