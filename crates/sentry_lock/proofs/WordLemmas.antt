@@ -3,7 +3,7 @@ use Rattle.std.proofs.Common.{◌≡◌, ap, ◌∙◌, ℕ}
 use Rattle.std.specs.Prelude.{Option, Some, None}
 use Rattle.sentry_plain.specs.Tables.{value_at, replace_at}
 use Rattle.sentry_client_reports.specs.LossCounts.{CountedPart}
-use Rattle.sentry_span_table.proofs.SpanTableLemmas.{changed_same}
+use Rattle.sentry_plain.proofs.ChangeLemmas.{changed_same}
 use Rattle.sentry_lock.specs.Words.{Drainers, HasNoOpenWords}
 
 pub none_there : (drainers : Drainers) (n : ℕ) → value_at drainers n ≡ None → HasNoOpenWords drainers n

@@ -52,7 +52,7 @@ pub(crate) fn drain_words_into(
 }
 
 /// Ends the words of a number and returns what stood in them; `None` if they were ended before, or there are none.
-#[tactic(auto, using(crate::proofs::WordLemmas::none_there, crate::proofs::WordLemmas::ended_there, crate::proofs::WordLemmas::ended_stays, sentry_span_table::proofs::SpanTableLemmas::changed_same))]
+#[tactic(auto, using(crate::proofs::WordLemmas::none_there, crate::proofs::WordLemmas::ended_there, crate::proofs::WordLemmas::ended_stays, sentry_plain::proofs::ChangeLemmas::changed_same))]
 pub(crate) fn end_words(drainers: &mut Drainers, number: u64) -> Result<Option<Losses>, StillHeld>
     ensures ended { IfOk result (λ ended.
         MatchOption ended ((drainers.new ≡ drainers.old) × HasNoOpenWords drainers.old number)

@@ -113,7 +113,7 @@ fn edit_span(alloc: Global, span: &mut Span, edit: SpanEdit) -> Result<(), Alloc
 }
 
 // Edits a transaction that a table holds. If out of memory, nothing has changed.
-#[tactic(auto, using(sentry_span_table::proofs::SpanTableLemmas::changed_same))]
+#[tactic(auto, using(sentry_plain::proofs::ChangeLemmas::changed_same))]
 fn edit_transaction_at(spans: &mut SpanTable, number: u64, edit: SpanEdit) -> Result<(), AllocError>
     requires { is_some (value_at spans.old.transactions number) ≡ true }
     ensures ok { OnOk result ((held : TransactionRecord) → value_at spans.old.transactions number ≡ Some held →
@@ -130,7 +130,7 @@ fn edit_transaction_at(spans: &mut SpanTable, number: u64, edit: SpanEdit) -> Re
 }
 
 // Edits a span that a table holds. If out of memory, nothing has changed.
-#[tactic(auto, using(sentry_span_table::proofs::SpanTableLemmas::changed_same))]
+#[tactic(auto, using(sentry_plain::proofs::ChangeLemmas::changed_same))]
 fn edit_span_at(
     alloc: Global,
     spans: &mut SpanTable,

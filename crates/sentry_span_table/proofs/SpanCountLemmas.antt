@@ -5,13 +5,13 @@ use Rattle.std.specs.List.{list_any}
 use Rattle.std.specs.Option.{is_some, option_map}
 use Rattle.sentry_base.specs.declared.protocol.keys.ClientKey.{ClientKey}
 use Rattle.sentry_base.specs.declared.protocol.keys.TransactionKey.{TransactionKey}
-use Rattle.sentry_span_table.specs.Counts.{Counts, count_at, is_number, own_number}
+use Rattle.sentry_plain.specs.Counts.{Counts, count_at, is_number}
 use Rattle.sentry_span_table.specs.SpanTables.{is_same_transaction, is_sent_by}
-use Rattle.sentry_span_table.specs.TrueCounts.{transaction_of, client_of, sender_of}
+use Rattle.sentry_span_table.specs.TrueCounts.{own_number, transaction_of, client_of, sender_of}
 use Rattle.sentry_span_table.specs.declared.table.records.SpanRecord.{SpanRecord}
 use Rattle.sentry_span_table.specs.declared.table.records.TransactionRecord.{TransactionRecord}
 use Rattle.sentry_span_table.specs.declared.table.records.Unfinished.{Unfinished}
-use Rattle.sentry_span_table.proofs.CountLemmas.{counted_any}
+use Rattle.sentry_plain.proofs.CountLemmas.{counted_any}
 
 own_is : (b : Bool) (named n : ℕ) → is_number n (cond b (Some named) None) ≡ (b && (named == n))
 own_is true named n = refl

@@ -1,11 +1,15 @@
 -- What a table of transactions and spans counts of them.
-use Rattle.std.specs.Prelude.{ℕ, Option, Some, None}
-use Rattle.sentry_span_table.specs.Counts.{Counts, own_number}
+use Rattle.std.specs.Prelude.{ℕ, ◌==◌, Option, Some, None, if◌then◌else◌}
+use Rattle.sentry_plain.specs.Counts.{Counts}
 use Rattle.sentry_span_table.specs.HeldSpans.{HeldSpans}
 use Rattle.sentry_span_table.specs.declared.table.records.SpanRecord.{SpanRecord}
 use Rattle.sentry_span_table.specs.declared.table.records.TransactionRecord.{TransactionRecord}
 use Rattle.sentry_span_table.specs.declared.table.records.Unfinished.{Unfinished}
 use Rattle.sentry_span_table.specs.declared.table.records.SpanTable.TheInside.{Inside}
+
+-- the number of a key, if its tag is this one
+abbrev pub own_number : ℕ → ℕ → ℕ → Option ℕ
+own_number tag of_key number = if of_key == tag then Some number else None
 
 -- the number of the transaction that a span belongs to, if its key has this tag
 abbrev pub transaction_of : ℕ → SpanRecord → Option ℕ

@@ -2,7 +2,7 @@ use Rattle.std.proofs.Common.{◌≡◌, ◌∙◌, ap, sym, refl, Some}
 use Rattle.sentry_plain.specs.Tables.{value_at}
 use Rattle.sentry_span_edits.specs.Edits.{edit_unfinished}
 use Rattle.sentry_span_table.specs.TrueCounts.{sender_of}
-use Rattle.sentry_span_table.proofs.CountLemmas.{stays}
+use Rattle.sentry_plain.proofs.CountLemmas.{stays}
 use Rattle.sentry_span_table.proofs.SpanCountLemmas.{same_client}
 use Rattle.sentry_span_edits.proofs.edits.edit_transaction_at.Goals as goal
 

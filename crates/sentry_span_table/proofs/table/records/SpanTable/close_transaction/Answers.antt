@@ -1,9 +1,9 @@
 use Rattle.std.proofs.Common.{◌≡◌, ◌∙◌, ap, sym, subst, ℕ, Some}
 use Rattle.std.specs.Prelude.{Option}
 use Rattle.sentry_plain.specs.Tables.{value_at}
-use Rattle.sentry_span_table.specs.Counts.{Lowers}
+use Rattle.sentry_plain.specs.Counts.{Lowers}
 use Rattle.sentry_span_table.specs.TrueCounts.{sender_of}
-use Rattle.sentry_span_table.proofs.CountLemmas.{is_there, leaves}
+use Rattle.sentry_plain.proofs.CountLemmas.{is_there, leaves}
 use Rattle.sentry_span_table.proofs.table.records.SpanTable.close_transaction.Goals as goal
 
 -- its client is counted

@@ -1,10 +1,10 @@
 use Rattle.std.proofs.Common.{◌≡◌, ◌∙◌, ap, sym, subst, ℕ, List, None}
 use Rattle.std.specs.Prelude.{Option}
 use Rattle.sentry_plain.specs.Tables.{value_at}
-use Rattle.sentry_span_table.specs.Counts.{Counts, Raises}
+use Rattle.sentry_plain.specs.Counts.{Counts, Raises}
 use Rattle.sentry_span_table.specs.TrueCounts.{sender_of}
 use Rattle.sentry_span_table.specs.declared.table.records.TransactionRecord.{TransactionRecord}
-use Rattle.sentry_span_table.proofs.CountLemmas.{comes}
+use Rattle.sentry_plain.proofs.CountLemmas.{comes}
 use Rattle.sentry_span_table.proofs.table.records.SpanTable.insert_transaction.Goals as goal
 
 -- its client will send one more

@@ -3,11 +3,11 @@ use Rattle.std.specs.Prelude.{Option}
 use Rattle.std.specs.Option.{is_some}
 use Rattle.sentry_base.specs.declared.protocol.keys.TransactionKey.{TransactionKey}
 use Rattle.sentry_plain.specs.Tables.{value_at}
-use Rattle.sentry_span_table.specs.Counts.{Counts, Lowers, own_number}
-use Rattle.sentry_span_table.specs.TrueCounts.{sender_of, transaction_of}
+use Rattle.sentry_plain.specs.Counts.{Counts, Lowers}
+use Rattle.sentry_span_table.specs.TrueCounts.{own_number, sender_of, transaction_of}
 use Rattle.sentry_span_table.specs.declared.table.records.SpanRecord.{SpanRecord}
 use Rattle.sentry_span_table.specs.declared.table.records.SpanTable.{SpanTable}
-use Rattle.sentry_span_table.proofs.CountLemmas.{goes, is_there, stays}
+use Rattle.sentry_plain.proofs.CountLemmas.{goes, is_there, stays}
 use Rattle.sentry_span_table.proofs.SpanCountLemmas.{some_value}
 use Rattle.sentry_span_table.proofs.table.records.SpanTable.move_span.Goals as goal
 

@@ -1,7 +1,7 @@
 use Rattle.std.proofs.Common.{◌≡◌, ◌∙◌, ap, sym, refl, Some}
 use Rattle.sentry_plain.specs.Tables.{value_at}
 use Rattle.sentry_span_table.specs.TrueCounts.{sender_of}
-use Rattle.sentry_span_table.proofs.CountLemmas.{stays}
+use Rattle.sentry_plain.proofs.CountLemmas.{stays}
 use Rattle.sentry_span_table.proofs.table.records.SpanTable.push_span.Goals as goal
 
 -- its client stays

@@ -1,10 +1,10 @@
 use Rattle.std.proofs.Common.{◌≡◌, ◌∙◌, ap, sym, subst, ℕ, List, Some, None}
 use Rattle.std.specs.Prelude.{Option}
 use Rattle.sentry_plain.specs.Tables.{value_at}
-use Rattle.sentry_span_table.specs.Counts.{Counts, Lowers}
+use Rattle.sentry_plain.specs.Counts.{Counts, Lowers}
 use Rattle.sentry_span_table.specs.TrueCounts.{transaction_of}
 use Rattle.sentry_span_table.specs.declared.table.records.SpanRecord.{SpanRecord}
-use Rattle.sentry_span_table.proofs.CountLemmas.{goes, is_there, none_goes}
+use Rattle.sentry_plain.proofs.CountLemmas.{goes, is_there, none_goes}
 use Rattle.sentry_span_table.proofs.table.records.SpanTable.remove_span.Goals as goal
 
 -- nothing stood there

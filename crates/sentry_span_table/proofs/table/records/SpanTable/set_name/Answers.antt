@@ -2,7 +2,7 @@ use Rattle.std.proofs.Common.{◌≡◌, ◌∙◌, ap, sym, refl, Some}
 use Rattle.sentry_plain.specs.Tables.{value_at}
 use Rattle.sentry_span_table.specs.SpanTables.{rename_unfinished}
 use Rattle.sentry_span_table.specs.TrueCounts.{client_of, sender_of}
-use Rattle.sentry_span_table.proofs.CountLemmas.{stays}
+use Rattle.sentry_plain.proofs.CountLemmas.{stays}
 use Rattle.sentry_span_table.proofs.SpanCountLemmas.{same_client}
 use Rattle.sentry_span_table.proofs.table.records.SpanTable.set_name.Goals as goal
 
