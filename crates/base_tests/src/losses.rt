@@ -188,10 +188,8 @@ fn a_counted_drainer_knows_what_it_took(rt: HostRuntime) -> Result<(), Fail> {
     let (mut recorder, drainer) = LossWords::new(rt.alloc(), LABEL)?;
     let mut counted = CountedDrainer::new(drainer);
     recorder.record_lost_data(&two, TransportLossReason::SendError);
-    let Some(drained) = counted.drain_if_up() else {
-        panic!(rt; "a flag is up")
-    };
-    let (_, losses) = drained.into_parts();
+    let mut losses = Losses::none();
+    assert!(rt; counted.drain_into(&mut losses));
     recorder.record_lost_data(&two, TransportLossReason::SendError);
     let (_, more) = counted.drain().into_parts();
     let four = lost(Category::Span, 4).losses(Reason::SendError);
