@@ -180,16 +180,6 @@ module _ {P C : Type 0} where
   no_report_in_world engine world s label h = no_report (value_at world.books label.number) (h ∙ book_in_world engine world s label.number)
 
 module _ {X : Type 0} where
-  changed_same-at : (b : Bool) (e : ℕ × X) (es rest : List (ℕ × X)) (o : Option X) (x : X)
-      → cond b (Some e.1) o ≡ Some x → (o ≡ Some x → rest ≡ es) → cond b ((e.0, x) ∷ es) (e ∷ rest) ≡ e ∷ es
-  changed_same-at true e es rest o x h same = let v : x ≡ e.1 = cc in ap (λ y. (e.0, y) ∷ es) v
-  changed_same-at false e es rest o x h same = ap (λ l. e ∷ l) (same h)
-
-  -- a table is as it was where what stands under a number is written there again
-  pub changed_same : (m : List (ℕ × X)) (n : ℕ) (x : X) → value_at m n ≡ Some x → replace_at m n x ≡ m
-  changed_same [] n x h = refl
-  changed_same (e ∷ es) n x h = changed_same-at (is_at (nat_cmp n) e.0) e es (replace_at es n x) (value_at es n) x h (changed_same es n x)
-
   replace_absent-at : (b : Bool) (e : ℕ × X) (es rest : List (ℕ × X)) (o : Option X) (x : X)
       → cond b (Some e.1) o ≡ None → (o ≡ None → rest ≡ es) → cond b ((e.0, x) ∷ es) (e ∷ rest) ≡ e ∷ es
   replace_absent-at true e es rest o x h same = cc
@@ -243,20 +233,6 @@ module _ {P C : Type 0} where
       ap (λ b. replace_at engine.books n b) (takes history is)
       ∙ ap (λ books. replace_at books n (book_of (entry ∷ history))) s.books
       ∙ sym (replace_at-map_values book_of world.books n (entry ∷ history))
-
-module _ {P C : Type 0} where
-  -- an engine stands for the world with an entry that leaves each book as it is
-  pub nothing_absorbed : (engine : State P C) (world : World P C) → Stands engine world → (n : ℕ) (entry : LossEntry)
-      → ((history : List LossEntry) → book_of (entry ∷ history) ≡ book_of history)
-      → engine.books ≡ map_values book_of (replace_at world.books n (entry ∷ unwrap_or (value_at world.books n) []))
-  nothing_absorbed engine world s n entry same = by_book (value_at engine.books n) refl
-    where
-      by_book : (o : Option Book) → value_at engine.books n ≡ o
-          → engine.books ≡ map_values book_of (replace_at world.books n (entry ∷ unwrap_or (value_at world.books n) []))
-      by_book None e = entry_absent engine world s n entry e
-      by_book (Some book) e =
-          sym (changed_same engine.books n book e)
-          ∙ entry_present engine world s n book book entry e (λ history is. is ∙ sym (same history))
 
 -- ---- sessions
 

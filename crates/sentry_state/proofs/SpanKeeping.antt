@@ -3,6 +3,7 @@ use Rattle.std.proofs.Common.{◌≡◌, refl, ap, ◌∙◌, sym, ℕ, List, Bo
 use Rattle.std.specs.Prelude.{Option, Some, None, ◌==◌}
 use Rattle.std.specs.Option.{option_map}
 use Rattle.sentry_plain.specs.Tables.{value_at, put, replace_at, without}
+use Rattle.sentry_plain.proofs.ChangeLemmas.{changed_same}
 use Rattle.sentry_base.specs.declared.protocol.keys.ClientKey.{ClientKey}
 use Rattle.sentry_base.specs.declared.protocol.keys.SpanKey.{SpanKey}
 use Rattle.sentry_base.specs.declared.protocol.keys.TransactionKey.{TransactionKey}
@@ -16,7 +17,7 @@ use Rattle.sentry_state.specs.Outcomes.{stored_transaction_at, transaction_at, s
 use Rattle.sentry_state.specs.declared.state.State.{State}
 use Rattle.sentry_state.specs.SpanChanges.{with_transaction}
 use Rattle.sentry_state.specs.Worlds.{World, Stands, span_table}
-use Rattle.sentry_state.proofs.Keeping.{option_map-cond, value_at-map_values, put-map_values, replace_at-map_values, without_map_values, changed_same}
+use Rattle.sentry_state.proofs.Keeping.{option_map-cond, value_at-map_values, put-map_values, replace_at-map_values, without_map_values}
 
 module _ {P C : Type 0} where
   -- the transaction that the engine finds

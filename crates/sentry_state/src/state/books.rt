@@ -1,13 +1,12 @@
 //! The losses of labels.
 ghost use Rattle.std.specs.Prelude.{◌≡◌, IfOk};
-ghost use Rattle.sentry_base.specs.Losses.{no_losses};
 ghost use Rattle.sentry_client_reports.specs.LossBooks.{drained_losses, engine_losses, report_point};
 ghost use Rattle.sentry_state.specs.Worlds.{World, Stands};
 ghost use Rattle.sentry_state.specs.Books.{has_book, pending_report, with_entry};
 
 use crate::state::State;
 use sentry_base::protocol::{ClientReport, Label, Losses};
-use sentry_client_reports::{LossBook, nothing_is_absorbed};
+use sentry_client_reports::LossBook;
 use sentry_options::Callbacks;
 use std::alloc::AllocError;
 
@@ -73,13 +72,5 @@ impl<P: Drop, C: Callbacks> State<P, C> {
             return;
         };
         book.absorb(losses);
-    }
-
-    /// Adding losses that are none changes nothing.
-    pub fn absorb_nothing(&self, label: Label)
-        ensures { (world : World P C) → Stands self.now world →
-            Stands self.now (with_entry world label (drained_losses no_losses)) }
-    {
-        nothing_is_absorbed();
     }
 }

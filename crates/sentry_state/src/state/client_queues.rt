@@ -38,7 +38,7 @@ impl<C> ClientState<C> {
 impl<P: Drop, C: Callbacks> State<P, C> {
     /// Puts the last update of a session that is held, and closed now, into the queue of a client that is held. If out of
     /// memory, nothing has changed.
-    #[tactic(auto, using(crate::proofs::Keeping::changed_same))]
+    #[tactic(auto, using(sentry_plain::proofs::ChangeLemmas::changed_same))]
     pub fn enqueue_closed(
         &mut self,
         number: u64,
@@ -66,7 +66,7 @@ impl<P: Drop, C: Callbacks> State<P, C> {
 
     /// Takes out all that waits in the queue of a client that is held, and the last update of a session, which sends it.
     /// If out of memory, nothing has changed.
-    #[tactic(auto, using(crate::proofs::Keeping::changed_same))]
+    #[tactic(auto, using(sentry_plain::proofs::ChangeLemmas::changed_same))]
     pub fn take_sessions(
         &mut self,
         number: u64,
@@ -93,7 +93,7 @@ impl<P: Drop, C: Callbacks> State<P, C> {
 
     /// Puts a log into the batch of a client that is held. Returns all that are queued, if they are then as
     /// many as the client's limit says. If out of memory, nothing has changed.
-    #[tactic(auto, using(crate::proofs::Keeping::changed_same))]
+    #[tactic(auto, using(sentry_plain::proofs::ChangeLemmas::changed_same))]
     pub fn enqueue_log(&mut self, number: u64, log: Log) -> Result<Option<Items<Log>>, AllocError>
         requires { is_some (value_at self.old.clients number) ≡ true }
         ensures in_world { OnOk result (ChangesClient self.old self.new number (with_log_entry (accept log))) }
@@ -110,7 +110,7 @@ impl<P: Drop, C: Callbacks> State<P, C> {
     }
 
     /// The same of a metric.
-    #[tactic(auto, using(crate::proofs::Keeping::changed_same))]
+    #[tactic(auto, using(sentry_plain::proofs::ChangeLemmas::changed_same))]
     pub fn enqueue_metric(
         &mut self,
         number: u64,

@@ -2,7 +2,7 @@ use Rattle.std.proofs.Common.{◌≡◌, ◌∙◌, ap, sym, Some, None, is_some
 use Rattle.sentry_plain.specs.Tables.{value_at, replace_at}
 use Rattle.sentry_hub_table.specs.Hubs.{with_session}
 use Rattle.sentry_state.specs.declared.state.State.{State}
-use Rattle.sentry_state.proofs.Keeping.{changed_same}
+use Rattle.sentry_plain.proofs.ChangeLemmas.{changed_same}
 use Rattle.sentry_state.proofs.TableLemmas.{held_replaced, value_replaced, replaced_twice}
 use Rattle.sentry_sending.proofs.session_ends.release_session.Goals as goal
 
