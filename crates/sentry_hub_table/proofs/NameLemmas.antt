@@ -8,22 +8,25 @@ use Rattle.std.specs.Ordering.{nat_cmp}
 use Rattle.std.specs.BTreeMap.{is_at}
 use Rattle.std.proofs.lemmas.Map.Entries.{sum_by-set_value}
 use Rattle.std.proofs.lemmas.List.Sums.{sum_by-cons, sum_by_push, sum_by_more_le, count_by-le-length}
-use Rattle.std.proofs.lemmas.Bool.Decides.{nat_tests}
 use Rattle.sentry_base.specs.declared.protocol.keys.ClientKey.{ClientKey}
 use Rattle.sentry_base.specs.declared.protocol.keys.SessionKey.{SessionKey}
 use Rattle.sentry_base.specs.declared.protocol.keys.TransactionOrSpanKey.{TransactionOrSpanKey}
 use Rattle.sentry_base.specs.declared.protocol.keys.TransactionOrSpanKey.TheVariants.{Transaction, Span}
+use Rattle.sentry_plain.specs.Counts.{one_if}
 use Rattle.sentry_plain.specs.Tables.{value_at, replace_at, put, without}
+use Rattle.sentry_plain.proofs.NumberLemmas.{positive}
+use Rattle.sentry_plain.proofs.CountLemmas.{one_passes}
+use Rattle.sentry_plain.proofs.ChangeLemmas.{sum_put, sum_without, sum_without_none, weighs_at_most}
 use Rattle.sentry_scope.specs.Stacks.{is_client, is_session, stack_of, stack_of_any, push, pop, depth}
 use Rattle.sentry_scope.specs.declared.scope.stack.Stack.{Stack}
 use Rattle.sentry_scope.specs.declared.scope.stack.StackLayer.{StackLayer}
 use Rattle.sentry_hub_table.specs.Hubs.{is_transaction, is_span}
-use Rattle.sentry_hub_table.specs.Tallies.{one_if, is_named, tally_at, tally_total, Keeps, Raises, Lowers}
+use Rattle.sentry_hub_table.specs.Tallies.{is_named, tally_at, tally_total, Keeps, Raises, Lowers}
 use Rattle.sentry_hub_table.specs.Names.{client_name, session_name, transaction_name, span_name, layers_passing, height, over_hubs, all_layers_passing, all_layers, Counts, LowersBy, HasLayers, HasName}
 use Rattle.sentry_hub_table.specs.declared.hub.HubState.{HubState}
 use Rattle.sentry_hub_table.specs.declared.tally.Key.{Key}
 use Rattle.sentry_hub_table.specs.declared.tally.Tally.{Tally}
-use Rattle.sentry_hub_table.proofs.TallyLemmas.{key_itself, sum_put, sum_without, sum_without_none, weighs_at_most}
+use Rattle.sentry_hub_table.proofs.TallyLemmas.{key_itself}
 
 -- ---- the kinds of names
 
@@ -51,13 +54,6 @@ span_is key (Some (Transaction named)) = refl
 span_is key (Some (Span named)) = refl
 
 -- ---- sums
-
-positive : (a b : ℕ) → nat_lt 0 (a + b) ≡ (nat_lt 0 a || nat_lt 0 b)
-positive a b = grind (arith, nat_tests)
-
-one_passes : (b : Bool) → nat_lt 0 (one_if b) ≡ b
-one_passes true = refl
-one_passes false = refl
 
 one_at_most : (b : Bool) → one_if b ≤ 1
 one_at_most true = omega arith

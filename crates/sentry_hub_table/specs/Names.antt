@@ -14,7 +14,8 @@ use Rattle.sentry_hub_table.specs.declared.names.LayerNames.{LayerNames}
 use Rattle.sentry_hub_table.specs.declared.names.Names.{Names}
 use Rattle.sentry_hub_table.specs.declared.tally.Key.{Key}
 use Rattle.sentry_hub_table.specs.declared.tally.Tally.{Tally}
-use Rattle.sentry_hub_table.specs.Tallies.{one_if, is_named, tally_at, tally_total, Raises, Lowers, Keeps}
+use Rattle.sentry_plain.specs.Counts.{one_if}
+use Rattle.sentry_hub_table.specs.Tallies.{is_named, tally_at, tally_total, Raises, Lowers, Keeps}
 
 abbrev pub client_name : Option ClientKey → Option Key
 client_name None = None

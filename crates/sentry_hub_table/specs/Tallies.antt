@@ -1,24 +1,16 @@
 -- How many layers name each record of a kind.
-use Rattle.std.specs.Prelude.{◌≡◌, ℕ, ◌+◌, ◌≤◌, ◌==◌, Bool, false, Option, Some, None, unwrap_or, cond, if◌then◌else◌, List, count_by, length, sum, vec_capacity}
+use Rattle.std.specs.Prelude.{◌≡◌, ℕ, ◌+◌, ◌≤◌, ◌==◌, Bool, false, Option, Some, None, if◌then◌else◌, count_by, length, sum, vec_capacity}
 use Rattle.std.specs.Option.{is_some}
 use Rattle.std.specs.Map.{values_of}
-use Rattle.sentry_plain.specs.Tables.{value_at}
+use Rattle.sentry_plain.specs.Counts.{count_at, one_if}
 use Rattle.sentry_hub_table.specs.declared.tally.Key.{Key}
 use Rattle.sentry_hub_table.specs.declared.tally.Tally.{Tally}
 pub use Rattle.sentry_hub_table.specs.Entries.{is_key}
-
--- 1 where the test holds
-abbrev pub one_if : Bool → ℕ
-one_if b = cond b 1 0
 
 -- a record is named, and it is the one of this key
 abbrev pub is_named : Key → Option Key → Bool
 is_named key None = false
 is_named key (Some named) = is_key key named
-
--- what stands at a number; without an entry 0
-abbrev pub count_at : List (ℕ × ℕ) → ℕ → ℕ
-count_at counts n = unwrap_or (value_at counts n) 0
 
 -- how many layers name the record of a key
 abbrev pub tally_at : Tally → Key → ℕ

@@ -177,7 +177,7 @@ impl<P: Drop> HubTable<P> {
     }
 
     /// Makes one edit of the top scope of a hub that is held, in place. If out of memory, nothing has changed.
-    #[tactic(auto, using(crate::proofs::TallyLemmas::changed_same))]
+    #[tactic(auto, using(sentry_plain::proofs::ChangeLemmas::changed_same))]
     pub fn edit_scope(&mut self, number: u64, setter: ScopeEdit<P>) -> Result<(), AllocError>
         requires { is_some (value_at self.old number) ≡ true }
         ensures ok { OnOk result ((hub : HubState P) → value_at self.old number ≡ Some hub →
@@ -198,7 +198,7 @@ impl<P: Drop> HubTable<P> {
     }
 
     /// Adds breadcrumbs to the top scope of a hub that is held, in place. If out of memory, nothing has changed.
-    #[tactic(auto, using(crate::proofs::TallyLemmas::changed_same))]
+    #[tactic(auto, using(sentry_plain::proofs::ChangeLemmas::changed_same))]
     pub fn add_breadcrumbs(
         &mut self,
         number: u64,
@@ -233,7 +233,7 @@ impl<P: Drop> HubTable<P> {
 
     /// Puts a copy of the top layer of a hub that is held on it, and returns the depth after it. If out of memory, nothing has
     /// changed.
-    #[tactic(auto, using(crate::proofs::TallyLemmas::changed_same))]
+    #[tactic(auto, using(sentry_plain::proofs::ChangeLemmas::changed_same))]
     pub fn push(&mut self, number: u64) -> Result<usize, AllocError>
         requires { is_some (value_at self.old number) ≡ true }
         ensures ok { IfOk result (λ pushed. (hub : HubState P) → value_at self.old number ≡ Some hub →
@@ -258,7 +258,7 @@ impl<P: Drop> HubTable<P> {
     }
 
     /// Removes the top layer of a hub that is held, unless it has no other. It takes no memory.
-    #[tactic(auto, using(crate::proofs::TallyLemmas::changed_same))]
+    #[tactic(auto, using(sentry_plain::proofs::ChangeLemmas::changed_same))]
     pub fn pop(&mut self, number: u64)
         requires { is_some (value_at self.old number) ≡ true }
         ensures { (hub : HubState P) → value_at self.old number ≡ Some hub →

@@ -2,9 +2,10 @@
 ghost use Rattle.std.specs.Prelude.{◌≡◌, ◌==◌, ℕ, ◌+◌, ◌<◌, ◌≤◌, MatchOption, count_by, length, slice_index_or, sum, nat_lt, true, false, Some, OnOk, vec_capacity};
 ghost use Rattle.std.specs.Bool.{OnTrue, OnFalse};
 ghost use Rattle.std.specs.Map.{values_of};
+ghost use Rattle.sentry_plain.specs.Counts.{count_at, one_if};
 ghost use Rattle.sentry_hub_table.specs.declared.tally.Key.{Key};
 ghost use Rattle.sentry_hub_table.specs.Entries.{is_key, has_entry};
-ghost use Rattle.sentry_hub_table.specs.Tallies.{one_if, count_at, tally_at, tally_total, Keeps, Raises, Lowers};
+ghost use Rattle.sentry_hub_table.specs.Tallies.{tally_at, tally_total, Keeps, Raises, Lowers};
 
 use crate::tally::{Key, Tally};
 use sentry_plain::Table;
@@ -49,7 +50,7 @@ fn raise_entry(counts: &mut Table<u128>, number: u64, most: usize) -> bool
 }
 
 // Counts one less at a number, unless it counts none, and returns whether it did.
-#[tactic(auto, using(crate::proofs::TallyLemmas::changed_same))]
+#[tactic(auto, using(sentry_plain::proofs::ChangeLemmas::changed_same))]
 fn lower_entry(counts: &mut Table<u128>, number: u64) -> bool
     ensures each { OnTrue result ((n : ℕ) → count_at counts.old n ≡ count_at counts.new n + one_if (number == n)) }
     ensures total { OnTrue result (sum (values_of counts.old) ≡ sum (values_of counts.new) + 1) }

@@ -1,8 +1,8 @@
 use Rattle.std.proofs.Common.{◌<◌, List, cond, subst}
 use Rattle.std.specs.Prelude.{count_by, ◌==◌}
+use Rattle.sentry_plain.specs.Counts.{count_at}
 use Rattle.sentry_hub_table.specs.declared.tally.Key.{Key}
 use Rattle.sentry_hub_table.specs.Entries.{is_key}
-use Rattle.sentry_hub_table.specs.Tallies.{count_at}
 use Rattle.sentry_hub_table.proofs.TallyLemmas.{late_found, more}
 use Rattle.sentry_hub_table.proofs.tally.Tally.is_named.Goals as goal
 

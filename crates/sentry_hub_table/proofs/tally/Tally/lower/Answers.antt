@@ -1,11 +1,12 @@
 use Rattle.std.proofs.Common.{◌≡◌, List, ap, subst, true, arith}
 use Rattle.std.specs.Prelude.{count_by, ◌==◌}
 use Rattle.std.specs.Bool.{OnFalse}
+use Rattle.sentry_plain.specs.Counts.{count_at}
+use Rattle.sentry_plain.proofs.NumberLemmas.{same_number}
 use Rattle.sentry_hub_table.specs.declared.tally.Key.{Key}
 use Rattle.sentry_hub_table.specs.declared.tally.Tally.{Tally}
 use Rattle.sentry_hub_table.specs.Entries.{is_key}
-use Rattle.sentry_hub_table.specs.Tallies.{count_at}
-use Rattle.sentry_hub_table.proofs.TallyLemmas.{late_alone, same_number}
+use Rattle.sentry_hub_table.proofs.TallyLemmas.{late_alone}
 use Rattle.sentry_hub_table.proofs.tally.Tally.lower.Goals.{else-key-self-via-then-key-self+else-lower_entry, else-key-self-via-else-key-self}
 use Rattle.sentry_hub_table.proofs.tally.Tally.lower.Goals as goal
 

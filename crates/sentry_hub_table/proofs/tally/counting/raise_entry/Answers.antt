@@ -1,5 +1,6 @@
 use Rattle.std.proofs.Common.{sym, arith, ◌+◌}
-use Rattle.sentry_hub_table.proofs.TallyLemmas.{count_raised, sum_replaced}
+use Rattle.sentry_plain.proofs.CountLemmas.{count_raised}
+use Rattle.sentry_hub_table.proofs.TallyLemmas.{sum_replaced}
 use Rattle.sentry_hub_table.proofs.tally.counting.raise_entry.Goals as goal
 
 -- one more at the number
