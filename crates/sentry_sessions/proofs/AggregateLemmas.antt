@@ -1,5 +1,6 @@
 -- Counts of sessions: the counts of one more session are the counts of the others, with one more at its key.
 use Rattle.std.proofs.Common.{◌≡◌, ◌+◌, ◌-◌, ◌^◌, ◌||◌, ◌&&◌, min, ℕ, Bool, true, false, cond, Option, Some, None, List, [], ◌∷◌, map, refl, sym, ap, ◌∙◌, arith, Ordering, Less, Equal, Greater, is_eq}
+use Rattle.std.proofs.lemmas.Bool.{or_parts}
 use Rattle.std.proofs.lemmas.Cmp.{on_total}
 use Rattle.std.proofs.lemmas.List.Sums.{sum_by-cons}
 use Rattle.std.proofs.lemmas.Map.Lookups.{exact_pairs, exact_unsigned, exact_bytes}
@@ -80,19 +81,12 @@ get_counts : (updates : List SessionUpdate) (q : AggregateKey) → get (counts_o
 unfolding counts_of
 get_counts updates q = get-from_entries key_total _ q ∙ find_mapped (counts_at updates) q updates
 
-none_before : (a b : Bool) → (a || b) ≡ false → b ≡ false
-none_before true b h = cc
-none_before false b h = h
-
-none_here : (a b : Bool) → (a || b) ≡ false → a ≡ false
-none_here true b h = cc
-none_here false b h = refl
-
 none_counted : (test : SessionUpdate → Bool) (updates : List SessionUpdate) (key : AggregateKey) → has_key key updates ≡ false
     → count_by (λ update. eq_by_cmp aggregate_cmp key (key_of update) && test update) updates ≡ 0
 none_counted test [] key h = refl
 none_counted test (u ∷ us) key h =
-    rw (none_here (eq_by_cmp aggregate_cmp key (key_of u)) (has_key key us) h, none_counted test us key (none_before _ (has_key key us) h)) refl
+    let none = or_parts (eq_by_cmp aggregate_cmp key (key_of u)) (has_key key us) h in
+    rw (none.0, none_counted test us key none.1) refl
 
 no_counts_at : (updates : List SessionUpdate) (key : AggregateKey) → has_key key updates ≡ false → no_counts ≡ counts_at updates key
 no_counts_at updates key h =
