@@ -285,10 +285,6 @@ module _ {C : Type 0} where
       → record kept { queues = record kept.queues { sessions = queue } } ≡ stored_client (with_client_entry entry client)
   queue_changed client kept entry queue is q = λ i. record (is i) { queues = record (is i).queues { sessions = q i } }
 
-no_session : (o : Option SessionHistory) → None ≡ option_map stored_session o → o ≡ None
-no_session None e = refl
-no_session (Some session) e = absurd cc
-
 module _ {P C : Type 0} where
   -- an engine whose session is replaced stands for the world whose session is replaced
   pub session_replaced : (engine : State P C) (world : World P C) → Stands engine world → (n : ℕ) (session : SessionHistory) (kept : Session)
@@ -297,13 +293,6 @@ module _ {P C : Type 0} where
       ap (replace_at engine.sessions n) is
       ∙ (ap (λ sessions. replace_at sessions n (stored_session session)) s.sessions
       ∙ sym (replace_at-map_values stored_session world.sessions n session))
-
-  -- nothing is replaced where the engine has no session
-  pub session_absent : (engine : State P C) (world : World P C) → Stands engine world → (n : ℕ) (session : SessionHistory)
-      → None ≡ value_at engine.sessions n → engine.sessions ≡ map_values stored_session (replace_at world.sessions n session)
-  session_absent engine world s n session h =
-      let none : value_at world.sessions n ≡ None = no_session (value_at world.sessions n) (h ∙ session_in_world engine world s n) in
-      s.sessions ∙ ap (map_values stored_session) (sym (replace_absent world.sessions n session none))
 
 module _ {P C : Type 0} where
   -- what the engine found of a client of the world

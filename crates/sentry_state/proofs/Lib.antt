@@ -1,3 +1,4 @@
 pub mod Keeping
 pub mod TableLemmas
 pub mod SpanKeeping
+pub mod SessionCounts

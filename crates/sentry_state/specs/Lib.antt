@@ -4,4 +4,6 @@ pub mod Outcomes
 pub mod Changes
 pub mod Clients
 pub mod SpanChanges
+pub mod SessionTables
+pub mod TrueSessions
 pub mod Breadcrumbs

@@ -2,6 +2,8 @@
 //! stated on the world that the state stands for.
 #![tactic(auto)]
 
+pub mod session_table;
 pub mod state;
 
+pub use session_table::SessionTable;
 pub use state::{ClientState, Out, Queues, Sent, State};

@@ -12,6 +12,7 @@ mod hubs;
 mod sessions;
 mod spans;
 
+use crate::session_table::SessionTable;
 use sentry_base::protocol::{
     ClientKey, ClientSdkInfo, Envelope, HubKey, Label, Log, LogAttribute, Metric,
     SessionAttributes, SessionKey,
@@ -111,8 +112,8 @@ pub struct State<P, C> {
     pub clients: Table<ClientState<C>>,
     /// It also keeps how many layers name each client, session, transaction and span.
     pub hubs: HubTable<P>,
-    /// The sessions that go on.
-    pub sessions: Table<Session>,
+    /// The sessions that go on. It also keeps how many of them were started under each client.
+    pub sessions: SessionTable,
     /// The losses of each label that a client names, by the label's number.
     pub books: Table<LossBook>,
     /// The transactions and spans that were not discarded.
@@ -152,7 +153,7 @@ impl<P: Drop, C: Callbacks> State<P, C> {
             },
             clients: Table::new(alloc),
             hubs: HubTable::new(alloc, tag),
-            sessions: Table::new(alloc),
+            sessions: SessionTable::new(alloc, tag),
             books: Table::new(alloc),
             spans: SpanTable::with_tag(alloc, tag),
             alloc,

@@ -1,8 +1,7 @@
 //! How clients are made, held and given back.
 ghost use Rattle.std.specs.List.{list_any};
-ghost use Rattle.std.specs.Prelude.{◌≡◌, IfOk, OnOk, OnErr, Some};
+ghost use Rattle.std.specs.Prelude.{◌≡◌, IfOk, OnOk, OnErr};
 ghost use Rattle.sentry_plain.specs.Tables.{put, without};
-ghost use Rattle.sentry_scope.specs.Stacks.{is_client};
 ghost use Rattle.sentry_state.specs.Worlds.{World, ClientHistory, Stands, stored_client, stored_queues};
 ghost use Rattle.sentry_state.specs.Books.{with_book, is_label, without_unused_book};
 ghost use Rattle.sentry_options.specs.Options.{set_up};
@@ -17,7 +16,7 @@ use sentry_options::{Callbacks, ClientOptions, PlainOptions};
 use sentry_pipeline::os_attributes::os_attributes;
 use sentry_pipeline::pipeline::{default_log_attributes, default_metric_attributes, sdk_info};
 use sentry_plain::{Shared, Table};
-use sentry_sessions::{Session, SessionQueue, session_attributes};
+use sentry_sessions::{SessionQueue, session_attributes};
 use std::alloc::{AllocError, Global};
 
 // A share of the options, after the `setup` of their integrations.
@@ -99,18 +98,6 @@ pub fn clone_of<C: Drop>(
     })
 }
 
-// Whether a session that goes on was started under the client.
-fn has_session_of(sessions: &Table<Session>, client: ClientKey) -> bool
-    ensures { result ≡ list_any (λ entry. is_client client (Some entry.1.start.client)) sessions.now }
-{
-    for (_, session) in sessions.iter() {
-        if session.start.client == client {
-            return true;
-        }
-    }
-    false
-}
-
 // Whether a client has the label.
 fn has_client_of<C>(clients: &Table<ClientState<C>>, label: Label) -> bool
     ensures { result ≡ list_any (λ entry. is_label label entry.1.label) clients.now }
@@ -185,6 +172,7 @@ impl<P: Drop, C: Callbacks> State<P, C> {
     {
         self.clients.remove(number);
         self.hubs.forget_client(number);
+        self.sessions.forget_client(number);
     }
 
     /// Removes the book of a label, unless a client has the label.
@@ -198,10 +186,11 @@ impl<P: Drop, C: Callbacks> State<P, C> {
         self.books.remove(label.number);
     }
 
-    /// Whether a session that goes on was started under the client.
+    /// Whether a session that goes on was started under the client. It looks at no session, unless the key is of another
+    /// engine.
     pub fn has_session_of(&self, client: ClientKey) -> bool
         ensures { (world : World P C) → Stands self.now world → result ≡ has_session_of client world.sessions }
     {
-        has_session_of(&self.sessions, client)
+        self.sessions.has_session_of(client)
     }
 }

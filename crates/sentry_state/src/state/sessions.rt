@@ -51,17 +51,14 @@ impl<P: Drop, C: Callbacks> State<P, C> {
         self.hubs.set_session(number, name);
     }
 
-    /// Writes a session, if there is one under the number.
+    /// Writes a session, if there is one under the number. It takes no memory.
     pub fn set_session(&mut self, number: u64, after: Session)
         ensures in_world { (world : World P C) (state : SessionHistory) → Stands self.old world →
             after ≡ stored_session state →
             Stands self.new (record world { sessions = replace_at world.sessions number state }) }
         ensures hubs { self.new.hubs ≡ self.old.hubs }
     {
-        let Some(session) = self.sessions.get_mut(number) else {
-            return;
-        };
-        *session = after;
+        self.sessions.set(self.alloc, number, after);
     }
 
     /// Removes a session.
