@@ -10,8 +10,8 @@ use Rattle.sentry_plain.proofs.text_map.TextMap.TheSendSync as TextMap
 use Rattle.sentry_base.proofs.protocol.keys.Label.TheSendSync as Label
 use Rattle.sentry_base.proofs.protocol.session.SessionAttributes.TheSendSync as SessionAttributes
 use Rattle.sentry_options.proofs.clientoptions.ClientOptions.TheSendSync as ClientOptions
-use Rattle.sentry_sessions.proofs.session.record.Session.TheSendSync as Session
 use Rattle.sentry_client_reports.proofs.client_reports.book.LossBook.TheSendSync as LossBook
+use Rattle.sentry_state.proofs.session_table.SessionTable.TheSendSync as SessionTable
 use Rattle.sentry_state.proofs.state.NextNumbers.TheSendSync as NextNumbers
 use Rattle.sentry_plain.specs.contracts.shared.Shared as SharedOf
 use Rattle.sentry_plain.specs.contracts.text_map.TextMap as TextMapOf
@@ -48,7 +48,7 @@ module _ (P C : RattleType) (ps : IsSend P) (py : IsSync P) (cs : IsSend C) (cy 
         (
           (HubTable_send P ps py),
           (
-            search (Table.the_send, Session.the_send, sendable) depth 60 fits 20000,
+            search (SessionTable.the_send, sendable) depth 60 fits 20000,
             (
               search (Table.the_send, LossBook.the_send, sendable) depth 60 fits 20000,
               (
