@@ -55,6 +55,14 @@ impl<P: Drop, C: Callbacks> Engine<P, C> {
         self.state.has_book(label)
     }
 
+    /// The same, where a place is looked at first: where books and what a caller keeps by labels were added and removed
+    /// together, the book lies at the same place.
+    pub fn has_book_near(&self, label: Label, near: usize) -> bool
+        ensures { (world : World P C) → Stands self.now world → result ≡ has_book world label }
+    {
+        self.state.has_book_near(label, near)
+    }
+
     /// The label of a client, or `None` if it isn't held.
     pub fn client_label(&self, client: ClientKey) -> Option<Label>
         ensures { (world : World P C) → Stands self.now world →

@@ -12,14 +12,21 @@ use std::alloc::AllocError;
 
 impl<P: Drop, C: Callbacks> State<P, C> {
     /// Whether a client names the label.
-    #[tactic(auto, using(crate::proofs::Keeping::has_book_in_world))]
     pub fn has_book(&self, label: Label) -> bool
+        ensures { (world : World P C) → Stands self.now world → result ≡ has_book world label }
+    {
+        self.has_book_near(label, 0)
+    }
+
+    /// The same, where a place is looked at first at which its book may be.
+    #[tactic(auto, using(crate::proofs::Keeping::has_book_in_world))]
+    pub fn has_book_near(&self, label: Label, near: usize) -> bool
         ensures { (world : World P C) → Stands self.now world → result ≡ has_book world label }
     {
         if label.tag != self.tag {
             return false;
         }
-        self.books.get(label.number).is_some()
+        self.books.get_near(label.number, near).is_some()
     }
 
     /// The report of what is pending under a label, if anything is.
