@@ -9,6 +9,7 @@ ghost use Rattle.sentry_state.specs.SessionTables.{counted_client};
 use sentry_base::protocol::ClientKey;
 use sentry_plain::Table;
 use sentry_plain::counts::{is_counted, raise};
+use sentry_plain::counts::{is_counted, raise};
 use sentry_sessions::Session;
 use std::alloc::{AllocError, Global};
 use std::marker::Model;
@@ -158,10 +159,11 @@ impl SessionTable {
     pub fn remove(&mut self, number: u64)
         ensures { self.new ≡ without self.old number }
     {
-        let Some(session) = self.sessions.remove(number) else {
+        let Some(session) = self.sessions.get(number) else {
             return;
         };
         let client = counted_client(self.counted, session.start.client);
+        self.sessions.discard(number);
         lower_entry(&mut self.counts, client);
     }
 
@@ -172,6 +174,6 @@ impl SessionTable {
         if is_counted(&self.counts, client) {
             return;
         }
-        self.counts.remove(client);
+        self.counts.discard(client);
     }
 }

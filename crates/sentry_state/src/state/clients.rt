@@ -158,7 +158,7 @@ impl<P: Drop, C: Callbacks> State<P, C> {
         match self.clients.insert(number, client) {
             Ok(()) => Ok(()),
             Err(error) => {
-                self.books.remove(label);
+                self.books.discard(label);
                 Err(error)
             }
         }
@@ -170,7 +170,7 @@ impl<P: Drop, C: Callbacks> State<P, C> {
         ensures { (world : World P C) → Stands self.old world →
             Stands self.new (record world { clients = without world.clients number }) }
     {
-        self.clients.remove(number);
+        self.clients.discard(number);
         self.hubs.forget_client(number);
         self.sessions.forget_client(number);
     }
@@ -183,7 +183,7 @@ impl<P: Drop, C: Callbacks> State<P, C> {
         if has_client_of(&self.clients, label) {
             return;
         }
-        self.books.remove(label.number);
+        self.books.discard(label.number);
     }
 
     /// Whether a session that goes on was started under the client. It looks at no session, unless the key is of another

@@ -1,39 +1,40 @@
 use Rattle.std.proofs.Common.{◌≡◌, ◌∙◌, sym, subst, ℕ, List, Some, None}
 use Rattle.std.specs.Prelude.{Option}
+use Rattle.std.specs.BTreeMap.{is_at}
+use Rattle.std.specs.Ordering.{nat_cmp}
+use Rattle.std_collections.proofs.Entries.{None-passes, remove_entry_none}
 use Rattle.sentry_plain.specs.Tables.{value_at}
 use Rattle.sentry_sessions.specs.declared.session.record.Session.{Session}
 use Rattle.sentry_plain.specs.Counts.{Counts, Lowers}
 use Rattle.sentry_state.specs.SessionTables.{counted_at}
-use Rattle.sentry_plain.proofs.CountLemmas.{goes, is_there, none_goes}
+use Rattle.sentry_plain.proofs.CountLemmas.{goes, is_there}
 use Rattle.sentry_state.proofs.session_table.SessionTable.remove.Goals as goal
 
 -- nothing stood there
-pub invariant_of-self : goal.invariant_of-self
-invariant_of-self c =
+pub returns-in_default : goal.returns-in_default
+returns-in_default c =
     let table = c.self.inside in
-    let none : value_at table.sessions c.args.number ≡ None = sym c.in_default.ensures.value in
-    record {
-      counts = subst (λ (held : List (ℕ × Session)). Counts (counted_at table.counted) table.counts held) (sym c.remove.ensures.rest)
-          (none_goes (counted_at table.counted) table.sessions c.args.number none table.counts c.self.invariant.counts);
-    }
+    let none : value_at table.sessions c.args.number ≡ None = sym c.in_default.ensures in
+    let test = is_at (nat_cmp c.args.number) in
+    sym (remove_entry_none test table.sessions (None-passes test table.sessions none))
 
 -- its client is counted
 pub lower_entry-requires : goal.lower_entry-requires
 lower_entry-requires c =
     let table = c.self.inside in
-    let found : value_at table.sessions c.args.number ≡ Some c.in-Some.session = sym c.in-Some.ensures.value in
+    let found : value_at table.sessions c.args.number ≡ Some c.in-Some.session.now = sym c.in-Some.ensures in
     λ number is.
-    is_there (counted_at table.counted) table.sessions c.args.number c.in-Some.session found table.counts c.self.invariant.counts number
+    is_there (counted_at table.counted) table.sessions c.args.number c.in-Some.session.now found table.counts c.self.invariant.counts number
     (sym c.counted_client-client.ensures ∙ is)
 
 -- and has one less
-pub invariant_of-self-2 : goal.invariant_of-self-2
-invariant_of-self-2 c =
+pub invariant_of-self : goal.invariant_of-self
+invariant_of-self c =
     let table = c.self.inside in
-    let found : value_at table.sessions c.args.number ≡ Some c.in-Some.session = sym c.in-Some.ensures.value in
+    let found : value_at table.sessions c.args.number ≡ Some c.in-Some.session.now = sym c.in-Some.ensures in
     let lowers = subst (λ (name : Option ℕ). Lowers table.counts c.lower_entry.new.counts name) c.counted_client-client.ensures c.lower_entry.ensures in
     record {
-      counts = subst (λ (held : List (ℕ × Session)). Counts (counted_at table.counted) c.lower_entry.new.counts held) (sym c.remove.ensures.rest)
-          (goes (counted_at table.counted) table.sessions c.args.number c.in-Some.session found table.counts c.lower_entry.new.counts
+      counts = subst (λ (held : List (ℕ × Session)). Counts (counted_at table.counted) c.lower_entry.new.counts held) (sym c.discard.ensures.rest)
+          (goes (counted_at table.counted) table.sessions c.args.number c.in-Some.session.now found table.counts c.lower_entry.new.counts
           c.self.invariant.counts lowers);
     }
