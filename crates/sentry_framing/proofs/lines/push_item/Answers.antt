@@ -21,7 +21,8 @@ returns-clause-text c =
     c.in_ok-push-2.ensures.items
     ∙ ap (λ xs. xs ++ 10 ∷ []) (c.in_ok-extend_from_slice.ensures.items
     ∙ ap (λ xs. xs ++ c.args.payload.now) (c.in_ok-push.ensures.items
-    ∙ ap (λ xs. xs ++ 10 ∷ []) (filled c.in_ok-write_item_header.ensures.tokens c.new-out.ensures.before c.new-out.ensures.tokens c.into_inner-text.ensures.items)))
+    ∙ ap (λ xs. xs ++ 10 ∷ []) (c.in_ok-reserve.ensures.items
+    ∙ filled c.in_ok-write_item_header.ensures.tokens c.new-out.ensures.before c.new-out.ensures.tokens c.into_inner-text.ensures.items)))
     ∙ lines c.args.text.items _ c.args.payload.now
 
 pub returns-clause-sendable : goal.returns-clause-sendable
