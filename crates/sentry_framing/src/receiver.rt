@@ -47,15 +47,18 @@ fn stated_length(header: &Value<'_>) -> Option<u64>
 }
 
 // A text that is JSON.
-fn read_json<'a>(alloc: Global, text: &'a [u8]) -> Result<Option<RawHeader<'a>>, AllocError>
+fn read_json<'a>(
+    alloc: Global,
+    text: &'a [u8],
+    scratch: &mut Scratch,
+) -> Result<Option<RawHeader<'a>>, AllocError>
     ensures { IfOk result (λ found. MatchOption found (read_json text.now ≡ None)
         (λ header. (j : Json) × (read_json text.now ≡ Some j) × IsHeaderOf header j)) }
 {
     let Ok(text) = str::from_utf8(text) else {
         return Ok(None);
     };
-    let mut scratch = Scratch::new(alloc);
-    match Value::parse(alloc, text, &mut scratch) {
+    match Value::parse(alloc, text, scratch) {
         Ok(value) => Ok(Some(RawHeader {
             text,
             length: stated_length(&value),
@@ -70,6 +73,7 @@ fn read_json<'a>(alloc: Global, text: &'a [u8]) -> Result<Option<RawHeader<'a>>,
 fn read_header<'a>(
     alloc: Global,
     text: &'a [u8],
+    scratch: &mut Scratch,
 ) -> Result<Option<(RawHeader<'a>, &'a [u8])>, AllocError>
     ensures read { IfOk result (λ found. MatchOption found (read_header text.now ≡ None)
         (λ p. (j : Json) × (read_header text.now ≡ Some (j, p.1.now)) × IsHeaderOf p.0 j)) }
@@ -79,7 +83,7 @@ fn read_header<'a>(
     let Some((line, rest)) = split_line(text) else {
         return Ok(None);
     };
-    let Some(header) = read_json(alloc, line)? else {
+    let Some(header) = read_json(alloc, line, scratch)? else {
         return Ok(None);
     };
     Ok(Some((header, rest)))
@@ -118,13 +122,14 @@ fn split_payload<'a>(stated: Option<u64>, text: &'a [u8]) -> Option<(&'a [u8], &
 fn read_item<'a>(
     alloc: Global,
     text: &'a [u8],
+    scratch: &mut Scratch,
 ) -> Result<Option<(RawItem<'a>, &'a [u8])>, AllocError>
     ensures read { IfOk result (λ found. option_map {U = (Option Json × Bytes) × Bytes} (λ p. (raw_item p.0, p.1.now)) found
         ≡ option_map known_read (read_item text.now)) }
     ensures shorter { IfOk result
         (λ found. IfSome found (λ p. length p.1.now < length text.now)) }
 {
-    let Some((header, rest)) = read_header(alloc, text)? else {
+    let Some((header, rest)) = read_header(alloc, text, scratch)? else {
         return Ok(None);
     };
     let Some((payload, rest)) = split_payload(header.length, rest) else {
@@ -138,14 +143,18 @@ fn read_item<'a>(
 }
 
 #[tactic(auto, using(crate::proofs::Parts::taken_none, crate::proofs::Parts::taken_bad, crate::proofs::Parts::taken_all))]
-fn read_items<'a>(alloc: Global, text: &'a [u8]) -> Result<Option<Vec<RawItem<'a>>>, AllocError>
+fn read_items<'a>(
+    alloc: Global,
+    text: &'a [u8],
+    scratch: &mut Scratch,
+) -> Result<Option<Vec<RawItem<'a>>>, AllocError>
     ensures { IfOk result (λ found. option_map (λ items. map raw_item items.items) found
         ≡ option_map (map known_item) (read_items (length text.now) text.now)) }
 {
     let mut items = Vec::new(alloc);
     let mut rest = text;
     while !rest.is_empty() {
-        let Some((item, left)) = read_item(alloc, rest)? else {
+        let Some((item, left)) = read_item(alloc, rest, scratch)? else {
             return Ok(None);
         };
         items.push(item)?;
@@ -163,10 +172,11 @@ pub fn split_envelope<'a>(
     ensures { IfOk result (λ found. option_map raw_envelope found
         ≡ option_map known_envelope (read_envelope text.now)) }
 {
-    let Some((header, rest)) = read_header(alloc, text)? else {
+    let mut scratch = Scratch::new(alloc);
+    let Some((header, rest)) = read_header(alloc, text, &mut scratch)? else {
         return Ok(None);
     };
-    let Some(items) = read_items(alloc, rest)? else {
+    let Some(items) = read_items(alloc, rest, &mut scratch)? else {
         return Ok(None);
     };
     Ok(Some(RawEnvelope {
