@@ -114,7 +114,7 @@ class Options:
             self.server_name = socket.gethostname()
 
     def frame_options(self) -> FrameOptions:
-        modules = tuple(self.in_app_include), tuple(self.in_app_exclude)
+        modules = frozenset(self.in_app_include), frozenset(self.in_app_exclude)
         return FrameOptions(self.include_local_variables, self.include_source_context, *modules)
 
     def lines(self) -> str:

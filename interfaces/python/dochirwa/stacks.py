@@ -10,7 +10,7 @@ import re
 import sys
 import sysconfig
 from types import FrameType, TracebackType
-from typing import Any, Dict, Iterator, List, Optional, Tuple
+from typing import Any, Dict, FrozenSet, Iterator, List, Optional, Tuple
 
 MOST_FRAMES, MOST_VARS, LONGEST, CONTEXT = 100, 25, 200, 5
 FILTERED = "[Filtered]"
@@ -31,8 +31,8 @@ class FrameOptions:
 
     with_locals: bool = False
     with_source: bool = True
-    in_app_include: Tuple[str, ...] = ()
-    in_app_exclude: Tuple[str, ...] = ()
+    in_app_include: FrozenSet[str] = frozenset()
+    in_app_exclude: FrozenSet[str] = frozenset()
 
 
 def is_secret(name: Any) -> bool:
@@ -58,8 +58,16 @@ def shown(name: str, value: Any, depth: int = 2) -> Any:
         return f"<{type(value).__qualname__}>"
 
 
-def begins_with(module: str, prefixes: Tuple[str, ...]) -> bool:
-    return any(module == it or module.startswith(it + ".") for it in prefixes)
+def begins_with(module: str, names: FrozenSet[str]) -> bool:
+    """Whether a module, or what stands before one of its dots, is among the names, however many there are."""
+    if not names:
+        return False
+    at = len(module)
+    while at >= 0:
+        if module[:at] in names:
+            return True
+        at = module.rfind(".", 0, at)
+    return False
 
 
 def in_app(path: str, module: str, options: FrameOptions) -> bool:
