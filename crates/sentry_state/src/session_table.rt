@@ -9,7 +9,6 @@ ghost use Rattle.sentry_state.specs.SessionTables.{counted_client};
 use sentry_base::protocol::ClientKey;
 use sentry_plain::Table;
 use sentry_plain::counts::{is_counted, raise};
-use sentry_plain::counts::{is_counted, raise};
 use sentry_sessions::Session;
 use std::alloc::{AllocError, Global};
 use std::marker::Model;
