@@ -3,10 +3,13 @@ use Rattle.std.proofs.Common.{◌≡◌, refl, ap, ◌∙◌, sym, ℕ, List, []
 use Rattle.std.specs.Prelude.{Option, Some, None, ◌==◌, ◌&&◌, nat_lt}
 use Rattle.std.specs.List.{list_any, sum_by}
 use Rattle.std.specs.Map.{values_of}
+use Rattle.std.specs.BTreeMap.{is_at}
+use Rattle.std.specs.Ordering.{nat_cmp}
 use Rattle.std.proofs.lemmas.List.Sums.{sum_by-cons}
 use Rattle.sentry_base.specs.declared.protocol.keys.ClientKey.{ClientKey}
 use Rattle.sentry_scope.specs.Stacks.{is_client}
 use Rattle.sentry_sessions.specs.declared.session.record.Session.{Session}
+use Rattle.sentry_plain.specs.Tables.{value_at, without}
 use Rattle.sentry_plain.specs.Counts.{Counts, count_at, is_number}
 use Rattle.sentry_state.specs.SessionTables.{counted_at, counted_client}
 use Rattle.sentry_plain.proofs.CountLemmas.{counted_any}
@@ -36,6 +39,18 @@ sessions_counted (Some tag) sessions counts true_counts client number is =
     counted_any (counted_at (Some tag)) number (λ session. is_client (record { tag = tag; number = number }) (Some session.start.client))
     (client_is tag number) sessions counts true_counts
     ∙ ap (λ (k : ClientKey). list_any (λ (entry : ℕ × Session). is_client k (Some entry.1.start.client)) sessions) key
+
+left-at : {X : Type 0} (b : Bool) (e : ℕ × X) (es left : List (ℕ × X)) (o : Option X) → cond b (Some e.1) o ≡ None
+    → (o ≡ None → left ≡ es) → cond b es (e ∷ left) ≡ e ∷ es
+left-at true e es left o none rest = absurd cc
+left-at false e es left o none rest = ap (λ l. e ∷ l) (rest none)
+
+-- where nothing stands nothing goes
+pub without_absent : {X : Type 0} (entries : List (ℕ × X)) (number : ℕ) → value_at entries number ≡ None
+    → without entries number ≡ entries
+without_absent [] number none = refl
+without_absent (e ∷ es) number none =
+    left-at (is_at (nat_cmp number) e.0) e es (without es number) (value_at es number) none (without_absent es number)
 
 none_named : {X : Type 0} (entries : List (ℕ × X)) → sum_by (λ (x : X). 0) (values_of entries) ≡ 0
 none_named [] = refl

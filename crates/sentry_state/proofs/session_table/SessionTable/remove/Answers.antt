@@ -1,13 +1,11 @@
 use Rattle.std.proofs.Common.{◌≡◌, ◌∙◌, sym, subst, ℕ, List, Some, None}
 use Rattle.std.specs.Prelude.{Option}
-use Rattle.std.specs.BTreeMap.{is_at}
-use Rattle.std.specs.Ordering.{nat_cmp}
-use Rattle.std_collections.proofs.Entries.{None-passes, remove_entry_none}
-use Rattle.sentry_plain.specs.Tables.{value_at}
+use Rattle.sentry_plain.specs.Tables.{value_at, without}
 use Rattle.sentry_sessions.specs.declared.session.record.Session.{Session}
 use Rattle.sentry_plain.specs.Counts.{Counts, Lowers}
 use Rattle.sentry_state.specs.SessionTables.{counted_at}
 use Rattle.sentry_plain.proofs.CountLemmas.{goes, is_there}
+use Rattle.sentry_state.proofs.SessionCounts.{without_absent}
 use Rattle.sentry_state.proofs.session_table.SessionTable.remove.Goals as goal
 
 -- nothing stood there
@@ -15,8 +13,8 @@ pub returns-in_default : goal.returns-in_default
 returns-in_default c =
     let table = c.self.inside in
     let none : value_at table.sessions c.args.number ≡ None = sym c.in_default.ensures in
-    let test = is_at (nat_cmp c.args.number) in
-    sym (remove_entry_none test table.sessions (None-passes test table.sessions none))
+    subst (λ (held : List (ℕ × Session)). held ≡ without held c.args.number) c.self.view_is
+    (sym (without_absent table.sessions c.args.number none))
 
 -- its client is counted
 pub lower_entry-requires : goal.lower_entry-requires

@@ -1,6 +1,6 @@
 use Rattle.std.proofs.Common.{rules}
 use Rattle.sentry_state.proofs.Keeping.{has_book_in_world}
-use Rattle.sentry_state.proofs.state.State.has_book.Goals as goal
+use Rattle.sentry_state.proofs.state.State.has_book_near.Goals as goal
 
 pub returns : goal.returns
 returns g c = λ world s.
