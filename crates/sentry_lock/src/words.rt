@@ -31,17 +31,18 @@ pub(crate) fn drain_words(drainers: &mut Drainers, number: u64) -> Option<Losses
 }
 
 /// Drains the words of a number once, into losses that are written only if a flag was up, and answers whether one was;
-/// `None` if they were ended, or there are none.
+/// `None` if they were ended, or there are none. Their drainer is looked for at a place first.
 #[tactic(auto, using(crate::proofs::WordLemmas::none_there, crate::proofs::WordLemmas::ended_there, crate::proofs::WordLemmas::ended_stays))]
 pub(crate) fn drain_words_into(
     drainers: &mut Drainers,
     number: u64,
+    near: usize,
     losses: &mut Losses,
 ) -> Option<bool>
     ensures { MatchOption result ((drainers.new ≡ drainers.old) × HasNoOpenWords drainers.old number)
         (λ up. DrainsOne drainers.old drainers.new number (given_if up losses.new.quantities)) }
 {
-    let Some(place) = drainers.get_mut(number) else {
+    let Some(place) = drainers.get_mut_near(number, near) else {
         return None;
     };
     let Some(drainer) = place else {

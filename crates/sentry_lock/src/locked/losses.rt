@@ -67,16 +67,18 @@ impl<P: EventCallback + Drop, C: Callbacks, T: Drop> Core<P, C, T> {
         Ok(Some(drained))
     }
 
-    // The same, where nothing waits to know what was drained: if nothing was, no losses are looked at.
-    fn drain_label(&mut self, label: Label)
+    // The same, where nothing waits to know what was drained: if nothing was, no losses are looked at. The book and the
+    // drainer are looked for at a place first.
+    fn drain_label(&mut self, label: Label, near: usize)
         ensures drained { DrainsIfOpen label self.old.engine self.new.engine self.old.drainers self.new.drainers }
         ensures tag { self.new.tag ≡ self.old.tag }
         ensures labels { self.new.next_label ≡ self.old.next_label }
     {
-        if !self.engine.has_book(label) {
+        if !self.engine.has_book_near(label, near) {
             return;
         }
-        let Some(up) = drain_words_into(&mut self.drainers, label.number, &mut self.drained) else {
+        let Some(up) = drain_words_into(&mut self.drainers, label.number, near, &mut self.drained)
+        else {
             return;
         };
         if up {
@@ -84,39 +86,43 @@ impl<P: EventCallback + Drop, C: Callbacks, T: Drop> Core<P, C, T> {
         }
     }
 
-    // Drains and absorbs for the label of the least number above another, or of the least of all, and answers that number;
-    // `None` if there is no more.
-    fn drain_next(&mut self, last: Option<u64>) -> Option<u64>
+    // Drains and absorbs for the label of the least number above another, or of the least of all, and answers that number
+    // and its place among the drainers; `None` if there is no more. The other is looked for at its place first.
+    fn drain_next(&mut self, last: Option<u64>, near: usize) -> Option<(u64, usize)>
         ensures tag { self.new.tag ≡ self.old.tag }
         ensures drained { MatchOption result
             ((entries_after last self.old.drainers ≡ [])
             × (self.new.engine ≡ self.old.engine) × (self.new.drainers ≡ self.old.drainers))
-            (λ number. DrainsNext self.old.tag last number self.old.engine self.new.engine
+            (λ next. DrainsNext self.old.tag last next.0 self.old.engine self.new.engine
             self.old.drainers self.new.drainers) }
         ensures labels { self.new.next_label ≡ self.old.next_label }
     {
-        let Some(number) = self.drainers.next_number(last) else {
+        let Some((number, place)) = self.drainers.next_number(last, near) else {
             return None;
         };
-        self.drain_label(Label {
+        let label = Label {
             tag: self.tag,
             number,
-        });
-        Some(number)
+        };
+        self.drain_label(label, place);
+        Some((number, place))
     }
 
-    /// Drains and absorbs for each label that a held client names, in the order of their numbers.
+    /// Drains and absorbs for each label that a held client names, in the order of their numbers. It goes along the rows of
+    /// the drainers, where the books mostly lie at the same places, so that nothing is searched.
     pub(super) fn drain_each_label(&mut self)
         ensures drained { DrainsEach self.old.tag self.old.drainers self.old.engine self.new.engine
             self.old.drainers self.new.drainers }
         ensures labels { self.new.next_label ≡ self.old.next_label }
     {
         let mut last = None;
+        let mut near = 0usize;
         for _ in 0..self.drainers.len() {
-            let Some(number) = self.drain_next(last) else {
+            let Some((number, place)) = self.drain_next(last, near) else {
                 return;
             };
             last = Some(number);
+            near = place;
         }
     }
 

@@ -13,8 +13,8 @@ invariant_of-self-then-up g c =
     let label = c.args.label in
     let drained = c.drain_words_into.new.drainers in
     let lost = c.drain_words_into.new.losses.quantities in
-    let has : c.has_book.result ≡ true = search rules in
-    let held : IsHeld true label self.engine = λ world here. sym (c.has_book.ensures world here) ∙ has in
+    let has : c.has_book_near.result ≡ true = search rules in
+    let held : IsHeld true label self.engine = λ world here. sym (c.has_book_near.ensures world here) ∙ has in
     let one = subst (λ up. DrainsOne self.drainers drained label.number (given_if up lost)) c.if-up.true c.in-Some.ensures in
     record {
       sound = after_drain self.engine c.absorb_held.new.engine self.drainers drained label lost one held c.absorb_held.ensures self.sound;
@@ -27,8 +27,8 @@ invariant_of-self-else-up g c =
     let label = c.args.label in
     let drained = c.drain_words_into.new.drainers in
     let lost = c.drain_words_into.new.losses.quantities in
-    let has : c.has_book.result ≡ true = search rules in
-    let held : IsHeld true label self.engine = λ world here. sym (c.has_book.ensures world here) ∙ has in
+    let has : c.has_book_near.result ≡ true = search rules in
+    let held : IsHeld true label self.engine = λ world here. sym (c.has_book_near.ensures world here) ∙ has in
     let one = subst (λ up. DrainsOne self.drainers drained label.number (given_if up lost)) c.if-up.false c.in-Some.ensures in
     record {
       sound = after_drain self.engine self.engine self.drainers drained label no_losses one held
@@ -43,8 +43,8 @@ returns-else-up-clause-drained g c =
     let label = c.args.label in
     let drained = c.drain_words_into.new.drainers in
     let lost = c.drain_words_into.new.losses.quantities in
-    let has : c.has_book.result ≡ true = search rules in
-    let held : IsHeld true label self.engine = λ world here. sym (c.has_book.ensures world here) ∙ has in
+    let has : c.has_book_near.result ≡ true = search rules in
+    let held : IsHeld true label self.engine = λ world here. sym (c.has_book_near.ensures world here) ∙ has in
     let one = subst (λ up. DrainsOne self.drainers drained label.number (given_if up lost)) c.if-up.false c.in-Some.ensures in
     inl (held, (no_losses, (one, absorbs_nothing self.engine label no_losses quiet_words held)))
 
