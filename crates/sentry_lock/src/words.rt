@@ -33,6 +33,7 @@ pub(crate) fn drain_words(drainers: &mut Drainers, number: u64) -> Option<Losses
 /// Drains the words of a number once, into losses that are written only if a flag was up, and answers whether one was;
 /// `None` if they were ended, or there are none. Their drainer is looked for at a place first.
 #[tactic(auto, using(crate::proofs::WordLemmas::none_there, crate::proofs::WordLemmas::ended_there, crate::proofs::WordLemmas::ended_stays))]
+#[inline(always)]
 pub(crate) fn drain_words_into(
     drainers: &mut Drainers,
     number: u64,

@@ -57,6 +57,7 @@ impl<P: Drop, C: Callbacks> Engine<P, C> {
 
     /// The same, where a place is looked at first: where books and what a caller keeps by labels were added and removed
     /// together, the book lies at the same place.
+    #[inline(always)]
     pub fn has_book_near(&self, label: Label, near: usize) -> bool
         ensures { (world : World P C) → Stands self.now world → result ≡ has_book world label }
     {

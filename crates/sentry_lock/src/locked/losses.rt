@@ -30,6 +30,7 @@ fn is_nothing(losses: &Losses) -> bool
 }
 
 // Absorbs losses under a label that a client names, which is never refused. Where nothing is lost the book is left alone.
+#[inline(never)]
 fn absorb_held<P: Drop, C: Callbacks>(engine: &mut Engine<P, C>, label: Label, losses: &Losses)
     requires stands { ∥ ((world : World P C) × Stands engine.old world) ∥₁ }
     requires held { IsHeld true label engine.old }
@@ -69,6 +70,7 @@ impl<P: EventCallback + Drop, C: Callbacks, T: Drop> Core<P, C, T> {
 
     // The same, where nothing waits to know what was drained: if nothing was, no losses are looked at. The book and the
     // drainer are looked for at a place first.
+    #[inline(always)]
     fn drain_label(&mut self, label: Label, near: usize)
         ensures drained { DrainsIfOpen label self.old.engine self.new.engine self.old.drainers self.new.drainers }
         ensures tag { self.new.tag ≡ self.old.tag }
@@ -88,6 +90,7 @@ impl<P: EventCallback + Drop, C: Callbacks, T: Drop> Core<P, C, T> {
 
     // Drains and absorbs for the label of the least number above another, or of the least of all, and answers that number
     // and its place among the drainers; `None` if there is no more. The other is looked for at its place first.
+    #[inline(always)]
     fn drain_next(&mut self, last: Option<u64>, near: usize) -> Option<(u64, usize)>
         ensures tag { self.new.tag ≡ self.old.tag }
         ensures drained { MatchOption result

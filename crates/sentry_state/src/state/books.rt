@@ -20,6 +20,7 @@ impl<P: Drop, C: Callbacks> State<P, C> {
 
     /// The same, where a place is looked at first at which its book may be.
     #[tactic(auto, using(crate::proofs::Keeping::has_book_in_world))]
+    #[inline(always)]
     pub fn has_book_near(&self, label: Label, near: usize) -> bool
         ensures { (world : World P C) → Stands self.now world → result ≡ has_book world label }
     {
