@@ -12,4 +12,5 @@ mod Silent
 mod Walks
 mod Sent
 mod LockAnswers
+mod CallLists
 mod Refusals

@@ -1,6 +1,7 @@
 -- What was answered by what the lock held.
-use Rattle.std.proofs.Common.{◌≡◌, refl, subst, sym, inl, inr}
+use Rattle.std.proofs.Common.{◌≡◌, ◌∙◌, ap, refl, subst, sym, inl, inr}
 use Rattle.std.specs.Prelude.{◌⊎◌, Bool, true, false, Option, Result, Ok, Err, IfOk, IfErr, MatchOption}
+use Rattle.sentry_base.specs.declared.protocol.keys.ClientKey.{ClientKey}
 use Rattle.sentry_base.specs.declared.protocol.keys.Label.{Label}
 use Rattle.sentry_base.specs.declared.protocol.losses.Losses.{Losses}
 use Rattle.sentry_base.specs.declared.protocol.refusal.Refusal.{Refusal}
@@ -9,7 +10,7 @@ use Rattle.sentry_state.specs.declared.state.Out.{Out}
 use Rattle.sentry_state.specs.declared.state.State.{State}
 use Rattle.sentry_state.specs.Outcomes.{Outcome, DoesWith, Need}
 use Rattle.sentry_state.specs.Worlds.{World}
-use Rattle.sentry_lock.specs.Answers.{RepliesWith, AnswersWith, RefusesWith, DrainsAndAnswers, LockAnswers, LockDrainsAndAnswers, LockDrainsLabel, LockEndsLabel, LockIsForeign, LockMakes, LockRefuses, MakesNot}
+use Rattle.sentry_lock.specs.Answers.{RepliesWith, AnswersWith, RefusesWith, DrainsAndAnswers, DrainsLabel, EndsLabel, IsForeign, AddsNot, LockAddsNot, LockAnswers, LockDrainsAndAnswers, LockDrainsLabel, LockEndsLabel, LockGivesLabel, LockIsForeign, LockMakes, LockRefuses, MakesNot}
 use Rattle.sentry_lock.specs.declared.locked.Core.{Core}
 use Rattle.sentry_lock.specs.Locked.{DrainsAndAbsorbs, DrainsAndDoes, DrainsFor, EndsAndAbsorbs, FindsNoWords, IsHeld}
 use Rattle.sentry_lock.specs.Words.{Drainers, HasOpenWords}
@@ -159,31 +160,50 @@ module _ {P C T B : Type 0} (outcome : World P C → Outcome P C (Result B Refus
   if_refused (Err refusal) did = inr did
 
 -- by a call on the losses of a label
-module _ {P C T : Type 0} (held : Core P C T) (label : Label) (new : State P C) (after : Drainers) where
-  pub drains_label : (r : Result (Option Losses) Refusal)
-      → IfOk r (λ drained. IsHeld true label held.engine
-      × MatchOption drained (FindsNoWords label held.engine new held.drainers after)
-      (λ losses. DrainsAndAbsorbs label losses.quantities held.engine new held.drainers after))
+module _ {P C T : Type 0} (old new : Core P C T) (label : Label) where
+  pub drains_label : (r : Result (Option Losses) Refusal) → IfOk r (λ drained. DrainsLabel old new label drained)
       → IfOk r (λ drained. LockDrainsLabel P C T label drained)
-  drains_label (Ok drained) did = (held, (new, after, did.0, did.1))
+  drains_label (Ok drained) did = (old, new, did)
   drains_label (Err refusal) did = did
 
-  pub ends_label : (r : Result Bool Refusal) → IfOk r (λ _. IsHeld true label held.engine)
-      → IfOk r (λ ended. ended ≡ true → FindsNoWords label held.engine new held.drainers after
-      ⊎ EndsAndAbsorbs label held.engine new held.drainers after)
-      → IfOk r (λ ended. ended ≡ false → HasOpenWords held.drainers label.number × (new ≡ held.engine)
-      × (after ≡ held.drainers))
-      → IfOk r (λ ended. LockEndsLabel P C T label ended)
-  ends_label (Ok true) named ended stay = (held, (new, after, named, ended refl))
-  ends_label (Ok false) named ended stay = (held, (named, (stay refl).0))
-  ends_label (Err refusal) named ended stay = named
+  pub label_ended : (r : Result Bool Refusal) → IfOk r (λ _. IsHeld true label old.engine)
+      → IfOk r (λ ended. ended ≡ true → FindsNoWords label old.engine new.engine old.drainers new.drainers
+      ⊎ EndsAndAbsorbs label old.engine new.engine old.drainers new.drainers)
+      → IfOk r (λ ended. ended ≡ false → HasOpenWords old.drainers label.number × (new.engine ≡ old.engine)
+      × (new.drainers ≡ old.drainers))
+      → IfOk r (λ ended. EndsLabel old new label ended)
+  label_ended (Ok true) named ended stay = (named, ended refl)
+  label_ended (Ok false) named ended stay = let kept = stay refl in (named, kept.0, kept.1, kept.2)
+  label_ended (Err refusal) named ended stay = named
 
-  pub is_foreign : {A : Type 0} (r : Result A Refusal)
-      → IfErr r (λ refusal. (refusal ≡ ForeignLosses) × IsHeld false label held.engine × (new ≡ held.engine)
-      × (after ≡ held.drainers))
+  pub ends_label : (r : Result Bool Refusal) → IfOk r (λ ended. EndsLabel old new label ended)
+      → IfOk r (λ ended. LockEndsLabel P C T label ended)
+  ends_label (Ok ended) did = (old, new, did)
+  ends_label (Err refusal) did = did
+
+  pub is_foreign : {A : Type 0} (r : Result A Refusal) → IfErr r (λ refusal. IsForeign old new label refusal)
       → IfErr r (λ refusal. LockIsForeign P C T label refusal)
   is_foreign (Ok reply) did = did
-  is_foreign (Err refusal) did = (held, (did.0, did.1))
+  is_foreign (Err refusal) did = (old, new, did)
+
+-- by what refuses a client
+pub adds_not : {P C T : Type 0} (held : Core P C T) (label : Label) (refusal : Refusal)
+    (outcome : World P C → Outcome P C ClientKey) → (refusal ≡ OutOfMemory) ⊎ AddsNot held label refusal outcome
+    → (refusal ≡ OutOfMemory) ⊎ LockAddsNot P C T label refusal outcome
+adds_not held label refusal outcome (inl out) = inl out
+adds_not held label refusal outcome (inr not) = inr (held, not)
+
+-- by what gives a label
+pub gives_label : {P C T X E : Type 0} (of : X → Label) (label : Label) (core : Core P C T) → label.tag ≡ core.tag
+    → label.number ≡ core.next_label → (r : Result X E) → IfOk r (λ x. of x ≡ label)
+    → IfOk r (λ x. LockGivesLabel P C T (of x))
+gives_label of label core tag number (Ok x) is =
+    (core, (ap (λ (l : Label). l.tag) is ∙ tag, ap (λ (l : Label). l.number) is ∙ number))
+gives_label of label core tag number (Err e) is = is
+
+-- what holds from one core to another holds from the core that is the first
+pub from_core : {P C T : Type 0} (Q : Core P C T → Type 0) (held core : Core P C T) → held ≡ core → Q held → Q core
+from_core {P} {C} {T} Q held core is holds = subst Q is holds
 
 -- what holds of the value of an answer
 pub of_ok : {X E : Type 0} (Q : X → Type 0) (r : Result X E) (x : X) → r ≡ Ok x → IfOk r Q → Q x

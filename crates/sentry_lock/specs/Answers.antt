@@ -1,16 +1,17 @@
 -- What calls that take the lock answer, by the core that the lock held.
-use Rattle.std.specs.Prelude.{◌≡◌, ◌⊎◌, Bool, true, false, List, Option, Ok, Err, MatchOption}
+use Rattle.std.specs.Prelude.{◌≡◌, ◌⊎◌, ◌-◌, ◌^◌, Bool, true, false, List, Option, Ok, Err, MatchOption}
 use Rattle.sentry_base.specs.declared.protocol.envelope.Envelope.{Envelope}
 use Rattle.sentry_base.specs.declared.protocol.keys.ClientKey.{ClientKey}
 use Rattle.sentry_base.specs.declared.protocol.keys.Label.{Label}
 use Rattle.sentry_base.specs.declared.protocol.losses.Losses.{Losses}
 use Rattle.sentry_base.specs.declared.protocol.refusal.Refusal.{Refusal}
-use Rattle.sentry_base.specs.declared.protocol.refusal.Refusal.TheVariants.{ForeignLosses, OutOfMemory}
+use Rattle.sentry_base.specs.declared.protocol.refusal.Refusal.TheVariants.{ForeignLosses, Full, OutOfMemory}
+use Rattle.sentry_engine.specs.declared.engine.facts.Held.{Held}
 use Rattle.sentry_state.specs.declared.state.State.{State}
 use Rattle.sentry_state.specs.Outcomes.{Outcome, DoesWith, Need, memory, nothing}
 use Rattle.sentry_state.specs.Worlds.{World}
 use Rattle.sentry_lock.specs.declared.locked.Core.{Core}
-use Rattle.sentry_lock.specs.Locked.{DrainsAndAbsorbs, DrainsAndDoes, DrainsFor, EndsAndAbsorbs, FindsNoWords, IsHeld}
+use Rattle.sentry_lock.specs.Locked.{DrainsAndAbsorbs, DrainsAndDoes, DrainsFor, EndsAndAbsorbs, FindsNoWords, HasNoNumber, IsCountOf, IsHeld}
 use Rattle.sentry_lock.specs.Words.{Drainers, HasOpenWords}
 
 module _ {P C : Type 0} where
@@ -59,24 +60,43 @@ module _ {P C T : Type 0} where
       × DoesWith need between between (Err refusal) outcome)
 
   -- the words of a label were drained once and its book absorbed what that gave; or none of them were open
-  abbrev pub DrainsLabel : Core P C T → Label → Option Losses → Type 0
-  DrainsLabel core label drained =
-      (new : State P C) × (after : Drainers) × IsHeld true label core.engine
-      × MatchOption drained (FindsNoWords label core.engine new core.drainers after)
-      (λ losses. DrainsAndAbsorbs label losses.quantities core.engine new core.drainers after)
+  abbrev pub DrainsLabel : Core P C T → Core P C T → Label → Option Losses → Type 0
+  DrainsLabel old new label drained =
+      IsHeld true label old.engine
+      × MatchOption drained (FindsNoWords label old.engine new.engine old.drainers new.drainers)
+      (λ losses. DrainsAndAbsorbs label losses.quantities old.engine new.engine old.drainers new.drainers)
 
   -- the words of a label were ended and its book absorbed what stood in them, or none of them were open; or they stay
-  -- open
-  abbrev pub EndsLabel : Core P C T → Label → Bool → Type 0
-  EndsLabel core label true =
-      (new : State P C) × (after : Drainers) × IsHeld true label core.engine
-      × (FindsNoWords label core.engine new core.drainers after
-      ⊎ EndsAndAbsorbs label core.engine new core.drainers after)
-  EndsLabel core label false = IsHeld true label core.engine × HasOpenWords core.drainers label.number
+  -- open, and nothing changed
+  abbrev pub EndsLabel : Core P C T → Core P C T → Label → Bool → Type 0
+  EndsLabel old new label true =
+      IsHeld true label old.engine
+      × (FindsNoWords label old.engine new.engine old.drainers new.drainers
+      ⊎ EndsAndAbsorbs label old.engine new.engine old.drainers new.drainers)
+  EndsLabel old new label false =
+      IsHeld true label old.engine × HasOpenWords old.drainers label.number × (new.engine ≡ old.engine)
+      × (new.drainers ≡ old.drainers)
 
-  -- no client that is held names the label
-  abbrev pub IsForeign : Core P C T → Label → Refusal → Type 0
-  IsForeign core label refusal = (refusal ≡ ForeignLosses) × IsHeld false label core.engine
+  -- no client that is held names the label, and nothing changed
+  abbrev pub IsForeign : Core P C T → Core P C T → Label → Refusal → Type 0
+  IsForeign old new label refusal =
+      (refusal ≡ ForeignLosses) × IsHeld false label old.engine × (new.engine ≡ old.engine)
+      × (new.drainers ≡ old.drainers)
+
+  -- the label is the next one that the core gives
+  abbrev pub IsNextLabel : Core P C T → Label → Type 0
+  IsNextLabel core label = (label.tag ≡ core.tag) × (label.number ≡ core.next_label)
+
+  -- the core has no label left
+  abbrev pub HasNoLabel : Core P C T → Refusal → Type 0
+  HasNoLabel core refusal = (refusal ≡ Full) × (core.next_label ≡ 2 ^ 64 - 1)
+
+  -- no client was added: the label has another tag, or a client that is held names it; or no number is left; or the
+  -- engine refused it
+  abbrev pub AddsNot : Core P C T → Label → Refusal → (World P C → Outcome P C ClientKey) → Type 0
+  AddsNot core label refusal outcome =
+      ((refusal ≡ ForeignLosses) × ((label.tag ≡ core.tag → ⊥) ⊎ IsHeld true label core.engine))
+      ⊎ ((refusal ≡ Full) × HasNoNumber core.engine) ⊎ Refuses core refusal outcome
 
 -- a core that the lock held gave a reply, after all labels were drained, or none
 module _ {P C : Type 0} (T : Type 0) where
@@ -108,10 +128,22 @@ module _ (P C T : Type 0) where
   LockRefusesWithoutMemory refusal outcome = (core : Core P C T) × RefusesWithoutMemory core refusal outcome
 
   abbrev pub LockDrainsLabel : Label → Option Losses → Type 0
-  LockDrainsLabel label drained = (core : Core P C T) × DrainsLabel core label drained
+  LockDrainsLabel label drained = (old : Core P C T) × (new : Core P C T) × DrainsLabel old new label drained
 
   abbrev pub LockEndsLabel : Label → Bool → Type 0
-  LockEndsLabel label ended = (core : Core P C T) × EndsLabel core label ended
+  LockEndsLabel label ended = (old : Core P C T) × (new : Core P C T) × EndsLabel old new label ended
 
   abbrev pub LockIsForeign : Label → Refusal → Type 0
-  LockIsForeign label refusal = (core : Core P C T) × IsForeign core label refusal
+  LockIsForeign label refusal = (old : Core P C T) × (new : Core P C T) × IsForeign old new label refusal
+
+  abbrev pub LockAddsNot : Label → Refusal → (World P C → Outcome P C ClientKey) → Type 0
+  LockAddsNot label refusal outcome = (core : Core P C T) × AddsNot core label refusal outcome
+
+  abbrev pub LockGivesLabel : Label → Type 0
+  LockGivesLabel label = (core : Core P C T) × IsNextLabel core label
+
+  abbrev pub LockHasNoLabel : Refusal → Type 0
+  LockHasNoLabel refusal = (core : Core P C T) × HasNoLabel core refusal
+
+  abbrev pub LockHolds : Held → Type 0
+  LockHolds held = (core : Core P C T) × IsCountOf core.engine held

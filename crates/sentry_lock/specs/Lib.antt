@@ -4,3 +4,4 @@ pub mod Setups
 pub mod Routes
 pub mod Locked
 pub mod Answers
+pub mod CallLists

@@ -1,5 +1,5 @@
 -- What holds whenever the lock is free.
-use Rattle.std.specs.Prelude.{◌≡◌, ◌<◌, ◌≤◌, ◌⊎◌, ℕ, Bool, true, false, List, [], ◌∷◌, Option, Some, None, Ok, Result, length, max}
+use Rattle.std.specs.Prelude.{◌≡◌, ◌<◌, ◌≤◌, ◌⊎◌, ◌-◌, ◌^◌, ℕ, Bool, true, false, List, [], ◌∷◌, Option, Some, None, Ok, Result, length, max}
 use Rattle.sentry_plain.specs.Tables.{value_at, entries_after, without}
 use Rattle.sentry_base.specs.declared.protocol.envelope.Envelope.{Envelope}
 use Rattle.sentry_base.specs.declared.protocol.keys.ClientKey.{ClientKey}
@@ -7,6 +7,8 @@ use Rattle.sentry_base.specs.declared.protocol.keys.Label.{Label}
 use Rattle.sentry_base.specs.declared.protocol.refusal.Refusal.{Refusal}
 use Rattle.sentry_client_reports.specs.LossBooks.{Book, IsBalanced}
 use Rattle.sentry_client_reports.specs.LossCounts.{CountedPart}
+use Rattle.sentry_engine.specs.declared.engine.facts.Held.{Held}
+use Rattle.sentry_hub_table.specs.Names.{all_layers}
 use Rattle.sentry_options.specs.declared.clientoptions.plain.PlainOptions.{PlainOptions}
 use Rattle.sentry_sessions.specs.declared.session.aggregates.TheConstants.{MAX_INDIVIDUAL}
 use Rattle.sentry_span_table.specs.declared.table.records.TransactionRecord.{TransactionRecord}
@@ -49,6 +51,17 @@ pub record IsSound {P C : Type 0} (engine : State P C) (drainers : Drainers) : T
   pub tied : AreTied engine.books drainers
 
 module _ {P C : Type 0} where
+  -- these are the numbers of what the engine holds
+  abbrev pub IsCountOf : State P C → Held → Type 0
+  IsCountOf engine held =
+      (held.clients ≡ length engine.clients) × (held.hubs ≡ length engine.hubs)
+      × (held.layers ≡ all_layers engine.hubs) × (held.transactions ≡ length engine.spans.transactions)
+      × (held.spans ≡ length engine.spans.spans) × (held.sessions ≡ length engine.sessions)
+
+  -- no number is left for a client
+  abbrev pub HasNoNumber : State P C → Type 0
+  HasNoNumber engine = (world : World P C) → Stands engine world → world.next.client ≡ 2 ^ 64 - 1
+
   -- whether a client that is held names the label
   abbrev pub IsHeld : Bool → Label → State P C → Type 0
   IsHeld held label engine = (world : World P C) → Stands engine world → has_book world label ≡ held

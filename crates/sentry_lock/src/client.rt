@@ -4,7 +4,7 @@ ghost use Rattle.std.specs.Prelude.{◌≡◌, ◌⊎◌, IfErr, IfOk, Ok, nat_l
 ghost use Rattle.sentry_base.specs.Losses.{no_losses};
 ghost use Rattle.sentry_calls.specs.Clients as clients;
 ghost use Rattle.sentry_calls.specs.Telemetry as telemetry;
-ghost use Rattle.sentry_lock.specs.Answers.{LockAnswers, LockAnswersWithoutMemory, LockDrainsAndAnswers, LockRefuses, LockRefusesWithoutMemory};
+ghost use Rattle.sentry_lock.specs.Answers.{LockAddsNot, LockAnswers, LockAnswersWithoutMemory, LockDrainsAndAnswers, LockRefuses, LockRefusesWithoutMemory};
 
 mod setup;
 
@@ -45,15 +45,21 @@ fn add_client<L: CoreLock>(
 ) -> Result<ClientKey, Refusal>
     requires label { drainer.part.label ≡ label }
     requires none { drainer.taken ≡ no_losses }
-    ensures { IfOk result (λ key. LockAnswers L.Processor L.Callbacks L.Transport key
+    ensures done { IfOk result (λ key. LockAnswers L.Processor L.Callbacks L.Transport key
+        (clients.add_client L.Callbacks.meanings options (is_some transport) label now)) }
+    ensures refused { IfErr result (λ refusal. (refusal ≡ Refusal.OutOfMemory)
+        ⊎ LockAddsNot L.Processor L.Callbacks L.Transport label refusal
         (clients.add_client L.Callbacks.meanings options (is_some transport) label now)) }
 {
     let mut guard = core.lock();
-    let out = guard
+    let added = guard
         .under
         .core
-        .add_client(options, transport, label, drainer, now)?;
-    Ok(out.reply)
+        .add_client(options, transport, label, drainer, now);
+    match added {
+        Ok(out) => Ok(out.reply),
+        Err(refusal) => Err(refusal),
+    }
 }
 
 /// A client, by its key and a share of the core that holds it. A clone of the value is the same client; `clone_client`
@@ -110,7 +116,10 @@ impl<L: CoreLock> Client<L> {
         transport: Option<L::Transport>,
         now: u64,
     ) -> Result<Client<L>, Refusal>
-        ensures { IfOk result (λ client. LockAnswers L.Processor L.Callbacks L.Transport client
+        ensures done { IfOk result (λ client. LockAnswers L.Processor L.Callbacks L.Transport client
+            (clients.add_client L.Callbacks.meanings setup.options (is_some transport) setup.label now)) }
+        ensures refused { IfErr result (λ refusal. (refusal ≡ Refusal.OutOfMemory)
+            ⊎ LockAddsNot L.Processor L.Callbacks L.Transport setup.label refusal
             (clients.add_client L.Callbacks.meanings setup.options (is_some transport) setup.label now)) }
     {
         let ClientSetup {
@@ -125,8 +134,10 @@ impl<L: CoreLock> Client<L> {
         let kept = share.clone()?;
         let added = add_client(&core, options, share, label, drainer, now);
         drop(kept);
-        let key = added?;
-        Ok(Client { core, key })
+        match added {
+            Ok(key) => Ok(Client { core, key }),
+            Err(refusal) => Err(refusal),
+        }
     }
 
     /// The same as `with_options`.
@@ -135,7 +146,10 @@ impl<L: CoreLock> Client<L> {
         transport: Option<L::Transport>,
         now: u64,
     ) -> Result<Client<L>, Refusal>
-        ensures { IfOk result (λ client. LockAnswers L.Processor L.Callbacks L.Transport client
+        ensures done { IfOk result (λ client. LockAnswers L.Processor L.Callbacks L.Transport client
+            (clients.add_client L.Callbacks.meanings setup.options (is_some transport) setup.label now)) }
+        ensures refused { IfErr result (λ refusal. (refusal ≡ Refusal.OutOfMemory)
+            ⊎ LockAddsNot L.Processor L.Callbacks L.Transport setup.label refusal
             (clients.add_client L.Callbacks.meanings setup.options (is_some transport) setup.label now)) }
     {
         Client::with_options(setup, transport, now)

@@ -1,4 +1,11 @@
 //! The lock of a core, as one trait with the types of the core, and the lock with what waits for it.
+ghost use Rattle.std.specs.Prelude.{◌≡◌, IfErr, IfOk, Err};
+ghost use Rattle.std.specs.Sync.Mutex.{mutex_guard_value};
+ghost use Rattle.sentry_calls.specs.Losses as losses;
+ghost use Rattle.sentry_state.specs.Outcomes.{Does};
+ghost use Rattle.sentry_lock.specs.Answers.{DrainsLabel, EndsLabel, IsForeign};
+ghost use Rattle.sentry_lock.specs.Locked.{Replies};
+
 use crate::locked::Core;
 use crate::under_lock::UnderLock;
 use sentry_base::callbacks::EventCallback;
@@ -66,21 +73,37 @@ impl<P: EventCallback + Drop, C: Callbacks, T: Drop> CoreGuard<'_, UnderLock<P, 
     /// As `SharedCore::drain_and_absorb`, in this hold of the lock.
     ///
     /// `ForeignLosses`: no client that is held names the label.
-    pub fn drain_and_absorb(&mut self, label: Label) -> Result<Option<Losses>, Refusal> {
+    pub fn drain_and_absorb(&mut self, label: Label) -> Result<Option<Losses>, Refusal>
+        ensures done { IfOk result (λ drained. DrainsLabel (mutex_guard_value self.old.under)
+            (mutex_guard_value self.new.under) label drained) }
+        ensures refused { IfErr result (λ refusal. IsForeign (mutex_guard_value self.old.under)
+            (mutex_guard_value self.new.under) label refusal) }
+    {
         self.under.core.drain_and_absorb(label)
     }
 
     /// As `SharedCore::take_report`, in this hold of the lock.
     ///
     /// `ForeignLosses`: no client that is held names the label. `OutOfMemory`.
-    pub fn take_report(&mut self, label: Label) -> Result<Option<ClientReport>, Refusal> {
+    pub fn take_report(&mut self, label: Label) -> Result<Option<ClientReport>, Refusal>
+        ensures done { IfOk result (λ report. Replies (mutex_guard_value self.old.under).engine
+            (mutex_guard_value self.new.under).engine report (losses.take_report label)) }
+        ensures refused { IfErr result (λ refusal. Does (mutex_guard_value self.old.under).engine
+            (mutex_guard_value self.new.under).engine (Err refusal) (losses.take_report label)) }
+        ensures drainers { (mutex_guard_value self.new.under).drainers ≡ (mutex_guard_value self.old.under).drainers }
+    {
         self.under.core.take_report(label)
     }
 
     /// As `SharedCore::close_losses`, in this hold of the lock.
     ///
     /// `ForeignLosses`: no client that is held names the label.
-    pub fn close_losses(&mut self, label: Label) -> Result<bool, Refusal> {
+    pub fn close_losses(&mut self, label: Label) -> Result<bool, Refusal>
+        ensures done { IfOk result (λ ended. EndsLabel (mutex_guard_value self.old.under)
+            (mutex_guard_value self.new.under) label ended) }
+        ensures refused { IfErr result (λ refusal. IsForeign (mutex_guard_value self.old.under)
+            (mutex_guard_value self.new.under) label refusal) }
+    {
         self.under.core.close_losses(label)
     }
 }

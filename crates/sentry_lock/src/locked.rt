@@ -1,6 +1,6 @@
 //! What lies under the lock: an engine, the drainers of its losses, and the transports of its clients.
 ghost use Rattle.std.specs.Prelude.{◌≡◌};
-ghost use Rattle.sentry_lock.specs.Locked.{IsSound};
+ghost use Rattle.sentry_lock.specs.Locked.{IsCountOf, IsSound};
 ghost use Rattle.sentry_lock.specs.Words.{AreLabelled};
 
 mod calls;
@@ -60,7 +60,9 @@ impl<P: EventCallback + Drop, C: Callbacks, T: Drop> Core<P, C, T> {
     }
 
     /// How many clients, hubs, layers, transactions, spans and sessions it holds.
-    pub(crate) fn held(&self) -> Held {
+    pub(crate) fn held(&self) -> Held
+        ensures { IsCountOf self.now.engine result }
+    {
         self.engine.held()
     }
 

@@ -1,12 +1,13 @@
 //! The lock, and the calls that take it.
-ghost use Rattle.std.specs.Prelude.{◌≡◌, ◌+◌, ◌≤◌, IfErr, IfOk, true, length, vec_len};
+ghost use Rattle.std.specs.Prelude.{◌≡◌, ◌⊎◌, ◌+◌, ◌≤◌, IfErr, IfOk, OnOk, true, length, vec_len};
 ghost use Rattle.std.specs.List.{list_all};
 ghost use Rattle.std.specs.Vec.{vec_capacity};
 ghost use Rattle.sentry_calls.specs.Hubs as hubs;
 ghost use Rattle.sentry_calls.specs.Layers as layers;
 ghost use Rattle.sentry_calls.specs.Losses as losses;
 ghost use Rattle.sentry_calls.specs.Steps.{needs, step};
-ghost use Rattle.sentry_lock.specs.Answers.{LockAnswers, LockDrainsAndAnswers, LockDrainsLabel, LockEndsLabel, LockIsForeign, LockMakes, LockMakesNot, LockRefuses};
+ghost use Rattle.sentry_lock.specs.Answers.{LockAnswers, LockDrainsAndAnswers, LockDrainsLabel, LockEndsLabel, LockGivesLabel, LockHasNoLabel, LockHolds, LockIsForeign, LockMakes, LockMakesNot, LockRefuses};
+ghost use Rattle.sentry_lock.specs.CallLists.{LockMakesEach, LockRefusesOne};
 ghost use Rattle.sentry_lock.specs.Setups.{IsRecorderOf};
 ghost use Rattle.sentry_lock.specs.ValueCalls.{can_hand_out, is_ordinary_call};
 
@@ -81,7 +82,9 @@ impl<L: CoreLock> Debug for SharedCore<L> {
 
 impl<L: CoreLock> SharedCore<L> {
     /// The allocator of the core.
-    pub fn allocator(&self) -> Global {
+    pub fn allocator(&self) -> Global
+        ensures { result ≡ self.now.alloc }
+    {
         self.alloc
     }
 
@@ -91,7 +94,9 @@ impl<L: CoreLock> SharedCore<L> {
     }
 
     /// How many clients, hubs, layers, transactions, spans and sessions it holds: what a program has not given back.
-    pub fn held(&self) -> Held {
+    pub fn held(&self) -> Held
+        ensures { LockHolds L.Processor L.Callbacks L.Transport result }
+    {
         let mut guard = self.lock();
         let core = &mut guard.under.core;
         core.held()
@@ -105,11 +110,17 @@ impl<L: CoreLock> SharedCore<L> {
         options: ClientOptions<L::Callbacks>,
     ) -> Result<ClientSetup<L, L::Callbacks>, Refusal>
         ensures options { IfOk result (λ setup. setup.options ≡ options) }
+        ensures label { IfOk result (λ setup. LockGivesLabel L.Processor L.Callbacks L.Transport setup.label) }
         ensures recorder { IfOk result (λ setup. IsRecorderOf setup.recorder setup.drainer) }
+        ensures refused { IfErr result (λ refusal. (refusal ≡ Refusal.OutOfMemory)
+            ⊎ LockHasNoLabel L.Processor L.Callbacks L.Transport refusal) }
     {
         let share = self.clone()?;
-        let label = self.lock().under.core.take_label()?;
-        ClientSetup::new(share, self.alloc, options, label)
+        let taken = self.lock().under.core.take_label();
+        match taken {
+            Ok(label) => ClientSetup::new(share, self.alloc, options, label),
+            Err(refusal) => Err(refusal),
+        }
     }
 
     /// The client of a key, which need not be held.
@@ -168,13 +179,11 @@ impl<L: CoreLock> SharedCore<L> {
     ) -> Result<(), Refusal>
         requires ordinary { list_all is_ordinary_call calls.items ≡ true }
         requires room { vec_len all.old + length calls.items ≤ vec_capacity all.old }
+        ensures done { OnOk result (LockMakesEach L.Transport L.Processor.gives L.Callbacks.meanings calls.items) }
+        ensures refused { IfErr result (λ refusal. LockRefusesOne L.Transport
+            L.Processor.gives L.Callbacks.meanings calls.items refusal) }
     {
-        let mut guard = self.lock();
-        let core = &mut guard.under.core;
-        for call in calls {
-            all.push_reserved(core.drain_and_apply(call)?);
-        }
-        Ok(())
+        self.lock().under.core.apply_all(calls, all)
     }
 
     /// Makes the calls in order, in one hold of the lock, up to the first that is refused, and answers that refusal. The
@@ -183,6 +192,9 @@ impl<L: CoreLock> SharedCore<L> {
     /// The refusals of the engine's calls; `OutOfMemory`.
     pub fn call_all(&self, calls: Vec<Call<L::Processor, L::Callbacks>>) -> Result<(), Refusal>
         requires { list_all is_ordinary_call calls.items ≡ true }
+        ensures done { OnOk result (LockMakesEach L.Transport L.Processor.gives L.Callbacks.meanings calls.items) }
+        ensures refused { IfErr result (λ refusal. (refusal ≡ Refusal.OutOfMemory)
+            ⊎ LockRefusesOne L.Transport L.Processor.gives L.Callbacks.meanings calls.items refusal) }
     {
         let mut all = Vec::with_capacity(self.alloc, calls.len())?;
         let answer = self.all_called(calls, &mut all);

@@ -1,10 +1,13 @@
 //! Calls as values, under the lock.
 
-ghost use Rattle.std.specs.Prelude.{◌≡◌, ◌⊎◌, Ok, Err, [], true, false, IfOk, IfErr};
+ghost use Rattle.std.specs.Prelude.{◌≡◌, ◌⊎◌, ◌+◌, ◌≤◌, Ok, Err, [], true, false, IfOk, IfErr, OnOk, length, vec_len};
+ghost use Rattle.std.specs.List.{list_all};
+ghost use Rattle.std.specs.Vec.{vec_capacity};
 ghost use Rattle.sentry_calls.specs.Steps.{step, needs};
 ghost use Rattle.sentry_state.specs.Outcomes.{DoesWith};
 ghost use Rattle.sentry_state.specs.declared.state.State.{State};
 ghost use Rattle.sentry_lock.specs.Answers.{MakesNot};
+ghost use Rattle.sentry_lock.specs.CallLists.{MakesEach, RefusesOne};
 ghost use Rattle.sentry_lock.specs.Locked.{DrainsFor, ForgetsDropped};
 ghost use Rattle.sentry_lock.specs.ValueCalls.{is_ordinary_call, can_hand_out, client_call_can_hand_out, hub_call_can_hand_out};
 ghost use Rattle.sentry_lock.specs.Words.{Drainers};
@@ -141,5 +144,23 @@ impl<P: EventCallback + Drop, C: Callbacks, T: Drop> Core<P, C, T> {
             Ok(handed) => Ok(handed),
             Err(refusal) => Err(refusal),
         }
+    }
+    /// The same with each call of a list, in order, up to the first that is refused, and answers that refusal. What they
+    /// hand out goes to the end of the other list.
+    pub(crate) fn apply_all(
+        &mut self,
+        calls: Vec<Call<P, C>>,
+        all: &mut Vec<Handed<Reply<P, C>, T>>,
+    ) -> Result<(), Refusal>
+        requires ordinary { list_all is_ordinary_call calls.items ≡ true }
+        requires room { vec_len all.old + length calls.items ≤ vec_capacity all.old }
+        ensures done { OnOk result (MakesEach T P.gives C.meanings self.old self.new calls.items) }
+        ensures refused { IfErr result (λ refusal. RefusesOne T P.gives C.meanings self.old calls.items refusal) }
+        ensures labels { self.new.next_label ≡ self.old.next_label }
+    {
+        for call in calls {
+            all.push_reserved(self.drain_and_apply(call)?);
+        }
+        Ok(())
     }
 }

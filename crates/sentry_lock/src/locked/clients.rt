@@ -9,6 +9,7 @@ ghost use Rattle.sentry_state.specs.Books.{has_book};
 ghost use Rattle.sentry_state.specs.Outcomes.{Does};
 ghost use Rattle.sentry_state.specs.Worlds.{World, Stands};
 ghost use Rattle.sentry_state.specs.declared.state.State.{State};
+ghost use Rattle.sentry_lock.specs.Answers.{AddsNot};
 ghost use Rattle.sentry_lock.specs.Locked.{DrainsAll, ForgetsDropped, Replies};
 ghost use Rattle.sentry_lock.specs.Routes.{AddsTransport, ForgetsTransport, transports_with};
 ghost use Rattle.sentry_lock.specs.ValueCalls.{dropped_label};
@@ -91,6 +92,9 @@ fn add_with<P: EventCallback + Drop, C: Callbacks, T: Drop>(
     ensures done { IfOk result (λ out. Does engine.old engine.new (Ok out)
         (clients.add_client C.meanings options (is_some transport) label now)) }
     ensures refused { IfErr result (λ _. engine.new ≡ engine.old) }
+    ensures refusal { IfErr result (λ refusal. (refusal ≡ Refusal.OutOfMemory)
+        ⊎ Does engine.old engine.old (Err refusal)
+        (clients.add_client C.meanings options (is_some transport) label now)) }
     ensures added { OnOk result (AddsTransport engine.old transport transports.old transports.new) }
     ensures forgotten { OnErr result (ForgetsTransport transport transports.old transports.new) }
 {
@@ -248,6 +252,9 @@ impl<P: EventCallback + Drop, C: Callbacks, T: Drop> Core<P, C, T> {
         ensures taken { OnOk result (self.new.drainers ≡ replace_at self.old.drainers label.number (Some drainer)) }
         ensures refused { IfErr result (λ _. (self.new.engine ≡ self.old.engine)
             × (self.new.drainers ≡ self.old.drainers)) }
+        ensures refusal { IfErr result (λ refusal. (refusal ≡ Refusal.OutOfMemory)
+            ⊎ Does self.old.engine self.old.engine (Err refusal)
+            (clients.add_client C.meanings options (is_some transport) label now)) }
         ensures added { OnOk result (AddsTransport self.old.engine transport
             self.old.routes.transports self.new.routes.transports) }
         ensures forgotten { OnErr result (ForgetsTransport transport
@@ -290,6 +297,9 @@ impl<P: EventCallback + Drop, C: Callbacks, T: Drop> Core<P, C, T> {
         ensures refused { IfErr result (λ _. (self.new.engine ≡ self.old.engine)
             × ((self.new.drainers ≡ self.old.drainers)
             ⊎ (self.new.drainers ≡ without (put self.old.drainers label.number None) label.number))) }
+        ensures refusal { IfErr result (λ refusal. (refusal ≡ Refusal.OutOfMemory)
+            ⊎ AddsNot self.old label refusal
+            (clients.add_client C.meanings options (is_some transport) label now)) }
         ensures added { OnOk result (AddsTransport self.old.engine transport
             self.old.routes.transports self.new.routes.transports) }
         ensures forgotten { OnErr result (ForgetsTransport transport

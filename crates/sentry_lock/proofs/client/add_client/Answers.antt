@@ -1,7 +1,11 @@
-use Rattle.sentry_lock.proofs.LockAnswers.{lock_did}
+use Rattle.sentry_lock.proofs.LockAnswers.{adds_not, lock_did}
 use Rattle.sentry_state.specs.Outcomes.{memory}
 use Rattle.sentry_lock.proofs.client.add_client.Goals as goal
 
-pub returns : goal.returns
-returns g c =
-    lock_did c.behind-guard.inside.core memory c.add_client.new.self.engine _ c.in_ok-out.out c.in_ok-out.ensures.done
+pub returns-in-Ok-clause-done : goal.returns-in-Ok-clause-done
+returns-in-Ok-clause-done g c =
+    lock_did c.behind-guard.inside.core memory c.add_client-added.new.self.engine _ c.in-Ok.out c.in-Ok.ensures.done
+
+pub returns-clause-refused : goal.returns-clause-refused
+returns-clause-refused g c =
+    adds_not c.behind-guard.inside.core c.args.label c.in-Err.refusal _ c.in-Err.ensures.refusal

@@ -1,0 +1,20 @@
+use Rattle.std.proofs.Common.{◌≡◌, ◌∷◌, rules, arith}
+use Rattle.std.specs.Vec.Iter.{into_iter_items}
+use Rattle.sentry_lock.proofs.CallLists.{leads_on}
+use Rattle.sentry_lock.proofs.locked.Core.apply_all.Goals as goal
+
+pub loop-call-preserved : goal.loop-call-preserved
+loop-call-preserved g c =
+    let loop = c.loop-call in
+    let left = into_iter_items c.next.new.self in
+    let e : into_iter_items loop.call-iterator ≡ c.in-Some.call ∷ left = search rules in
+    let did = c.in_ok-drain_and_apply.ensures.done in
+    record {
+      ordinary = search rules;
+      room = grind (arith, c.push_reserved.ensures.len, c.push_reserved.ensures.capacity, loop.invariant.room, e);
+      labels = search rules;
+      leads =
+          leads_on _ g.P.EventCallback.gives g.C.Callbacks.meanings c.args.calls.items c.args.self.now loop.self
+          c.drain_and_apply.new.self c.in-Some.call _ left e loop.invariant.leads
+          (c.in_ok-drain_and_apply.field-0.out, did.0, did.1, did.2, did.3, did.4);
+    }
