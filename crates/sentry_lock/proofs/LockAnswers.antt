@@ -1,18 +1,18 @@
 -- What was answered by what the lock held.
 use Rattle.std.proofs.Common.{◌≡◌, ◌∙◌, ap, refl, subst, sym, inl, inr}
-use Rattle.std.specs.Prelude.{◌⊎◌, Bool, true, false, Option, Result, Ok, Err, IfOk, IfErr, MatchOption}
+use Rattle.std.specs.Prelude.{◌⊎◌, Bool, true, false, Option, Result, Ok, Err, IfOk, IfErr}
 use Rattle.sentry_base.specs.declared.protocol.keys.ClientKey.{ClientKey}
 use Rattle.sentry_base.specs.declared.protocol.keys.Label.{Label}
 use Rattle.sentry_base.specs.declared.protocol.losses.Losses.{Losses}
 use Rattle.sentry_base.specs.declared.protocol.refusal.Refusal.{Refusal}
-use Rattle.sentry_base.specs.declared.protocol.refusal.Refusal.TheVariants.{ForeignLosses, OutOfMemory}
+use Rattle.sentry_base.specs.declared.protocol.refusal.Refusal.TheVariants.{OutOfMemory}
 use Rattle.sentry_state.specs.declared.state.Out.{Out}
 use Rattle.sentry_state.specs.declared.state.State.{State}
 use Rattle.sentry_state.specs.Outcomes.{Outcome, DoesWith, Need}
 use Rattle.sentry_state.specs.Worlds.{World}
-use Rattle.sentry_lock.specs.Answers.{RepliesWith, AnswersWith, RefusesWith, DrainsAndAnswers, DrainsLabel, EndsLabel, IsForeign, AddsNot, LockAddsNot, LockAnswers, LockDrainsAndAnswers, LockDrainsLabel, LockEndsLabel, LockGivesLabel, LockIsForeign, LockMakes, LockRefuses, MakesNot}
+use Rattle.sentry_lock.specs.Answers.{RepliesWith, AnswersWith, RefusesWith, AddsNot, DrainsAndAnswers, DrainsLabel, EndsLabel, IsForeign, LockAddsNot, LockAnswers, LockDrainsAndAnswers, LockDrainsLabel, LockEndsLabel, LockGivesLabel, LockIsForeign, LockMakes, LockRefuses, MakesNot}
 use Rattle.sentry_lock.specs.declared.locked.Core.{Core}
-use Rattle.sentry_lock.specs.Locked.{DrainsAndAbsorbs, DrainsAndDoes, DrainsFor, EndsAndAbsorbs, FindsNoWords, IsHeld}
+use Rattle.sentry_lock.specs.Locked.{DrainsAndDoes, DrainsFor, EndsAndAbsorbs, FindsNoWords, IsHeld}
 use Rattle.sentry_lock.specs.Words.{Drainers, HasOpenWords}
 
 module _ {P C T A : Type 0} (held : Core P C T) where
@@ -204,7 +204,3 @@ gives_label of label core tag number (Err e) is = is
 -- what holds from one core to another holds from the core that is the first
 pub from_core : {P C T : Type 0} (Q : Core P C T → Type 0) (held core : Core P C T) → held ≡ core → Q held → Q core
 from_core {P} {C} {T} Q held core is holds = subst Q is holds
-
--- what holds of the value of an answer
-pub of_ok : {X E : Type 0} (Q : X → Type 0) (r : Result X E) (x : X) → r ≡ Ok x → IfOk r Q → Q x
-of_ok {X} {E} Q r x is holds = subst (λ (a : Result X E). IfOk a Q) is holds
