@@ -147,6 +147,7 @@ impl<P: EventCallback + Drop, C: Callbacks, T: Drop> Core<P, C, T> {
     }
     /// The same with each call of a list, in order, up to the first that is refused, and answers that refusal. What they
     /// hand out goes to the end of the other list.
+    #[tactic(auto, using(crate::proofs::CallLists::leads_refused))]
     pub(crate) fn apply_all(
         &mut self,
         calls: Vec<Call<P, C>>,
