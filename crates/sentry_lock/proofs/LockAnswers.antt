@@ -193,6 +193,13 @@ pub adds_not : {P C T : Type 0} (held : Core P C T) (label : Label) (refusal : R
 adds_not held label refusal outcome (inl out) = inl out
 adds_not held label refusal outcome (inr not) = inr (held, not)
 
+-- the same of a client with what is the same
+pub adds_neither : {P C T X : Type 0} (label : Label) (refusal : Refusal) (outcome : X → World P C → Outcome P C ClientKey)
+    (one other : X) → one ≡ other → (refusal ≡ OutOfMemory) ⊎ LockAddsNot P C T label refusal (outcome one)
+    → (refusal ≡ OutOfMemory) ⊎ LockAddsNot P C T label refusal (outcome other)
+adds_neither {P} {C} {T} {X} label refusal outcome one other same not =
+    subst (λ (x : X). (refusal ≡ OutOfMemory) ⊎ LockAddsNot P C T label refusal (outcome x)) same not
+
 -- by what gives a label
 pub gives_label : {P C T X E : Type 0} (of : X → Label) (label : Label) (core : Core P C T) → label.tag ≡ core.tag
     → label.number ≡ core.next_label → (r : Result X E) → IfOk r (λ x. of x ≡ label)

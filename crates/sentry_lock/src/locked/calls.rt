@@ -145,9 +145,9 @@ impl<P: EventCallback + Drop, C: Callbacks, T: Drop> Core<P, C, T> {
             Err(refusal) => Err(refusal),
         }
     }
+
     /// The same with each call of a list, in order, up to the first that is refused, and answers that refusal. What they
     /// hand out goes to the end of the other list.
-    #[tactic(auto, using(crate::proofs::CallLists::leads_refused))]
     pub(crate) fn apply_all(
         &mut self,
         calls: Vec<Call<P, C>>,
@@ -160,7 +160,10 @@ impl<P: EventCallback + Drop, C: Callbacks, T: Drop> Core<P, C, T> {
         ensures labels { self.new.next_label ≡ self.old.next_label }
     {
         for call in calls {
-            all.push_reserved(self.drain_and_apply(call)?);
+            match self.drain_and_apply(call) {
+                Ok(handed) => all.push_reserved(handed),
+                Err(refusal) => return Err(refusal),
+            }
         }
         Ok(())
     }
