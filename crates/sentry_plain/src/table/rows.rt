@@ -141,6 +141,7 @@ pub(crate) fn find<T>(rows: &[Row<T>], number: u64) -> Result<usize, usize>
 }
 
 /// The same, where the row at a place is looked at first. Any place will do.
+#[inline(always)]
 pub(crate) fn find_near<T>(rows: &[Row<T>], number: u64, near: usize) -> Result<usize, usize>
     requires { IsStrictlySortedBy nat_cmp (numbers rows.now) }
     ensures found { IfOk result (IsRowOf rows.now number) }
@@ -314,6 +315,7 @@ pub(crate) fn trim<T: Drop>(rows: &mut Vec<Row<T>>, full: usize)
 }
 
 // Where rows may begin that are above a number, whose own row may be at a place.
+#[inline(always)]
 fn start<T>(rows: &[Row<T>], after: Option<u64>, near: usize) -> usize
     requires { IsStrictlySortedBy nat_cmp (numbers rows.now) }
     ensures { entries_after after (live_rows (take result rows.now)) ≡ [] }
@@ -327,6 +329,7 @@ fn start<T>(rows: &[Row<T>], after: Option<u64>, near: usize) -> usize
     }
 }
 
+#[inline(always)]
 fn is_above(number: u64, after: Option<u64>) -> bool
     ensures { result ≡ is_after after number }
 {
@@ -337,6 +340,7 @@ fn is_above(number: u64, after: Option<u64>) -> bool
 }
 
 // Whether a row has a value, and stands above a number.
+#[inline(always)]
 fn is_next<T>(row: &Row<T>, after: Option<u64>) -> bool
     ensures { result ≡ (is_some (value_of row.now) && is_after after (number_of row.now)) }
 {
@@ -345,6 +349,7 @@ fn is_next<T>(row: &Row<T>, after: Option<u64>) -> bool
 
 /// The number of the first row above another that has a value, or of the first of all, and where that row stands. The row
 /// of the other is looked for at a place first.
+#[inline(always)]
 pub(crate) fn next_row<T>(rows: &[Row<T>], after: Option<u64>, near: usize) -> Option<(u64, usize)>
     requires { IsStrictlySortedBy nat_cmp (numbers rows.now) }
     ensures { MatchOption result (entries_after after (live_rows rows.now) ≡ []) (λ next.
