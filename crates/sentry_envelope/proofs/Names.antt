@@ -4,6 +4,7 @@ use Rattle.std.specs.Prelude.{All, IfSome, ⊤}
 use Rattle.std.specs.List.{filter}
 use Rattle.std.specs.Map.{keys_of}
 use Rattle.std.specs.Str.{bytes_eq}
+use Rattle.std.proofs.lemmas.Bool.{or_left, or_right}
 use Rattle.std.proofs.lemmas.List.Elements.{All-cons, All-nil, All-head, All-tail}
 use Rattle.std.proofs.lemmas.List.Kept.{AllPairs-cons, AllPairs-filter}
 use Rattle.std.proofs.lemmas.Slice.Eq.{bytes_eq-Decides}
@@ -28,14 +29,6 @@ among k (n ∷ ns) = bytes_eq k n || among k ns
 -- whatever tells two names apart
 differ : (p : Bytes → Bool) (k y : Bytes) → p k ≡ false → p y ≡ true → k ≢ y
 differ p k y a b e = true≢false (sym b ∙ ap p (sym e) ∙ a)
-
-or_right : (a b : Bool) → b ≡ true → (a || b) ≡ true
-or_right true b h = refl
-or_right false b h = h
-
-or_left : (a b : Bool) → a ≡ true → (a || b) ≡ true
-or_left true b h = refl
-or_left false b h = absurd (true≢false (sym h))
 
 -- each member has a name that is among these, or that isn't the record's own
 abbrev pub Known : (Bytes → Bool) → List Bytes → Members → Type 0

@@ -1,5 +1,6 @@
 -- A client is closed exactly if an accepted call closed it, and then nothing of its waits.
 use Rattle.std.proofs.Common.{◌≡◌, ◌<◌, refl, ap, ◌∙◌, sym, subst, ℕ, List, [], ◌∷◌, Bool, true, false, ◌⊎◌, inl, inr}
+use Rattle.std.proofs.lemmas.Bool.{or_right}
 use Rattle.std.specs.Prelude.{Option, Some, None, Result, Ok, Err, if◌then◌else◌, ◌==◌, ◌||◌}
 use Rattle.std.specs.List.{list_any}
 use Rattle.std.specs.Option.{option_map}
@@ -38,7 +39,7 @@ use Rattle.sentry_laws.proofs.Keeping.{trail_of}
 use Rattle.sentry_laws.proofs.Numbered.{IsNumbered, numbered_changes, none_numbered}
 use Rattle.sentry_laws.proofs.OneClient.{Follows, follows_call, is_mine}
 use Rattle.sentry_laws.proofs.Parts.{flush_part}
-use Rattle.sentry_laws.proofs.Tests.{or_none, or_more, or_true}
+use Rattle.sentry_laws.proofs.Tests.{or_none, or_more}
 use Rattle.sentry_laws.proofs.Trails.{neither, found_under}
 
 module _ {C : Type 0} where
@@ -154,13 +155,13 @@ module _ {P C : Type 0} where
           let known = k.so_far c at in
           let same : c ≡ client = same_client (value_at world.clients n) c client at
           (ap (value_at world.clients) (same_number n key.number e) ∙ here) in
-          (ap (λ (x : ClientHistory C). x.closed) same ∙ (shut ∙ sym (or_true closed true refl)), known.1)
+          (ap (λ (x : ClientHistory C). x.closed) same ∙ (shut ∙ sym (or_right closed true refl)), known.1)
       by_case true shut false e c at =
           let known = k.so_far c at in (known.0 ∙ sym (or_none closed), known.1)
       by_case false shut true e c at =
           let is : after_flush Closing client ≡ c = cc in
           subst (IsShut (closed || true)) is
-          (or_true client.closed true refl ∙ sym (or_true closed true refl), λ shut. (refl, refl))
+          (or_right client.closed true refl ∙ sym (or_right closed true refl), λ shut. (refl, refl))
       by_case false shut false e c at =
           let known = k.so_far c at in (known.0 ∙ sym (or_none closed), known.1)
 

@@ -1,7 +1,7 @@
 -- A label has a book exactly where a client has the label.
 use Rattle.std.proofs.Common.{◌≡◌, refl, ap, ◌∙◌, sym, subst, ℕ, ◌+◌, List, [], ◌∷◌, Bool, true, false, arith}
 use Rattle.std.proofs.lemmas.Bool.Decides.{nat_tests}
-use Rattle.std.proofs.lemmas.Bool.{and_parts}
+use Rattle.std.proofs.lemmas.Bool.{and_parts, or_right}
 use Rattle.std.proofs.Math.Bool.{and-false}
 use Rattle.std.specs.Prelude.{Option, Some, None, Result, Ok, Err, ◌==◌, ◌&&◌, ◌||◌, if◌then◌else◌}
 use Rattle.std.specs.Option.{is_some}
@@ -30,7 +30,7 @@ use Rattle.sentry_laws.proofs.Found.{same_number, found_put, found_replaced, own
 use Rattle.sentry_laws.proofs.Increasing.{IsIncreasing, increasing_put, increasing_replaced, increasing_without, without_if}
 use Rattle.sentry_laws.proofs.Absorbed.{replace_absent, call_keeps}
 use Rattle.sentry_laws.specs.Losses.{AbsorbedStays}
-use Rattle.sentry_laws.proofs.Tests.{or_true, passes_put, passes_replaced, passes_without, passes_found, or_none}
+use Rattle.sentry_laws.proofs.Tests.{passes_put, passes_replaced, passes_without, passes_found, or_none}
 use Rattle.sentry_laws.proofs.Trails.{found_under}
 use Rattle.sentry_laws.proofs.Keeping.{kept_by_run, kept_by_call}
 
@@ -94,7 +94,7 @@ module _ {C : Type 0} where
   arrival_label (flush_came flush) client = refl
 
 added-by : (a s some any own : Bool) → own ≡ (a && s) → (a && some) ≡ any → (a && (s || some)) ≡ (any || own)
-added-by true true some any own o e = sym (or_true any own o)
+added-by true true some any own o e = sym (or_right any own o)
 added-by true false some any own o e = e ∙ sym (ap (λ b. any || b) o ∙ or_none any)
 added-by false s some any own o e = sym (ap (λ b. b || own) (sym e) ∙ o)
 

@@ -1,7 +1,7 @@
 -- Sessions that are held are named: what the calls keep by which layers give up their sessions.
 use Rattle.std.proofs.Common.{◌≡◌, refl, ap, ◌∙◌, sym, subst, ℕ, ◌+◌, List, [], ◌∷◌, Bool, true, false, length, arith, ◌⊎◌, inl, inr}
 use Rattle.std.proofs.lemmas.Bool.Decides.{nat_tests}
-use Rattle.std.proofs.lemmas.Bool.{and_parts, and_right}
+use Rattle.std.proofs.lemmas.Bool.{and_parts, and_right, or_right}
 use Rattle.std.specs.Prelude.{Option, Some, None, if◌then◌else◌, ◌==◌, ◌&&◌, ◌||◌}
 use Rattle.std.specs.List.{list_any}
 use Rattle.sentry_plain.specs.Tables.{value_at, replace_at, without}
@@ -27,7 +27,7 @@ use Rattle.sentry_calls.specs.Hubs.{with_renames}
 use Rattle.sentry_laws.specs.Reachable.{SessionsAreNamed}
 use Rattle.sentry_laws.proofs.Tables.{AreBelow, below_put, own_replaced}
 use Rattle.sentry_laws.proofs.Found.{same_number, found_put}
-use Rattle.sentry_laws.proofs.Tests.{or_true, passes_found, passes_raised, passes_without}
+use Rattle.sentry_laws.proofs.Tests.{passes_found, passes_raised, passes_without}
 use Rattle.sentry_laws.proofs.Numbered.{IsNumbered}
 use Rattle.sentry_laws.proofs.Naming.{IsNamed, has_session, is_on, hub_replaced_named, without_before}
 use Rattle.sentry_laws.proofs.Parts.{end_part}
@@ -44,7 +44,7 @@ or_second true b e h = absurd cc
 or_second false b e h = h
 
 or_middle : (a b c d : Bool) → (a || d) ≡ true → (d ≡ true → (b || c) ≡ true) → (b || (a || c)) ≡ true
-or_middle true b c d h more = or_true b true refl
+or_middle true b c d h more = or_right b true refl
 or_middle false b c d h more = more h
 
 not_next : (tag next key_tag number : ℕ) → ((tag == key_tag) && (next == number)) ≡ false → (key_tag == tag) ≡ true
@@ -283,7 +283,7 @@ module _ {P C : Type 0} where
           (ap (λ b. b || list_any (has_session key) hub.stack.below) e)
       by_key false e =
           passes_raised (is_on key) released.hubs number (with_session hub (Some name)) (with_session hub None) freed
-          (or_true (is_session key (Some name)) (list_any (has_session key) hub.stack.below))
+          (or_right (is_session key (Some name)) (list_any (has_session key) hub.stack.below))
           (released_named number hub now begun (world.next.session + 1) key found
           (below_put world.next.session (record { start = start; history = [] }) world.sessions n.sessions)
           (before e) session at)

@@ -1,7 +1,7 @@
 -- Whether something in a table passes a test, after a change of the table.
 use Rattle.std.proofs.Common.{◌≡◌, ◌<◌, ◌+◌, refl, ap, ◌∙◌, sym, ℕ, List, [], ◌∷◌, ◌++◌, Bool, true, false, cond, arith}
 use Rattle.std.proofs.lemmas.Bool.Decides.{nat_tests}
-use Rattle.std.proofs.lemmas.Bool.{or_parts}
+use Rattle.std.proofs.lemmas.Bool.{or_parts, or_right}
 use Rattle.std.specs.Prelude.{Some, ◌&&◌, ◌||◌}
 use Rattle.std.specs.List.{list_any}
 use Rattle.std.specs.declared.cmp.Ordering.{Ordering}
@@ -19,13 +19,9 @@ pub or_more : (a b c : Bool) → (a || (b || c)) ≡ ((a || b) || c)
 or_more true b c = refl
 or_more false b c = refl
 
-pub or_true : (a b : Bool) → b ≡ true → (a || b) ≡ true
-or_true true b h = refl
-or_true false b h = h
-
 or_first : (a b c : Bool) → (a ≡ true → b ≡ true) → (a || c) ≡ true → (b || c) ≡ true
 or_first true b c more h = ap (λ d. d || c) (more refl)
-or_first false b c more h = or_true b c h
+or_first false b c more h = or_right b c h
 
 pub or_rest : (a b c : Bool) → (b ≡ true → c ≡ true) → (a || b) ≡ true → (a || c) ≡ true
 or_rest true b c more h = refl
@@ -111,7 +107,7 @@ module _ {X : Type 0} (test : X → Bool) where
       → test y ≡ true
       → (value_at es n ≡ Some y → passes es ≡ true) → passes (e ∷ es) ≡ true
   found-at true e es n y found holds rest = let here : e.1 ≡ y = cc in ap (λ c. c || passes es) (ap test here ∙ holds)
-  found-at false e es n y found holds rest = or_true (test e.1) (passes es) (rest found)
+  found-at false e es n y found holds rest = or_right (test e.1) (passes es) (rest found)
 
   -- a value that is found passes the test
   pub passes_found : (m : List (ℕ × X)) (n : ℕ) (y : X) → value_at m n ≡ Some y → test y ≡ true → passes m ≡ true

@@ -1,5 +1,6 @@
 -- Entries in parts: what is done to the part that a key belongs into is done to the whole.
 use Rattle.std.proofs.Common.{◌≡◌, ℕ, zero, suc, ◌+◌, ◌<◌, ◌≤◌, length, get_or, set, take, drop, insert, Bool, true, false, not, cond, is_eq, Option, Some, List, [], ◌∷◌, ◌++◌, refl, sym, ap, ◌∙◌, append_assoc, Ordering, Less, Equal, Greater, arith}
+use Rattle.std.proofs.lemmas.Bool.{not-false, not-true}
 use Rattle.std.proofs.lemmas.Cmp.{nat_list_cmp_total}
 use Rattle.std.proofs.lemmas.List.{length-append}
 use Rattle.std.proofs.lemmas.Map.Lookups.{exact_bytes}
@@ -27,14 +28,6 @@ is_less : (o : Ordering) → is_lt o ≡ true → o ≡ Less
 is_less Less h = refl
 is_less Equal h = cc
 is_less Greater h = cc
-
-not_true : (b : Bool) → not b ≡ true → b ≡ false
-not_true true h = cc
-not_true false h = refl
-
-not_false : (b : Bool) → not b ≡ false → b ≡ true
-not_false true h = refl
-not_false false h = cc
 
 unless : (b c : Bool) → (b ≡ true → c ≡ true) → not c ≡ true → not b ≡ true
 unless true c h n = let is : c ≡ true = h refl in cc
@@ -241,7 +234,7 @@ module _ {X : Type 0} where
       → ((j : ℕ) (d : List (Bytes × X)) → 0 ≤ j → j < length parts → not (begins_after k (get_or parts j d)) ≡ false) → AllAbove k (joined parts)
   above_rest k [] sorted after = tt
   above_rest k (part ∷ parts) sorted after =
-      above_first k part (joined parts) sorted (not_false (begins_after k part) (after 0 part (omega arith) (omega arith)))
+      above_first k part (joined parts) sorted (not-false (begins_after k part) (after 0 part (omega arith) (omega arith)))
 
   below_first : (k : Bytes) (e : Bytes × X) (first rest : List (Bytes × X)) → IsStrictlySortedBy text_cmp (keys_of (first ++ e ∷ rest)) → is_lt (text_cmp k e.0) ≡ false → AllBelow k first
   unfolding IsStrictlySortedBy
@@ -261,7 +254,7 @@ module _ {X : Type 0} where
   belongs k first others zero sorted filled le before after = above_rest k others (sorted_right first (joined others) sorted) after
   belongs k first [] (suc n) sorted filled le before after = absurd (omega arith)
   belongs k first (part ∷ others) (suc n) sorted filled le before after = (
-    below_part k first part (joined others) filled.0 sorted (not_true (begins_after k part) (before 0 part (omega arith) (omega arith))),
+    below_part k first part (joined others) filled.0 sorted (not-true (begins_after k part) (before 0 part (omega arith) (omega arith))),
     belongs k part others n (sorted_right first (part ++ joined others) sorted) filled.1 (omega arith)
         (λ j d low high. before (suc j) d (omega arith) (omega arith))
         (λ j d low high. after (suc j) d (omega arith) (omega arith)),

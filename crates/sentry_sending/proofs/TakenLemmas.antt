@@ -28,11 +28,6 @@ pub unsent : (key : ClientKey) (occupied sends : Bool) (report : Option ClientRe
 unsent key true sends report envelopes h none = ap (for_client key report) (sym (none h))
 unsent key false sends report envelopes h none = refl
 
-pub and_true : (a b : Bool) → (a && b) ≡ true → (a ≡ true) × (b ≡ true)
-and_true true true h = (refl, refl)
-and_true true false h = absurd cc
-and_true false b h = absurd cc
-
 -- what leaves an occupied slot
 pub for_occupied : (key : ClientKey) (occupied : Bool) (report : Option ClientReport) (envelopes : List Envelope) → occupied ≡ true
     → for_client key report envelopes ≡ envelopes_from occupied key report envelopes

@@ -1,5 +1,6 @@
 -- Sessions: what one call does to what is kept is what one more entry does to what the history says.
 use Rattle.std.proofs.Common.{◌≡◌, ◌≢◌, ◌+◌, ◌-◌, ◌^◌, ◌||◌, min, ℕ, Bool, true, false, not, cond, Option, Some, None, List, [], ◌∷◌, ◌++◌, refl, sym, ap, ◌∙◌, arith}
+use Rattle.std.proofs.Math.Bool.{or-true}
 use Rattle.std.proofs.lemmas.List.Sums.{sum_by-cons}
 use Rattle.std.specs.Prelude.{count_by, is_some, if◌then◌else◌}
 use Rattle.std.specs.Option.{option_or}
@@ -42,10 +43,6 @@ or_swap true false c = refl
 or_swap false true c = refl
 or_swap false false c = refl
 
-or_true : (b : Bool) → (b || true) ≡ true
-or_true true = refl
-or_true false = refl
-
 or_none : {A : Type 0} (o : Option A) → option_or o None ≡ o
 or_none None = refl
 or_none (Some x) = refl
@@ -77,7 +74,7 @@ after_close : (start : SessionStart) (end : Option SessionEnd) (counted : List S
     ≡ read start (option_or end (Some (closing status now))) (if is_some end then counted else closed status now ∷ counted) told
 after_close start (Some crash) counted told status now = refl
 after_close start (Some (closing first ended)) counted told status now = rw (is_over first) refl
-after_close start None counted told status now = rw (or_true (not told)) refl
+after_close start None counted told status now = rw (or-true (not told)) refl
 
 -- an event
 pub update_from_event_is : (event : Event) (start : SessionStart) (history : List SessionEntry)

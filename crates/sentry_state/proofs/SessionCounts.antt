@@ -5,6 +5,7 @@ use Rattle.std.specs.List.{list_any, sum_by}
 use Rattle.std.specs.Map.{values_of}
 use Rattle.std.specs.BTreeMap.{is_at}
 use Rattle.std.specs.Ordering.{nat_cmp}
+use Rattle.std.proofs.lemmas.Bool.{and_parts}
 use Rattle.std.proofs.lemmas.List.Sums.{sum_by-cons}
 use Rattle.sentry_base.specs.declared.protocol.keys.ClientKey.{ClientKey}
 use Rattle.sentry_scope.specs.Stacks.{is_client}
@@ -63,12 +64,8 @@ none_named (e ∷ es) =
 pub none_counted : (sessions : List (ℕ × Session)) → Counts (counted_at None) [] sessions
 none_counted sessions = record { each = λ n. sym (none_named sessions) }
 
-both : (a b : Bool) → (a && b) ≡ true → (a ≡ true) × (b ≡ true)
-both true b h = (refl, h)
-both false b h = absurd cc
-
 -- the test of keys tells that they are the same
 pub same_client : (a b : ClientKey) → ((a.tag == b.tag) && (a.number == b.number)) ≡ true → a ≡ b
 same_client a b h =
-    let each = both (a.tag == b.tag) (a.number == b.number) h in
+    let each = and_parts (a.tag == b.tag) (a.number == b.number) h in
     λ i. record { tag = same_number a.tag b.tag each.0 i; number = same_number a.number b.number each.1 i }

@@ -9,10 +9,6 @@ use Rattle.sentry_batches.specs.Batches.{if_full}
 use Rattle.sentry_batches.proofs.BatchLemmas.{next_full}
 use Rattle.sentry_sending.specs.Sending.{for_client, envelopes_from}
 
-pub and_true : (a b : Bool) → (a && b) ≡ true → a ≡ true
-and_true true b e = refl
-and_true false b e = e
-
 no_batch : {T : Type 0} (batch : Option (List T)) → is_some batch ≡ false → batch ≡ None
 no_batch None none = refl
 no_batch (Some items) none = absurd cc

@@ -2,6 +2,7 @@
 use Rattle.std.proofs.Common.{◌≡◌, ◌<◌, ◌≤◌, ℕ, ltb, max, Bool, true, false, not, ◌&&◌, ◌||◌, cond, Option, None, Some, List, [], ◌∷◌, ◌++◌, length, map, drop, replicate, refl, ap, ap₂, sym, ◌∙◌, arith, append_assoc, append-nil, ⊎_elim}
 use mathlib.Core.Path.{fun_ext}
 use native.Mathlib.Nat.{max-eq_left, max-eq_right, le_of_lt}
+use Rattle.std.proofs.lemmas.Bool.{or_right}
 use Rattle.std.proofs.lemmas.Bool.Decides.{nat_tests, leb_tells}
 use Rattle.std.specs.Prelude.{◌==◌, if◌then◌else◌, option_map, slice_index}
 use Rattle.sentry_base.specs.declared.protocol.envelope.Envelope.{Envelope}
@@ -99,10 +100,6 @@ offered false waits some queue out left lost =
       has_lost = some || queue.has_lost;
     }) (sym (append-nil queue.envelopes)) (sym (append-nil out))
 
-or_true : (a b : Bool) → b ≡ true → (a || b) ≡ true
-or_true true b e = refl
-or_true false b e = e
-
 pub leaves_if_empty : (limited : Category → Bool) (envelope : Envelope) → (length envelope.items == 0) ≡ true
     → leaves_something limited envelope ≡ true
 leaves_if_empty limited envelope e = ap (λ b. b || not (length (other_items limited envelope.items) == 0)) e
@@ -110,7 +107,7 @@ leaves_if_empty limited envelope e = ap (λ b. b || not (length (other_items lim
 pub leaves_if_left : (limited : Category → Bool) (envelope left : Envelope) → left ≡ without_limited limited envelope
     → not (length left.items == 0) ≡ true → leaves_something limited envelope ≡ true
 leaves_if_left limited envelope left is e =
-    or_true (length envelope.items == 0) (not (length (other_items limited envelope.items) == 0))
+    or_right (length envelope.items == 0) (not (length (other_items limited envelope.items) == 0))
     (sym (ap (λ l. not (length l.items == 0)) is) ∙ e)
 
 -- an offer that leaves something, step by step

@@ -1,4 +1,5 @@
 use Rattle.std.proofs.Common.{refl, sym, ap, subst, ◌≡◌, ◌∙◌, Some, true, false, rules}
+use Rattle.std.proofs.lemmas.Bool.{and_parts}
 use Rattle.std.specs.Prelude.{◌&&◌}
 use Rattle.sentry_plain.specs.Tables.{value_at}
 use Rattle.sentry_sessions.specs.SessionQueues.{enqueued, envelopes_on}
@@ -13,7 +14,7 @@ use Rattle.sentry_state.specs.Worlds.{World, Stands, stored_client}
 use Rattle.sentry_state.specs.declared.state.ClientState.{ClientState}
 use Rattle.sentry_state.proofs.Keeping.{client_state}
 use Rattle.sentry_sending.proofs.SendingLemmas.{queue_update_is}
-use Rattle.sentry_sending.proofs.TakenLemmas.{unsent, and_true, for_occupied}
+use Rattle.sentry_sending.proofs.TakenLemmas.{unsent, for_occupied}
 use Rattle.sentry_sending.proofs.session_ends.queue_closed.Goals as goal
 
 -- nothing leaves the client that was found
@@ -50,7 +51,7 @@ send_all-requires-clause-sends g c = λ client session found there.
     let up : (c.in-Some-client_at.client.now.occupied && c.fills_queue_at_end.result) ≡ true = search rules in
     (λ i. fills_queue (update_of (close c.args.status c.args.now (sym held i))) (sym is i).queues.sessions)
     ∙ (sym (c.fills_queue_at_end.ensures.test c.args.status c.args.now)
-    ∙ (and_true c.in-Some-client_at.client.now.occupied c.fills_queue_at_end.result up).1)
+    ∙ (and_parts c.in-Some-client_at.client.now.occupied c.fills_queue_at_end.result up).1)
 
 -- all that waits leaves the client that was found
 pub returns-clause-in_world : goal.returns-clause-in_world
@@ -62,7 +63,7 @@ returns-clause-in_world g c = λ session there world s.
     let going_on : client.closed ≡ false = sym (ap (λ (kept : ClientState g.row.C.Denot). kept.closed) is) ∙ c.if-client.false in
     let up : (c.in-Some-client_at.client.now.occupied && c.fills_queue_at_end.result) ≡ true = search rules in
     let occupied : client.occupied ≡ true =
-    sym (ap (λ (kept : ClientState g.row.C.Denot). kept.occupied) is) ∙ (and_true c.in-Some-client_at.client.now.occupied c.fills_queue_at_end.result up).0 in
+    sym (ap (λ (kept : ClientState g.row.C.Denot). kept.occupied) is) ∙ (and_parts c.in-Some-client_at.client.now.occupied c.fills_queue_at_end.result up).0 in
     let all = c.in_ok-sent.ensures.in_world world client session s found.1 there in
     let sent = all.0
     ∙ ((λ i. for_client c.args.key (pending_report world (is i).label) (envelopes_on client.options.plain.session_mode update client.queues.sessions))

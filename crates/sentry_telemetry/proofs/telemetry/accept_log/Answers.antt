@@ -1,4 +1,5 @@
 use Rattle.std.proofs.Common.{◌≡◌, ◌∙◌, ◌++◌, ap, sym, true, false, rules, refl, List}
+use Rattle.std.proofs.lemmas.Bool.{and_parts}
 use Rattle.std.specs.Prelude.{Option, None, ◌&&◌}
 use Rattle.sentry_base.specs.declared.protocol.log.Log.{Log}
 use Rattle.sentry_batches.specs.Batches.{accept, batch_on, next_fills_queue, queued_items}
@@ -9,7 +10,7 @@ use Rattle.sentry_telemetry.specs.Telemetry.{accept_log}
 use Rattle.sentry_state.specs.Changes.{with_log_entry}
 use Rattle.sentry_state.specs.Worlds.{ClientHistory}
 use Rattle.sentry_state.specs.declared.state.ClientState.{ClientState}
-use Rattle.sentry_telemetry.proofs.BatchSending.{and_true, unsent_item}
+use Rattle.sentry_telemetry.proofs.BatchSending.{unsent_item}
 use Rattle.sentry_telemetry.proofs.ChangeLemmas.{client_changed, client_changed_unsent, sent_if_occupied}
 use Rattle.sentry_telemetry.proofs.telemetry.accept_log.Goals as goal
 
@@ -42,7 +43,7 @@ returns-clause-in_world g c = λ world s.
     let batch = c.in_ok-logs.ensures.batch client there in
     let addressed = c.in_ok-prepared.ensures.sent world s (batch_envelopes c.in_ok-logs.logs None) in
     let stands = c.in_ok-logs.ensures.in_world world client s there in (
-      sent_if_occupied c.args.key c.in-Some.client.now.occupied pending _ _ (and_true _ _ leaves)
+      sent_if_occupied c.args.key c.in-Some.client.now.occupied pending _ _ (and_parts _ _ leaves).0
           (c.finish-sent.ensures ∙ (addressed ∙ (λ i. for_client c.args.key pending (c.new-2.ensures i ++ batch_envelopes (batch i) None)))),
       c.mark_sent.ensures.in_world _ stands,
     ))
