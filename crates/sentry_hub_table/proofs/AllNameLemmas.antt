@@ -1,12 +1,16 @@
 -- How many layers name each record, of all kinds at once.
-use Rattle.std.proofs.Common.{◌≡◌, ap, ℕ, ◌+◌, ◌<◌, List, length}
+use Rattle.std.proofs.Common.{◌≡◌, refl, ap, ℕ, ◌+◌, ◌<◌, List, length}
 use Rattle.std.specs.Prelude.{Some, None}
 use Rattle.sentry_plain.specs.Tables.{value_at, replace_at, put, without}
 use Rattle.sentry_scope.specs.Stacks.{push, pop, depth}
-use Rattle.sentry_hub_table.specs.Names.{client_of, session_of, transaction_of, span_of, layer_names, all_layers, CountsNames, HasNames, HasRoom, HasRoomFor, KeepsNames, RaisesNames, LowersNames, HasAllLayers, LowersLayers}
+use Rattle.sentry_scope.specs.declared.scope.Scope.{Scope}
+use Rattle.sentry_hub_table.specs.Hubs.{with_scope}
+use Rattle.sentry_hub_table.specs.Names.{transaction_name, span_name, client_of, session_of, transaction_of, span_of, layer_names, all_layers, CountsNames, HasNames, HasRoom, HasRoomFor, KeepsNames, RaisesNames, LowersNames, HasAllLayers, LowersLayers}
 use Rattle.sentry_hub_table.specs.declared.hub.HubState.{HubState}
+use Rattle.sentry_hub_table.specs.Tallies.{Lowers, Raises}
 use Rattle.sentry_hub_table.specs.declared.names.Names.{Names}
-use Rattle.sentry_hub_table.proofs.NameLemmas.{has_name, has_room_for, has_layers, kept_name, kept_counts, grown, shrunk, with_hub, without_hub, without_none}
+use Rattle.sentry_hub_table.specs.declared.tally.Tally.{Tally}
+use Rattle.sentry_hub_table.proofs.NameLemmas.{has_name, renamed, has_room_for, has_layers, kept_name, kept_counts, grown, shrunk, with_hub, without_hub, without_none}
 
 module _ {P : Type 0} (hubs : List (ℕ × HubState P)) (number : ℕ) where
   -- a hub is replaced that names the same
@@ -18,6 +22,22 @@ module _ {P : Type 0} (hubs : List (ℕ × HubState P)) (number : ℕ) where
     sessions = kept_name session_of hubs number hub after h below (ap (λ n. n.session) top) names.sessions counts.sessions;
     transactions = kept_name transaction_of hubs number hub after h below (ap (λ n. n.transaction) top) names.transactions counts.transactions;
     spans = kept_name span_of hubs number hub after h below (ap (λ n. n.span) top) names.spans counts.spans;
+  }
+
+  -- a hub gets another scope on top
+  pub all_rescoped : (hub : HubState P) (scope : Scope P) → value_at hubs number ≡ Some hub
+      → (names : Names) (transactions more_transactions spans more_spans : Tally) → CountsNames names hubs
+      → Lowers names.transactions transactions (transaction_of hub.stack.top)
+      → Raises transactions more_transactions (transaction_name scope.span)
+      → Lowers names.spans spans (span_of hub.stack.top) → Raises spans more_spans (span_name scope.span)
+      → CountsNames (record names { transactions = more_transactions; spans = more_spans }) (replace_at hubs number (with_scope hub scope))
+  all_rescoped hub scope h names transactions more_transactions spans more_spans counts lowers raises lowers_span raises_span = record {
+    clients = kept_name client_of hubs number hub (with_scope hub scope) h refl refl names.clients counts.clients;
+    sessions = kept_name session_of hubs number hub (with_scope hub scope) h refl refl names.sessions counts.sessions;
+    transactions =
+        renamed transaction_of hubs number hub (with_scope hub scope) h refl names.transactions transactions more_transactions
+        counts.transactions lowers raises;
+    spans = renamed span_of hubs number hub (with_scope hub scope) h refl names.spans spans more_spans counts.spans lowers_span raises_span;
   }
 
   -- there is more room

@@ -1,4 +1,4 @@
-//! What leaves an engine, and what is left of its state then: envelopes of a client, and sessions that end.
+//! What leaves an engine, and what is left of its state then: envelopes of a client, and sessions that start and end.
 #![tactic(auto)]
 
 pub mod sending;

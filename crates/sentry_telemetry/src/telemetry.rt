@@ -74,7 +74,7 @@ fn accept_log<P: Drop, C: Callbacks>(
     if client.closed {
         return Ok(Items::new(state.alloc));
     }
-    if !client.sends_next_log() {
+    if !client.next_log_fills_queue() {
         state.enqueue_log(key.number, log)?;
         return Ok(Items::new(state.alloc));
     }
@@ -105,7 +105,7 @@ fn accept_metric<P: Drop, C: Callbacks>(
     if client.closed {
         return Ok(Items::new(state.alloc));
     }
-    if !client.sends_next_metric() {
+    if !client.next_metric_fills_queue() {
         state.enqueue_metric(key.number, metric)?;
         return Ok(Items::new(state.alloc));
     }

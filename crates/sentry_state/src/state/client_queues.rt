@@ -21,14 +21,14 @@ use std::alloc::AllocError;
 
 impl<C> ClientState<C> {
     /// Whether the next log makes the batch leave.
-    pub fn sends_next_log(&self) -> bool
+    pub fn next_log_fills_queue(&self) -> bool
         ensures { result ≡ (self.now.occupied && next_fills_queue self.now.queues.logs) }
     {
         self.occupied && self.queues.logs.next_fills_queue()
     }
 
     /// Whether the next metric makes the batch leave.
-    pub fn sends_next_metric(&self) -> bool
+    pub fn next_metric_fills_queue(&self) -> bool
         ensures { result ≡ (self.now.occupied && next_fills_queue self.now.queues.metrics) }
     {
         self.occupied && self.queues.metrics.next_fills_queue()

@@ -15,14 +15,14 @@ use Rattle.sentry_telemetry.proofs.ChangeLemmas.{client_changed, client_changed_
 use Rattle.sentry_telemetry.proofs.telemetry.accept_log.Goals as goal
 
 -- the slot is empty, or the log doesn't make the batch full
-pub returns-then-not-sends_next_log-clause-in_world : goal.returns-then-not-sends_next_log-clause-in_world
+pub returns-then-not-next_log_fills_queue-clause-in_world : goal.returns-then-not-next_log_fills_queue-clause-in_world
 unfolding accept_log
-returns-then-not-sends_next_log-clause-in_world g c = λ world s.
+returns-then-not-next_log_fills_queue-clause-in_world g c = λ world s.
     let stays : (c.in-Some.client.now.occupied && next_fills_queue c.in-Some.client.now.queues.logs) ≡ false = search rules in
     client_changed_unsent c.args.key
     (λ (client : ClientHistory g.row.C.Denot). batch_envelopes (batch_on client.options.plain.max_batch_items (accept c.args.log) client.queues.logs) None)
     (with_log_entry (accept c.args.log)) c.args.state.now c.enqueue_log.new.self world s c.in-Some.client.now
-    (c.in-Some.ensures.in_world world s) c.if-client.false c.new-then-not-sends_next_log.result c.new-then-not-sends_next_log.ensures (λ client there is. (
+    (c.in-Some.ensures.in_world world s) c.if-client.false c.new-then-not-next_log_fills_queue.result c.new-then-not-next_log_fills_queue.ensures (λ client there is. (
       unsent_item c.args.key c.in-Some.client.now.occupied (pending_report world c.in-Some.client.now.label)
           (λ (logs : Option (List Log)). batch_envelopes logs None) refl client.options.plain.max_batch_items
           (queued_items client.options.plain.max_batch_items client.queues.logs) c.args.log

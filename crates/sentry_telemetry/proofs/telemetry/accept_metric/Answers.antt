@@ -15,14 +15,14 @@ use Rattle.sentry_telemetry.proofs.ChangeLemmas.{client_changed, client_changed_
 use Rattle.sentry_telemetry.proofs.telemetry.accept_metric.Goals as goal
 
 -- the slot is empty, or the metric doesn't make the batch full
-pub returns-then-not-sends_next_metric-clause-in_world : goal.returns-then-not-sends_next_metric-clause-in_world
+pub returns-then-not-next_metric_fills_queue-clause-in_world : goal.returns-then-not-next_metric_fills_queue-clause-in_world
 unfolding accept_metric
-returns-then-not-sends_next_metric-clause-in_world g c = λ world s.
+returns-then-not-next_metric_fills_queue-clause-in_world g c = λ world s.
     let stays : (c.in-Some.client.now.occupied && next_fills_queue c.in-Some.client.now.queues.metrics) ≡ false = search rules in
     client_changed_unsent c.args.key
     (λ (client : ClientHistory g.row.C.Denot). batch_envelopes None (batch_on client.options.plain.max_batch_items (accept c.args.metric) client.queues.metrics))
     (with_metric_entry (accept c.args.metric)) c.args.state.now c.enqueue_metric.new.self world s c.in-Some.client.now
-    (c.in-Some.ensures.in_world world s) c.if-client.false c.new-then-not-sends_next_metric.result c.new-then-not-sends_next_metric.ensures (λ client there is. (
+    (c.in-Some.ensures.in_world world s) c.if-client.false c.new-then-not-next_metric_fills_queue.result c.new-then-not-next_metric_fills_queue.ensures (λ client there is. (
       unsent_item c.args.key c.in-Some.client.now.occupied (pending_report world c.in-Some.client.now.label)
           (λ (metrics : Option (List Metric)). batch_envelopes None metrics) refl client.options.plain.max_batch_items
           (queued_items client.options.plain.max_batch_items client.queues.metrics) c.args.metric
