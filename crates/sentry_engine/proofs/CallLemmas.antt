@@ -1,16 +1,13 @@
 -- What calls come to, once it is known what they found.
+use Rattle.std.proofs.lemmas.Bool.{and_parts}
 use Rattle.std.proofs.lemmas.Bool.Decides.{nat_tests}
-use Rattle.std.proofs.Common.{arith, ◌≡◌, refl, ap, sym, subst, ◌∙◌, ℕ, ◌+◌, ◌-◌, ◌^◌, Bool, true, false, List, []}
-use Rattle.std.specs.Prelude.{Option, Some, None, Result, Ok, Err, IsErr, is_ok, nat_lt, ◌==◌, ◌&&◌, if◌then◌else◌}
+use Rattle.std.proofs.Common.{arith, ◌≡◌, refl, ap, ◌∙◌, ℕ, ◌+◌, ◌-◌, ◌^◌, Bool, true, false, List, []}
+use Rattle.std.specs.Prelude.{Option, Some, None, nat_lt, ◌==◌, ◌&&◌, if◌then◌else◌}
 use Rattle.std.specs.List.{list_any}
 use Rattle.std.specs.Option.{option_map}
-use Rattle.std.specs.Result.{IsErrAnd}
-use Rattle.sentry_base.specs.declared.protocol.refusal.Refusal.{Refusal}
-use Rattle.sentry_state.specs.declared.state.Out.{Out}
-use Rattle.sentry_base.specs.declared.protocol.envelope.Envelope.{Envelope}
 use Rattle.sentry_base.specs.declared.protocol.fresh.Fresh.{Fresh}
 use Rattle.sentry_base.specs.declared.protocol.keys.HubKey.{HubKey}
-use Rattle.sentry_base.specs.declared.protocol.refusal.Refusal.TheVariants.{OutOfMemory, Stale}
+use Rattle.sentry_base.specs.declared.protocol.refusal.Refusal.TheVariants.{Stale}
 use Rattle.sentry_base.specs.declared.protocol.keys.ClientKey.{ClientKey}
 use Rattle.sentry_plain.specs.Tables.{without, put}
 use Rattle.sentry_sessions.specs.Sessions.{start_of}
@@ -29,31 +26,22 @@ use Rattle.sentry_telemetry.specs.Flushes.{flush_queues}
 use Rattle.sentry_telemetry.specs.declared.flushes.Flush.TheVariants.{All}
 use Rattle.sentry_calls.specs.Hubs.{configure, is_clear, with_renames}
 use Rattle.sentry_calls.specs.Layers.{pop_scope}
-use Rattle.sentry_state.specs.Outcomes.{Outcome, IsAnswer, memory, Does, client_at, stored_client_at, hub_at, require_some, let_some, reply_with, with_hub}
+use Rattle.sentry_state.specs.Outcomes.{Outcome, client_at, stored_client_at, hub_at, require_some, let_some, reply_with, with_hub}
 use Rattle.sentry_hub_table.specs.Hubs.{with_scope, with_stack, with_session}
 use Rattle.sentry_sending.specs.Sending.{reply_sending, release_session, replace_session}
 use Rattle.sentry_state.specs.Changes.{is_session_number_left}
 use Rattle.sentry_calls.specs.Active.{if_active}
 use Rattle.sentry_calls.specs.Sessions.{start_session}
 use Rattle.sentry_span_table.specs.SpanTables.{has_transaction_of}
-use Rattle.sentry_state.specs.Worlds.{World, ClientHistory, Stands, stored_client, span_table}
+use Rattle.sentry_state.specs.Worlds.{World, ClientHistory, stored_client, span_table}
 use Rattle.sentry_state.specs.declared.state.ClientState.{ClientState}
-use Rattle.sentry_state.specs.declared.state.State.{State}
 use Rattle.sentry_hub_table.specs.declared.hub.HubState.{HubState}
-
-and_left : (a b : Bool) → (a && b) ≡ true → a ≡ true
-and_left true b e = refl
-and_left false b e = e
-
-and_right : (a b : Bool) → (a && b) ≡ true → b ≡ true
-and_right true b e = e
-and_right false b e = absurd cc
 
 -- a layer on top that is not the only one has others below it
 pub is_above : (deep pushed : ℕ) → (deep == pushed && nat_lt 0 pushed) ≡ true → nat_lt 0 deep ≡ true
 is_above deep pushed top =
-    let same : (deep == pushed) ≡ true = and_left (deep == pushed) (nat_lt 0 pushed) top in
-    let above : nat_lt 0 pushed ≡ true = and_right (deep == pushed) (nat_lt 0 pushed) top in
+    let same : (deep == pushed) ≡ true = (and_parts (deep == pushed) (nat_lt 0 pushed) top).0 in
+    let above : nat_lt 0 pushed ≡ true = (and_parts (deep == pushed) (nat_lt 0 pushed) top).1 in
     grind (arith, nat_tests)
 
 -- a client that is found as an engine stores it
@@ -129,20 +117,6 @@ module _ {P C : Type 0} where
   unfolding configure
   configure_kept_is key edits now world hub found held kept = rw found (rw held (rw kept refl))
 
-  -- a call whose outcome is known, where the engine stands for the world after it
-  pub replied : {T : Type 0} (outcome : Outcome P C T) (reply : T) (sent handed : List (ClientKey × Envelope)) (after : World P C) (new : State P C)
-      → outcome ≡ reply_with reply sent after → handed ≡ sent → Stands new after
-      → (outcome.answer ≡ Ok (record { reply = reply; sent = handed })) × Stands new outcome.after
-  replied outcome reply sent handed after new is same stands = (
-    ap (λ o. o.answer) is ∙ ap (λ envelopes. Ok (record { reply = reply; sent = envelopes })) (sym same),
-    subst (λ w. Stands new w) (sym (ap (λ o. o.after) is)) stands,
-  )
-
-  -- a call that replies may answer out of memory
-  pub may_lack_memory : {T : Type 0} (outcome : Outcome P C T) (reply : T) (sent : List (ClientKey × Envelope)) (after : World P C)
-      → outcome ≡ reply_with reply sent after → IsAnswer outcome.answer (Err OutOfMemory) memory
-  may_lack_memory outcome reply sent after is = ap (λ o. is_ok o.answer) is
-
   -- the world with one more client and a book for its label
   abbrev pub with_client_and_book : ClientHistory C → Label → World P C → World P C
   with_client_and_book client label world = record world {
@@ -179,11 +153,3 @@ module _ {P C : Type 0} where
   pub history_of_stored : (world : World P C) (key : ClientKey) (kept : ClientState C) → stored_client_at world key ≡ Some kept
       → (client : ClientHistory C) × (client_at world key ≡ Some client) × (kept ≡ stored_client client)
   history_of_stored world key kept is = found_of_stored (client_at world key) kept is
-
-  -- a call that is refused since it is out of memory, and changed nothing
-  pub refused_for_memory : {T : Type 0} (old new : State P C) (result : Result (Out T) Refusal) (outcome : World P C → Outcome P C T)
-      → IsErr result → IsErrAnd result (λ refusal. refusal ≡ OutOfMemory) → new ≡ old
-      → ((world : World P C) → Stands old world → IsAnswer (outcome world).answer (Err OutOfMemory) memory) → Does old new result outcome
-  refused_for_memory old new (Ok out) outcome is gives same lacks = absurd cc
-  refused_for_memory old new (Err refusal) outcome is gives same lacks =
-      (same, λ world s. subst (λ cause. IsAnswer (outcome world).answer (Err cause) memory) (sym gives) (lacks world s))

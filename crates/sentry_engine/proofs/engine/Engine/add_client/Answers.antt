@@ -5,7 +5,9 @@ use Rattle.sentry_state.specs.Books.{with_book}
 use Rattle.sentry_state.specs.Clients.{new_client}
 use Rattle.sentry_state.specs.Worlds.{World, Stands}
 use Rattle.sentry_state.specs.declared.state.State.{State}
-use Rattle.sentry_engine.proofs.CallLemmas.{add_client_is, with_client_and_book, may_lack_memory, refused_for_memory}
+use Rattle.sentry_engine.proofs.CallLemmas.{add_client_is, with_client_and_book}
+use Rattle.sentry_spans.proofs.EndLemmas.{refused_for_memory}
+use Rattle.sentry_spans.proofs.SendLemmas.{may_lack_memory}
 use Rattle.sentry_engine.proofs.engine.Engine.add_client.Goals as goal
 
 pub returns-in_err-insert_client_and_book : goal.returns-in_err-insert_client_and_book

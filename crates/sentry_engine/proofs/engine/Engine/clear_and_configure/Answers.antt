@@ -9,7 +9,8 @@ use Rattle.sentry_state.specs.Worlds.{World, Stands, span_table}
 use Rattle.sentry_state.specs.declared.state.State.{State}
 use Rattle.sentry_state.proofs.TableLemmas.{value_replaced}
 use Rattle.sentry_sending.specs.Sending.{release_session}
-use Rattle.sentry_engine.proofs.CallLemmas.{configure_is, replied}
+use Rattle.sentry_engine.proofs.CallLemmas.{configure_is}
+use Rattle.sentry_spans.proofs.SendLemmas.{replied}
 use Rattle.sentry_engine.proofs.engine.Engine.clear_and_configure.Goals as goal
 
 -- the layer gives up its session, and gets the scope after the edits, with the names that they give

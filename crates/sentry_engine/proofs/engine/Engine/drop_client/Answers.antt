@@ -4,7 +4,8 @@ use Rattle.sentry_state.specs.Worlds.{Stands, span_table}
 use Rattle.std.proofs.Common.{◌≡◌, ◌∙◌, Some, false, ap, sym, subst}
 use Rattle.sentry_state.specs.Clients.{is_client_named, has_session_of}
 use Rattle.sentry_state.specs.Outcomes.{stored_client_at}
-use Rattle.sentry_engine.proofs.CallLemmas.{drop_client_is, replied}
+use Rattle.sentry_engine.proofs.CallLemmas.{drop_client_is}
+use Rattle.sentry_spans.proofs.SendLemmas.{replied}
 use Rattle.sentry_engine.proofs.engine.Engine.drop_client.Goals as goal
 
 -- the client that was found stands in the world, and nothing names it

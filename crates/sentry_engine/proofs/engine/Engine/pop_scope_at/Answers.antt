@@ -8,7 +8,8 @@ use Rattle.sentry_hub_table.specs.Hubs.{with_stack, with_session}
 use Rattle.sentry_sending.specs.Sending.{release_session}
 use Rattle.sentry_state.specs.Worlds.{World, Stands}
 use Rattle.sentry_state.proofs.Keeping.{popped_same}
-use Rattle.sentry_engine.proofs.CallLemmas.{is_above, pop_scope_is, replied}
+use Rattle.sentry_engine.proofs.CallLemmas.{is_above, pop_scope_is}
+use Rattle.sentry_spans.proofs.SendLemmas.{replied}
 use Rattle.sentry_state.proofs.TableLemmas.{value_replaced}
 use Rattle.sentry_engine.proofs.engine.Engine.pop_scope_at.Goals as goal
 

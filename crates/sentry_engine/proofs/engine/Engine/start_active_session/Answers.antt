@@ -7,7 +7,8 @@ use Rattle.sentry_calls.specs.Sessions.{start_session}
 use Rattle.sentry_state.specs.Clients.{is_enabled_client}
 use Rattle.sentry_state.specs.Outcomes.{hub_at, stored_client_at}
 use Rattle.sentry_state.specs.Changes.{is_session_number_left}
-use Rattle.sentry_engine.proofs.CallLemmas.{active_is, start_session_is, replied}
+use Rattle.sentry_engine.proofs.CallLemmas.{active_is, start_session_is}
+use Rattle.sentry_spans.proofs.SendLemmas.{replied}
 use Rattle.sentry_engine.proofs.engine.Engine.start_active_session.Goals as goal
 
 -- the hub and the client that were found stand in the world, the client is enabled, and the session starts

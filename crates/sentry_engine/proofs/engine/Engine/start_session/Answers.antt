@@ -5,7 +5,8 @@ use Rattle.sentry_plain.specs.Tables.{value_at}
 use Rattle.sentry_sessions.specs.Sessions.{new_session, start_of}
 use Rattle.sentry_state.specs.Outcomes.{hub_at, stored_client_at}
 use Rattle.sentry_state.specs.Changes.{is_session_number_left}
-use Rattle.sentry_engine.proofs.CallLemmas.{start_session_is, replied}
+use Rattle.sentry_engine.proofs.CallLemmas.{start_session_is}
+use Rattle.sentry_spans.proofs.SendLemmas.{replied}
 use Rattle.sentry_engine.proofs.engine.Engine.start_session.Goals as goal
 
 -- the hub and the client that were found stand in the world, and the session starts
