@@ -139,6 +139,12 @@ def fresh(event_id: Optional[Id] = None) -> Fresh:
     return Fresh(time.time_ns(), event_id or Id(a, b), Id(c, d), e, f % 1000000)
 
 
+def fresh_span() -> Fresh:
+    """The moment, and the random id of a span: all that `start_child` uses."""
+    (span,) = struct.unpack("Q", os.urandom(8))
+    return Fresh(now=time.time_ns(), span=span)
+
+
 class Engine:
     """An engine. ctypes lets other threads run during a call, so each call takes the lock."""
 

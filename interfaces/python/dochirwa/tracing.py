@@ -64,7 +64,7 @@ class Span:
             parent = self.containing_transaction if self.is_finished else self
             with tolerated("a span"):
                 texts = as_text(op), about
-                number = self.client.engine.number("start_child", parent.is_span, parent.number, *texts, native.fresh())
+                number = self.client.engine.number("start_child", parent.is_span, parent.number, *texts, native.fresh_span())
                 child = Span(self.client, number, op, about, self.containing_transaction)
                 self.containing_transaction.children[number] = child
                 return child
