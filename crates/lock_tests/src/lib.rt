@@ -13,6 +13,8 @@ mod dropping;
 #[cfg(test)]
 mod ends;
 #[cfg(test)]
+mod gate;
+#[cfg(test)]
 mod labels;
 #[cfg(test)]
 mod losses;
