@@ -8,7 +8,6 @@ use sentry_core::{
     start_session, start_transaction, start_transaction_with_timestamp, with_scope,
 };
 use sentry_hub::Hub;
-use sentry_hub::performance::Transaction;
 use sentry_lock::CoreLock;
 use sentry_thread_hub::ThreadHub;
 use std::alloc::{AllocError, Global};
@@ -69,23 +68,14 @@ fn context(alloc: Global) -> Result<TransactionContext, AllocError> {
     TransactionContext::new(alloc, "order", "http", TraceId([1; 16]), SpanId([2; 8]))
 }
 
-// Finishes a transaction. Answers whether it is sampled.
-fn finish<L: CoreLock>(
-    thread: &mut Thread<L>,
-    transaction: &Transaction<L>,
-) -> Result<bool, Refusal> {
-    transaction.finish(thread)?;
-    transaction.is_sampled()
-}
-
-// Finishes a transaction that starts now, and one since the second 2. Answers which are sampled.
+// Finishes a transaction that starts now, and one since the second 2 at the second 50. Answers which are sampled.
 fn trace<L: CoreLock>(thread: &mut Thread<L>) -> Result<(bool, bool), Refusal> {
     let alloc = thread.current.core().allocator();
-    let transaction = start_transaction(thread, context(alloc)?)?;
-    let is_first = finish(thread, &transaction)?;
-    let transaction = start_transaction_with_timestamp(thread, context(alloc)?, at(2))?;
-    let is_second = finish(thread, &transaction)?;
-    Ok((is_first, is_second))
+    let first = start_transaction(thread, context(alloc)?)?;
+    first.finish(thread)?;
+    let second = start_transaction_with_timestamp(thread, context(alloc)?, at(2))?;
+    second.finish_with_timestamp(thread, at(50))?;
+    Ok((first.is_sampled()?, second.is_sampled()?))
 }
 
 // What the calls answer: the ids of an event, a message and an error, the id of the last event, that of a message under
@@ -146,7 +136,7 @@ fn what_is_sent(alloc: Global, drawn: [Uuid; 9]) -> Result<String, AllocError> {
         ),
         ("; event", later, "Info at 60 later a=1 after 2 after 3"),
         ("; transaction", order, "since 60 until 60 a=1"),
-        ("; transaction", earlier, "since 2 until 60 a=1"),
+        ("; transaction", earlier, "since 2 until 50 a=1"),
         ("; session", exited, "Exited since 60 for 0"),
         ("+ session", crashed, "Crashed since 60 for 0"),
     ] {

@@ -1,5 +1,5 @@
 //! Transactions and spans that end by one call.
-use crate::workshop::{Bench, Thread, fresh};
+use crate::workshop::{Bench, Thread, fresh, set_tag};
 use sentry_core::protocol::{Refusal, SpanId, TraceId};
 use sentry_core::{TransactionContext, clear_span, configure_scope};
 use sentry_hub::performance::{Handle, HandleKey, Span, Transaction};
@@ -31,10 +31,11 @@ fn end_rest<L: CoreLock>(
 }
 
 // Ends a span, one that the scope names, and their transaction, of which that one is held. Answers why they stay, and
-// whether they go afterwards.
+// whether they go afterwards. The transaction takes on a tag that the current hub alone is given.
 fn end_all<L: CoreLock>(
     thread: &mut Thread<L>,
 ) -> Result<([Option<Refusal>; 2], [bool; 2]), Refusal> {
+    set_tag(&thread.current, "a", "1")?;
     let alloc = thread.current.core().allocator();
     let (trace, id) = (TraceId([1; 16]), SpanId([2; 8]));
     let context = TransactionContext::new(alloc, "order", "http", trace, id)?;
@@ -54,10 +55,10 @@ fn end_all<L: CoreLock>(
 
 #[test]
 fn an_end_finishes_and_forgets(rt: HostRuntime) -> Result<(), Fail> {
-    let mut bench = Bench::new(rt, rt.alloc())?;
+    let mut bench = Bench::apart(rt, rt.alloc())?;
     let found = end_all(&mut bench.thread)?;
     let sent = bench.finish()?;
-    let expected = "; transaction 1 since 1 until 60, span until 60, span until 60";
+    let expected = "; transaction 1 since 1 until 60 a=1, span until 60, span until 60";
     let named = Some(Refusal::StillNamed);
     assert_eq!(rt;
         (found, sent.as_str()),

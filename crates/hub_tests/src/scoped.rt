@@ -1,5 +1,5 @@
 //! Work that is run in a scope, on a hub of its own, and under a transaction and a span; and what is left after it.
-use crate::workshop::{Bench, Minute, SEED, Thread, fresh};
+use crate::workshop::{Bench, Minute, SEED, Thread, fresh, set_tag};
 use sentry_core::protocol::{Refusal, SpanKey, TransactionOrSpanKey, Uuid};
 use sentry_core::{
     Generator, Level, Refused, in_new_hub, in_scope, in_span, in_transaction, transaction_context,
@@ -83,16 +83,18 @@ fn look<L: CoreLock>(thread: &mut Thread<L>) -> Result<Left, Refusal> {
 // What work answers that is let be, that is refused, and whose scope is refused; and what is left.
 type Found = ([Answer; 3], [Answer; 3], Answer, Left);
 
+// The current hub alone is given a tag: what is done on the main hub lacks it.
 fn run_thrice<L: CoreLock>(thread: &mut Thread<L>) -> Result<Found, Refusal> {
+    set_tag(&thread.current, "b", "2")?;
     let first = run_all(thread, None);
     let second = run_all(thread, Some(Refusal::Full));
     let third = run_refused(thread);
     Ok((first, second, third, look(thread)?))
 }
 
-// What is left where nothing is: the client, and its hub with one layer.
+// What is left where nothing is: the client, and the main and the current hub with one layer each.
 fn nothing_left(alloc: Global, refused: Refused) -> Result<Left, AllocError> {
-    let held = "Held { clients: 1, hubs: 1, layers: 1, transactions: 0, spans: 0, sessions: 0 }";
+    let held = "Held { clients: 1, hubs: 2, layers: 2, transactions: 0, spans: 0, sessions: 0 }";
     Ok((String::from_str(alloc, held)?, None, Ok(()), refused))
 }
 
@@ -122,16 +124,16 @@ fn what_is_sent(alloc: Global) -> Result<String, AllocError> {
     let mut text = String::new(alloc);
     for (id, status) in [(done, ""), (failed, " InternalError")] {
         text.push_str(
-            "; event 1 Info at 1 work a=1; event 2 Info at 2 work; event 3 Info at 3 work",
+            "; event 1 Info at 1 work a=1 b=2; event 2 Info at 2 work b=2; event 3 Info at 3 work b=2",
         )?;
         write!(
             text,
-            "; transaction {} since 60 until 60{status}",
+            "; transaction {} since 60 until 60{status} b=2",
             id.as_u128()
         )?;
         write!(text, ", span until 60{status}")?;
     }
-    text.push_str("; event 4 Info at 4 work")?;
+    text.push_str("; event 4 Info at 4 work b=2")?;
     Ok(text)
 }
 
@@ -161,7 +163,7 @@ fn leave_another_hub<L: CoreLock>(thread: &mut Thread<L>) -> Result<(), Refusal>
 
 #[test]
 fn work_may_leave_another_hub_current(rt: HostRuntime) -> Result<(), Fail> {
-    let mut bench = Bench::new(rt, rt.alloc())?;
+    let mut bench = Bench::apart(rt, rt.alloc())?;
     leave_another_hub(&mut bench.thread)?;
     let left = look(&mut bench.thread)?;
     assert_eq!(rt; left, nothing_left(rt.alloc(), Refused::nothing())?);
@@ -170,7 +172,7 @@ fn work_may_leave_another_hub_current(rt: HostRuntime) -> Result<(), Fail> {
 
 #[test]
 fn nothing_is_left_of_work_that_ended(rt: HostRuntime) -> Result<(), Fail> {
-    let mut bench = Bench::new(rt, rt.alloc())?;
+    let mut bench = Bench::apart(rt, rt.alloc())?;
     let (first, second, third, left) = run_thrice(&mut bench.thread)?;
     let sent = bench.finish()?;
     let span = TransactionOrSpanKey::Span(SpanKey { tag: 5, number: 0 });

@@ -1,5 +1,5 @@
 //! The data of transactions and spans as closures are lent it, and values of which some are equal.
-use crate::workshop::{Bench, Thread, at, fresh};
+use crate::workshop::{Bench, Thread, at, fresh, set_tag};
 use sentry_core::TransactionContext;
 use sentry_core::protocol::{Refusal, SpanId, TraceId, Value};
 use sentry_hub::performance::{Span, Transaction, TransactionOrSpan};
@@ -57,7 +57,9 @@ fn compare<L: CoreLock>(
 // What edits answer, and comparisons, of a transaction with a span.
 type Found = ([(usize, bool); 3], (bool, bool));
 
+// The current hub alone is given a tag, which the transaction takes on.
 fn trace<L: CoreLock>(thread: &mut Thread<L>) -> Result<Found, Refusal> {
+    set_tag(&thread.current, "a", "1")?;
     let alloc = thread.current.core().allocator();
     let context = TransactionContext::new(
         alloc,
@@ -74,10 +76,10 @@ fn trace<L: CoreLock>(thread: &mut Thread<L>) -> Result<Found, Refusal> {
 
 #[test]
 fn data_is_lent_as_a_copy_with_its_setters(rt: HostRuntime) -> Result<(), Fail> {
-    let mut bench = Bench::new(rt, rt.alloc())?;
+    let mut bench = Bench::apart(rt, rt.alloc())?;
     let found = trace(&mut bench.thread)?;
     let sent = bench.finish()?;
-    let expected = "; transaction 1 since 1 until 59 os=linux, span until 50 db=old";
+    let expected = "; transaction 1 since 1 until 59 a=1 os=linux, span until 50 db=old";
     // a finished transaction has no data, a finished span keeps its own
     let edited = [(0, false), (1, true), (0, true)];
     assert_eq!(rt; (found, sent.as_str()), ((edited, (true, false)), expected));
