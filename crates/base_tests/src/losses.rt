@@ -38,17 +38,25 @@ fn lost(category: Category, quantity: u64) -> Loss {
 }
 
 /// Whether a drain finds just this, which is recorded before it.
-fn finds(recorder: &mut Recorder, drainer: &mut Drainer, lost: Loss) -> bool {
+fn finds(recorder: &mut Recorder, drainer: &mut CountedDrainer, lost: Loss) -> bool {
     recorder.record_lost_data(&lost, TransportLossReason::NetworkError);
     let (label, losses) = drainer.drain().into_parts();
     label == LABEL && losses == lost.losses(Reason::NetworkError)
 }
 
-/// Whether drains find five losses in each category, one after the other.
-fn finds_each(recorder: &mut Recorder, drainer: &mut Drainer) -> bool {
+/// Whether a drain into losses writes just this over them, which is recorded before it.
+fn finds_into(recorder: &mut Recorder, drainer: &mut CountedDrainer, lost: Loss) -> bool {
+    recorder.record_lost_data(&lost, TransportLossReason::NetworkError);
+    let mut losses = lost.losses(Reason::QueueOverflow);
+    drainer.drain_into(&mut losses) && losses == lost.losses(Reason::NetworkError)
+}
+
+/// Whether drains of both kinds find five losses in each category, one after the other.
+fn finds_each(recorder: &mut Recorder, drainer: &mut CountedDrainer) -> bool {
     let mut all = true;
     for category in 0..CATEGORIES {
-        all &= finds(recorder, drainer, lost(Category::at(category), 5));
+        let five = lost(Category::at(category), 5);
+        all &= finds(recorder, drainer, five) && finds_into(recorder, drainer, five);
     }
     all
 }
@@ -68,7 +76,8 @@ fn is_balanced(book: &LossBook, losses: &Losses) -> bool {
 
 #[test]
 fn a_drain_finds_what_was_recorded_since_the_last(rt: HostRuntime) -> Result<(), Fail> {
-    let (mut recorder, mut drainer) = LossWords::new(rt.alloc(), LABEL)?;
+    let (mut recorder, drainer) = LossWords::new(rt.alloc(), LABEL)?;
+    let mut drainer = CountedDrainer::new(drainer);
     let finds_five = finds_each(&mut recorder, &mut drainer);
     // a counter counts modulo 2^64
     let most = lost(Category::Error, u64::MAX);
