@@ -16,9 +16,9 @@ use std::thread::{Threads, join, map_vec, yield_now};
 const TURNS: u64 = 25;
 
 /// How often a thread tries to pop a layer on which those of others stand.
-const LOOKS: u64 = 10_000_000;
+pub(crate) const LOOKS: u64 = 10_000_000;
 
-fn new_scope<L: CoreLock>(core: &SharedCore<L>) -> Scope<L::Processor> {
+pub(crate) fn new_scope<L: CoreLock>(core: &SharedCore<L>) -> Scope<L::Processor> {
     Scope::new(core.allocator(), TraceId([1; 16]), SpanId([2; 8]))
 }
 
@@ -216,7 +216,10 @@ fn mark<L: CoreLock>(
 }
 
 /// Removes a layer, as soon as no other stands on it.
-fn pop_in_turn<L: CoreLock>(core: &SharedCore<L>, guard: ScopeGuard) -> Result<(), Refusal> {
+pub(crate) fn pop_in_turn<L: CoreLock>(
+    core: &SharedCore<L>,
+    guard: ScopeGuard,
+) -> Result<(), Refusal> {
     let mut guard = guard;
     for _ in 0..LOOKS {
         match core.pop_scope(guard, 1) {

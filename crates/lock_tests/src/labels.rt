@@ -1,6 +1,6 @@
 //! Losses that threads record while their label is drained, reported and ended, and its clients come and go: at each
 //! index what was recorded is what was told.
-use crate::workshop::{Held, Lock, options};
+use crate::workshop::{Held, Lock, add_report, options};
 use sentry_base::protocol::{
     CATEGORIES, Category, ClientReport, Envelope, EnvelopeItem, LossSource, Losses, Reason, Refusal,
 };
@@ -23,12 +23,6 @@ const CALLS: u64 = 60;
 struct Sums<R: Wait + Drop> {
     rt: R,
     told: Mutex<Losses>,
-}
-
-fn add_report(sums: &mut Losses, report: &ClientReport) {
-    for item in report.items.as_slice() {
-        sums.add(&Losses::of(item.category, item.reason, item.quantity));
-    }
 }
 
 impl<R: Wait + Drop> Transport for Sums<R> {

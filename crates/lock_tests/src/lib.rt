@@ -15,9 +15,13 @@ mod ends;
 #[cfg(test)]
 mod gate;
 #[cfg(test)]
+mod guards;
+#[cfg(test)]
 mod labels;
 #[cfg(test)]
 mod losses;
+#[cfg(test)]
+mod queues;
 #[cfg(test)]
 mod quiet;
 #[cfg(test)]

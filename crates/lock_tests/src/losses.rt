@@ -1,5 +1,5 @@
 //! Losses of one client: what is drained, what a report tells, and how the words end.
-use crate::workshop::{Held, Notebook, capture_event, options};
+use crate::workshop::{Held, Notebook, capture_event, network_errors, options};
 use sentry_base::protocol::{ClientKey, Envelope, Refusal};
 use sentry_lock::CoreLock;
 use sentry_options::ClientOptions;
@@ -114,7 +114,7 @@ fn the_losses_of_a_dropped_client_reach_no_report(rt: HostRuntime) -> Result<(),
     let alloc: Global = rt.alloc();
     let (mut held, notebook) = Held::noted(rt, alloc, options(alloc, false)?, true)?;
     let is_flushed = drop_and_lose(&mut held, options(alloc, false)?, notebook.clone()?)?;
-    assert!(rt; is_flushed && notebook.take(alloc).errors_told == 0);
+    assert!(rt; is_flushed && network_errors(&notebook.take(alloc).told) == 0);
     assert!(rt; refusals(&held) == [Some(Refusal::ForeignLosses); 3]);
     Ok(())
 }

@@ -1,5 +1,5 @@
 //! Threads that send, flush and lose errors at once.
-use crate::workshop::{Held, Note, capture_event, lose_error, options};
+use crate::workshop::{Held, Note, capture_event, lose_error, network_errors, options};
 use sentry_base::protocol::{Envelope, Refusal};
 use sentry_client_reports::Recorder;
 use sentry_lock::{Client, CoreLock};
@@ -107,7 +107,7 @@ fn threads_lose_and_send_at_once(rt: HostRuntime) -> Result<(), Fail> {
     let (is_closed, left) = lose_and_send(&rt, &mut held)?;
     let notes = notebook.take(alloc);
     assert!(rt; is_closed);
-    assert!(rt; notes.errors_told.wrapping_add(left) == 4000);
+    assert!(rt; network_errors(&notes.told).wrapping_add(left) == 4000);
     assert!(rt; is_each_once(notes.asked.as_slice()));
     Ok(())
 }

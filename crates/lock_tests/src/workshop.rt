@@ -21,7 +21,7 @@ pub(crate) type Lock<T, R> = Locked<Passes, Quiet, Arc<T>, Waiting<R>>;
 /// What a transport was asked to do.
 #[derive(Clone, Copy, PartialEq)]
 pub(crate) enum Note {
-    /// To send an envelope with this id.
+    /// To send an event with this id.
     Send(u128),
     /// To send so many logs.
     SendLogs(usize),
@@ -34,16 +34,13 @@ pub(crate) enum Note {
 /// What a transport was asked to do so far, in order.
 pub(crate) struct Notes {
     pub(crate) asked: Vec<Note>,
-    /// How many errors the reports of its envelopes say were lost in the network.
-    pub(crate) errors_told: u64,
+    /// What the reports of its envelopes tell.
+    pub(crate) told: Losses,
 }
 
 impl Drop for Notes {
     fn drop(self) {
-        let Notes {
-            asked: _,
-            errors_told: _,
-        } = self;
+        let Notes { asked: _, told: _ } = self;
     }
 }
 
@@ -51,19 +48,17 @@ impl Notes {
     pub(crate) fn new(alloc: Global) -> Notes {
         Notes {
             asked: Vec::new(alloc),
-            errors_told: 0,
+            told: Losses::none(),
         }
     }
 
     fn note(&mut self, envelope: &Envelope) {
-        if let Some(id) = envelope.header.event_id {
-            drop(self.asked.push(Note::Send(id.as_u128())));
-        }
         for item in envelope.items.as_slice() {
             match item {
-                EnvelopeItem::ClientReport(report) => {
-                    self.errors_told = self.errors_told.wrapping_add(errors_in(report));
+                EnvelopeItem::Event(event) => {
+                    drop(self.asked.push(Note::Send(event.event_id.as_u128())));
                 }
+                EnvelopeItem::ClientReport(report) => add_report(&mut self.told, report),
                 EnvelopeItem::Logs(logs) => drop(self.asked.push(Note::SendLogs(logs.len()))),
                 _ => {}
             }
@@ -203,7 +198,11 @@ impl<L: CoreLock> Held<L> {
     pub(crate) fn pending(&self) -> Result<u64, Refusal> {
         match self.client.core().take_report(self.label)? {
             None => Ok(0),
-            Some(report) => Ok(errors_in(&report)),
+            Some(report) => {
+                let mut told = Losses::none();
+                add_report(&mut told, &report);
+                Ok(network_errors(&told))
+            }
         }
     }
 
@@ -268,13 +267,43 @@ pub(crate) fn lose_error(recorder: &mut Recorder) {
     recorder.record_lost_data(&LostError, TransportLossReason::NetworkError);
 }
 
-/// How many errors a report says were lost in the network.
-fn errors_in(report: &ClientReport) -> u64 {
-    let mut errors = 0u64;
+/// Adds what a report tells.
+pub(crate) fn add_report(sums: &mut Losses, report: &ClientReport) {
     for item in report.items.as_slice() {
-        if item.category == Category::Error && item.reason == Reason::NetworkError {
-            errors = errors.wrapping_add(item.quantity);
+        sums.add(&Losses::of(item.category, item.reason, item.quantity));
+    }
+}
+
+/// How many errors these say were lost in the network.
+pub(crate) fn network_errors(losses: &Losses) -> u64 {
+    losses.get(Category::Error, Reason::NetworkError)
+}
+
+/// What came to a transport: how many events, how many different ones, and how many logs.
+#[derive(Clone, Copy, Debug, PartialEq)]
+pub(crate) struct Came {
+    pub(crate) events: u64,
+    pub(crate) different: u64,
+    pub(crate) logs: u64,
+}
+
+pub(crate) fn what_came(alloc: Global, asked: &[Note]) -> Result<Came, AllocError> {
+    let mut ids = Vec::new(alloc);
+    let mut logs = 0u64;
+    for note in asked {
+        match note {
+            Note::Send(id) => ids.push(*id)?,
+            Note::SendLogs(more) => logs = logs.wrapping_add(*more as u64),
+            Note::Flush(_) | Note::Shutdown(_) => {}
         }
     }
-    errors
+    let events = ids.len() as u64;
+    ids.sort()?;
+    ids.dedup();
+    let different = ids.len() as u64;
+    Ok(Came {
+        events,
+        different,
+        logs,
+    })
 }
