@@ -5,7 +5,7 @@ use sentry_base::protocol::{HubKey, Refusal};
 use sentry_lock::{Client, CoreLock, SharedCore, Waiting};
 use sentry_options::ClientOptions;
 use std::alloc::Global;
-use std::sync::atomic::{AtomicU64, Ordering};
+use std::sync::atomic::{AtomicBool, Ordering};
 use std::test::Fail;
 use std::thread::{Threads, join, yield_now};
 
@@ -14,16 +14,26 @@ const ROUNDS: u64 = 8;
 
 const LAYERS: u64 = 50;
 
-const IS_FREE: u64 = 0;
+/// Whether a layer was pushed onto a hub, and whether it was once not given back since one was out.
+#[derive(Drop)]
+struct Turns {
+    is_pushed: AtomicBool,
+    is_refused: AtomicBool,
+}
 
-const IS_PUSHED: u64 = 1;
+impl Turns {
+    fn new() -> Turns {
+        Turns {
+            is_pushed: AtomicBool::new(false),
+            is_refused: AtomicBool::new(false),
+        }
+    }
+}
 
-const IS_REFUSED: u64 = 2;
-
-/// Waits for a state, and gives up after many looks.
-fn wait_for(state: &AtomicU64, wanted: u64) {
+/// Waits until it is so, and gives up after many looks.
+fn wait_for(is_so: &AtomicBool) {
     for _ in 0..LOOKS {
-        if state.load(Ordering::SeqCst) == wanted {
+        if is_so.load(Ordering::SeqCst) {
             return;
         }
         yield_now();
@@ -36,15 +46,15 @@ fn capture_within<L: CoreLock>(
     core: &SharedCore<L>,
     hub: HubKey,
     number: u64,
-    state: &AtomicU64,
+    turns: &Turns,
 ) -> Result<bool, Refusal> {
     let guard = match core.push_scope(hub) {
         Ok(guard) => guard,
         Err(Refusal::Stale) => return Ok(false),
         Err(refusal) => return Err(refusal),
     };
-    drop(state.compare_exchange(IS_FREE, IS_PUSHED, Ordering::SeqCst, Ordering::SeqCst));
-    wait_for(state, IS_REFUSED);
+    turns.is_pushed.store(true, Ordering::SeqCst);
+    wait_for(&turns.is_refused);
     let captured = capture(core, hub, number);
     pop_in_turn(core, guard)?;
     captured?;
@@ -62,10 +72,10 @@ fn capture_all<L: CoreLock>(
     core: &SharedCore<L>,
     hub: HubKey,
     first: u64,
-    state: &AtomicU64,
+    turns: &Turns,
 ) -> Result<u64, Refusal> {
     for count in 0..LAYERS {
-        if !capture_within(core, hub, first.wrapping_add(count), state)? {
+        if !capture_within(core, hub, first.wrapping_add(count), turns)? {
             return Ok(count);
         }
     }
@@ -73,15 +83,15 @@ fn capture_all<L: CoreLock>(
 }
 
 /// Gives the hub back once no layer is out, and its client then.
-fn release<L: CoreLock>(client: &Client<L>, hub: HubKey, state: &AtomicU64) -> Result<(), Refusal> {
-    wait_for(state, IS_PUSHED);
+fn release<L: CoreLock>(client: &Client<L>, hub: HubKey, turns: &Turns) -> Result<(), Refusal> {
+    wait_for(&turns.is_pushed);
     for _ in 0..LOOKS {
         if client.drop_client().err() != Some(Refusal::StillNamed) {
             return Err(Refusal::StillNamed);
         }
         match client.core().lock_hub(hub).release_hub(1) {
             Ok(()) => return client.drop_client(),
-            Err(Refusal::ScopesOpen) => state.store(IS_REFUSED, Ordering::SeqCst),
+            Err(Refusal::ScopesOpen) => turns.is_refused.store(true, Ordering::SeqCst),
             Err(refusal) => return Err(refusal),
         }
         yield_now();
@@ -104,15 +114,15 @@ where
 {
     let held = Held::on(core, options, Some(transport))?;
     let hub = core.new_hub(Some(held.client.key()), new_scope(core))?;
-    let state = AtomicU64::new(IS_FREE);
+    let turns = Turns::new();
     let (released, (one, other)) = join(
         rt,
-        || release(&held.client, hub, &state),
+        || release(&held.client, hub, &turns),
         || {
             join(
                 rt,
-                || capture_all(core, hub, first, &state),
-                || capture_all(core, hub, first.wrapping_add(LAYERS), &state),
+                || capture_all(core, hub, first, &turns),
+                || capture_all(core, hub, first.wrapping_add(LAYERS), &turns),
             )
         },
     );

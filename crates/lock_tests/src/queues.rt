@@ -9,7 +9,7 @@ use sentry_lock::{Client, CoreLock, SharedCore, Waiting};
 use sentry_transport::QueueTransport;
 use std::alloc::{AllocError, Global};
 use std::num::NonZeroUsize;
-use std::sync::atomic::{AtomicU64, Ordering};
+use std::sync::atomic::{AtomicBool, Ordering};
 use std::sync::{Arc, Wait};
 use std::test::Fail;
 use std::thread::{Threads, join, yield_now};
@@ -77,7 +77,7 @@ fn send<L: CoreLock>(client: &Client<L>, first: u64, end: u64) -> Result<(), Ref
 fn send_in_two_threads<R: Threads + Sync, L: CoreLock + Send + Sync + 'static>(
     rt: &R,
     client: &Client<L>,
-    is_over: &AtomicU64,
+    is_over: &AtomicBool,
 ) -> Result<(), Refusal>
 where
     L::Processor: Send + Sync + 'static,
@@ -85,15 +85,15 @@ where
     L::Transport: Send + Sync + 'static,
 {
     let (first, second) = join(rt, || send(client, 11, 111), || send(client, 111, 211));
-    is_over.store(1, Ordering::SeqCst);
+    is_over.store(true, Ordering::SeqCst);
     first?;
     second
 }
 
 /// Pumps until all is sent, and limits events meanwhile at ever more of the moments from 0 to 5.
-fn pump_and_limit<R: Wait + Drop>(queue: &Queue<R>, is_over: &AtomicU64) {
+fn pump_and_limit<R: Wait + Drop>(queue: &Queue<R>, is_over: &AtomicBool) {
     for turn in 0..PUMPS {
-        if is_over.load(Ordering::SeqCst) != 0 {
+        if is_over.load(Ordering::SeqCst) {
             return;
         }
         queue.limit(Some(Category::Error), turn % 7);
@@ -139,7 +139,7 @@ fn what_a_queue_loses_is_told(rt: HostRuntime) -> Result<(), Fail> {
     queue.limit(Some(Category::Error), 1);
     // the first event is limited, and the queue is full after the third
     send(&held.client, 1, 11)?;
-    let is_over = AtomicU64::new(0);
+    let is_over = AtomicBool::new(false);
     let (sent, ()) = join(
         &rt,
         || send_in_two_threads(&rt, &held.client, &is_over),
