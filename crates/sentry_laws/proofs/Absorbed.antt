@@ -1,8 +1,9 @@
 -- What a call that absorbs nothing and adds no client leaves of what the books absorbed.
-use Rattle.std.proofs.Common.{◌≡◌, refl, ap, ◌∙◌, sym, subst, ℕ, List, [], ◌∷◌, ◌++◌, Bool, true, false, cond}
+use Rattle.std.proofs.Common.{◌≡◌, refl, ap, ◌∙◌, sym, subst, ℕ, List, [], ◌∷◌, ◌++◌, Bool, true, false}
 use Rattle.std.specs.Prelude.{Option, Some, None, ◌==◌, ◌||◌, unwrap_or, if◌then◌else◌}
 use Rattle.std.specs.List.{list_any}
 use Rattle.sentry_plain.specs.Tables.{value_at, replace_at, without}
+use Rattle.sentry_plain.proofs.NumberLemmas.{same_number}
 use Rattle.sentry_base.specs.declared.protocol.envelope.Envelope.{Envelope}
 use Rattle.sentry_base.specs.declared.protocol.keys.ClientKey.{ClientKey}
 use Rattle.sentry_base.specs.declared.protocol.keys.Label.{Label}
@@ -12,6 +13,7 @@ use Rattle.sentry_sending.specs.Sending.{after_sending, send}
 use Rattle.sentry_state.specs.Changes.{with_client_history}
 use Rattle.sentry_state.specs.Books.{with_entry}
 use Rattle.sentry_state.specs.Worlds.{World}
+use Rattle.sentry_state.proofs.Keeping.{replace_absent}
 use Rattle.std.specs.Prelude.{Result, Ok, Err}
 use Rattle.sentry_base.specs.declared.protocol.refusal.Refusal.{Refusal}
 use Rattle.sentry_base.specs.Callbacks.{Partial}
@@ -36,26 +38,13 @@ use Rattle.sentry_laws.specs.SentItems.{handed_in}
 use Rattle.sentry_laws.proofs.Changes.{Change, Changes, nothing, one, both, after_arrival, envelopes_on_arrival, makes_hub, makes_hub_from, changes_hub, leaves_hub, notes_event_id, releases_hub, adds_client, clones_client, drops_client, arrives, accepts, accepts_none, mails, loses, takes_report, absorbs, starts_none, starts_session, changes_session, ends_session, starts_transaction, starts_span, changes_spans}
 use Rattle.sentry_laws.specs.Losses.{absorbed, leaves_absorbed}
 use Rattle.sentry_laws.proofs.Increasing.{IsIncreasing, increasing_replaced, increasing_without, without_if}
-use Rattle.sentry_laws.proofs.Found.{found_replaced, same_number, left_over}
-use Rattle.std.specs.Ordering.{nat_cmp}
-use Rattle.std.specs.BTreeMap.{is_at}
+use Rattle.sentry_laws.proofs.Found.{found_replaced, left_over}
 
 -- each book that is there was there before, and has absorbed the same
 pub record KeepsBooks (old new : List (ℕ × List LossEntry)) : Type 0 where
   pub increasing : IsIncreasing 0 old → IsIncreasing 0 new
   pub same : IsIncreasing 0 old → (n : ℕ) (now : List LossEntry) → value_at new n ≡ Some now
       → (before : List LossEntry) × (value_at old n ≡ Some before) × ((i : ℕ) → absorbed now i ≡ absorbed before i)
-
-module _ {X : Type 0} where
-  absent-at : (b : Bool) (e : ℕ × X) (es : List (ℕ × X)) (n : ℕ) (x : X) → cond b (Some e.1) (value_at es n) ≡ None
-      → (value_at es n ≡ None → replace_at es n x ≡ es)
-      → cond b ((e.0, x) ∷ es) (e ∷ replace_at es n x) ≡ e ∷ es
-  absent-at true e es n x h rest = absurd cc
-  absent-at false e es n x h rest = ap (λ r. e ∷ r) (rest h)
-
-  pub replace_absent : (m : List (ℕ × X)) (n : ℕ) (x : X) → value_at m n ≡ None → replace_at m n x ≡ m
-  replace_absent [] n x h = refl
-  replace_absent (e ∷ es) n x h = absent-at (is_at (nat_cmp n) e.0) e es n x h (replace_absent es n x)
 
 module _ where
   pub unchanged : (books : List (ℕ × List LossEntry)) → KeepsBooks books books

@@ -6,6 +6,7 @@ use Rattle.std.specs.Prelude.{Option, Some, None, Result, Ok, Err, if◌then◌e
 use Rattle.std.specs.List.{list_any}
 use Rattle.std.specs.Option.{option_map, option_to_list}
 use Rattle.sentry_plain.specs.Tables.{value_at}
+use Rattle.sentry_plain.proofs.NumberLemmas.{same_number}
 use Rattle.sentry_base.specs.Callbacks.{Partial}
 use Rattle.sentry_base.specs.declared.protocol.envelope.Envelope.{Envelope}
 use Rattle.sentry_base.specs.declared.protocol.keys.ClientKey.{ClientKey}
@@ -47,7 +48,7 @@ use Rattle.sentry_laws.specs.Accepted.{comes_to, comes_under, comes_on, logs_by,
 use Rattle.sentry_laws.proofs.Effects.{Came, a_log, a_metric, came_to_queues, effects, client_effects, hub_effects}
 use Rattle.sentry_laws.proofs.Changes.{kind_of, Arrival, log_came, metric_came, session_ended, flush_came, after_arrival}
 use Rattle.sentry_laws.proofs.Closings.{IsClosedBy, closed_next, none_closed}
-use Rattle.sentry_laws.proofs.Found.{same_number, found_replaced, found_below}
+use Rattle.sentry_laws.proofs.Found.{found_replaced, found_below}
 use Rattle.sentry_laws.proofs.Keeping.{trail_of}
 use Rattle.sentry_laws.proofs.Numbered.{IsNumbered, numbered_changes, none_numbered}
 use Rattle.sentry_laws.proofs.OneClient.{Follows, follows_call, is_mine}

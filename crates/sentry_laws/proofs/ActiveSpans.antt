@@ -4,6 +4,7 @@ use Rattle.std.specs.Prelude.{Option, Some, None, Result, ◌==◌, ◌&&◌, is
 use Rattle.std.specs.List.{AllByRecursion, list_any}
 use Rattle.std.specs.Option.{option_map, option_and_then}
 use Rattle.sentry_plain.specs.Tables.{value_at, put, replace_at, without}
+use Rattle.sentry_plain.proofs.NumberLemmas.{same_number, equal_to_itself}
 use Rattle.sentry_base.specs.Callbacks.{Partial}
 use Rattle.sentry_base.specs.declared.protocol.breadcrumb.Breadcrumb.{Breadcrumb}
 use Rattle.sentry_base.specs.declared.protocol.envelope.Envelope.{Envelope}
@@ -42,7 +43,7 @@ use Rattle.sentry_laws.specs.OwnCalls.{LayerChange, scope_edited, breadcrumbs_ca
 use Rattle.sentry_laws.proofs.Effects.{Effect}
 use Rattle.sentry_laws.proofs.Changes.{Change, SpanChange, changes_transaction, changes_span, keeps_span, drops_transaction, drops_span, held_options, IsAllowed, after_arrival, envelopes_on_arrival, makes_hub, makes_hub_from, changes_hub, leaves_hub, sets_session, notes_event_id, releases_hub, adds_client, clones_client, drops_client, arrives, accepts, accepts_none, mails, loses, takes_report, absorbs, starts_none, starts_session, changes_session, ends_session, starts_transaction, starts_span, changes_spans}
 use Rattle.sentry_laws.specs.Reachable.{ActiveSpansAreHeld}
-use Rattle.sentry_laws.proofs.Found.{same_number, found_put, found_replaced, found_without, all_by, all_without, own_number}
+use Rattle.sentry_laws.proofs.Found.{found_put, found_replaced, found_without, all_by, all_without}
 use Rattle.sentry_laws.proofs.Keeping.{kept_by_run}
 use Rattle.sentry_laws.proofs.Layers.{AllLayers, all_map, all_pushed, all_popped}
 use Rattle.sentry_laws.proofs.Numbered.{IsNumbered, client_numbered, numbered_change, none_numbered}
@@ -150,7 +151,7 @@ apart_numbers : (tag key_tag key_number other_tag other_number : ℕ) → (key_t
 apart_numbers tag key_tag key_number other_tag other_number own own_other apart =
     let tags : other_tag ≡ key_tag = same_number other_tag tag own_other ∙ sym (same_number key_tag tag own) in
     sym (ap (λ t. (t == key_tag) && (other_number == key_number)) tags ∙ ap (λ b. b && (other_number == key_number))
-    (own_number key_tag)) ∙ apart
+    (equal_to_itself key_tag)) ∙ apart
 
 -- what is found under a key has the tag of the engine
 key_tag : {X : Type 0} (tag : ℕ) (m : List (ℕ × X)) (key_tag_ number : ℕ) (x : X)

@@ -26,17 +26,16 @@ use Rattle.sentry_options.specs.Meanings.{Meanings, call_on_each}
 use Rattle.sentry_options.specs.declared.clientoptions.ClientOptions.{ClientOptions}
 use Rattle.sentry_scope.specs.declared.scope.Scope as declared_scope
 use Rattle.sentry_scope.specs.declared.scope.edit.ScopeEdit.{ScopeEdit}
-use Rattle.sentry_scope.specs.declared.scope.stack.Stack.{Stack}
-use Rattle.sentry_scope.specs.declared.scope.stack.StackLayer.{StackLayer}
 use Rattle.sentry_scope.specs.EditLists.{all_name_held_spans, renames_after}
 use Rattle.sentry_scope.specs.Scopes.{edit_all}
-use Rattle.sentry_scope.specs.Stacks.{depth, push, pop, stack_of_any}
+use Rattle.sentry_scope.specs.Stacks.{depth, push, pop}
 use Rattle.sentry_sessions.specs.Sessions.{session_attributes, start_of}
 use Rattle.sentry_pipeline.specs.Pipeline.{loss_reason}
 use Rattle.sentry_pipeline.specs.Pipeline as pipeline
 use Rattle.sentry_hub_table.specs.declared.hub.HubState.{HubState}
 use Rattle.sentry_state.specs.Worlds.{World, ClientHistory, stored_client, span_table}
 use Rattle.sentry_state.specs.Outcomes.{client_at, hub_at, is_held_or_none, reply_with}
+use Rattle.sentry_state.proofs.Keeping.{popped_same}
 use Rattle.sentry_hub_table.specs.Hubs.{with_stack, with_scope, with_client, with_session}
 use Rattle.sentry_span_table.specs.SpanTables.{has_transaction_of, is_held}
 use Rattle.sentry_calls.specs.Clients.{holds_active_span}
@@ -77,11 +76,6 @@ use Rattle.sentry_laws.proofs.CaptureTrails.{fate_of, captures, captures_with_se
 
 abbrev quiet : {P C T : Type 0} → T → List (Effect P C)
 quiet reply = []
-
-popped_same : {P : Type 0} (below : List (StackLayer P)) (one_ other : Stack P) → nat_lt 0 (length below) ≡ true
-    → stack_of_any below one_ ≡ stack_of_any below other
-popped_same [] one_ other h = absurd (grind (arith, nat_tests))
-popped_same (lowest ∷ above) one_ other h = refl
 
 above_ground : (deep given : ℕ) → (deep == given && nat_lt 0 given) ≡ true → nat_lt 0 deep ≡ true
 above_ground deep given top =
@@ -453,7 +447,7 @@ module _ {P C : Type 0} (meanings : C → Meanings) where
       told_named meanings None tt (quiet_last meanings None (releases meanings key.number hub now world here).changes
       (changes_hub _ key.number (with_session hub None) (with_stack hub (pop hub.stack)) layer_popped
       (found_released key.number hub now world here)
-      (popped_same hub.stack.below hub.stack (with_session hub None).stack (above_ground (depth hub.stack) given top))
+      (sym (popped_same hub (above_ground (depth hub.stack) given top)))
       tt)) refl (popped_named key.number hub now world here) (λ n h. absurd cc)))
 
   told_release : (key : HubKey) (now : ℕ) (world : World P C)

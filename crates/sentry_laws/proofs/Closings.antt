@@ -5,6 +5,7 @@ use Rattle.std.specs.Prelude.{Option, Some, None, Result, Ok, Err, if◌then◌e
 use Rattle.std.specs.List.{list_any}
 use Rattle.std.specs.Option.{option_map}
 use Rattle.sentry_plain.specs.Tables.{value_at}
+use Rattle.sentry_plain.proofs.NumberLemmas.{same_number}
 use Rattle.sentry_base.specs.Callbacks.{Partial}
 use Rattle.sentry_base.specs.declared.protocol.envelope.Envelope.{Envelope}
 use Rattle.sentry_base.specs.declared.protocol.keys.ClientKey.{ClientKey}
@@ -34,7 +35,7 @@ use Rattle.sentry_calls.specs.Steps.{client_step}
 use Rattle.sentry_laws.specs.Closed.{closes, is_closed_by, HasNothingWaiting, ClosedByCalls}
 use Rattle.sentry_laws.proofs.Effects.{a_close, effects, client_effects, hub_effects}
 use Rattle.sentry_laws.proofs.Changes.{kind_of, Arrival, log_came, metric_came, session_ended, flush_came, after_arrival}
-use Rattle.sentry_laws.proofs.Found.{same_number, found_replaced, found_below}
+use Rattle.sentry_laws.proofs.Found.{found_replaced, found_below}
 use Rattle.sentry_laws.proofs.Keeping.{trail_of}
 use Rattle.sentry_laws.proofs.Numbered.{IsNumbered, numbered_changes, none_numbered}
 use Rattle.sentry_laws.proofs.OneClient.{Follows, follows_call, is_mine}

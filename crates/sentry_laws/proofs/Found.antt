@@ -5,19 +5,11 @@ use Rattle.std.specs.Prelude.{Option, Some, None, ◌==◌, if◌then◌else◌}
 use Rattle.std.specs.BTreeMap.{is_at}
 use Rattle.std.specs.Ordering.{nat_cmp}
 use Rattle.sentry_plain.specs.Tables.{value_at, put, replace_at, without}
+use Rattle.sentry_plain.proofs.NumberLemmas.{same_number}
 use Rattle.sentry_laws.proofs.Tables.{AreBelow, own_put, others_put, own_replaced, others_replaced, gone, others_without}
-
-pub same_number : (k n : ℕ) → (k == n) ≡ true → k ≡ n
-same_number k n e = grind (arith, nat_tests)
 
 pub other_number : (k n : ℕ) → (k == n) ≡ false → k ≢ n
 other_number k n e = grind (arith, nat_tests)
-
-pub own_number : (n : ℕ) → (n == n) ≡ true
-own_number n = grind (arith, nat_tests)
-
-pub other_way : (a b : ℕ) → (a == b) ≡ (b == a)
-other_way a b = grind (arith, nat_tests)
 
 module _ {X : Type 0} where
   -- what is found although something may be gone

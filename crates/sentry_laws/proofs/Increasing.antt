@@ -7,7 +7,8 @@ use Rattle.std.specs.declared.cmp.Ordering.TheVariants.{Less, Equal, Greater}
 use Rattle.std.specs.Ordering.{match_ordering, nat_cmp}
 use Rattle.std.specs.BTreeMap.{is_at}
 use Rattle.sentry_plain.specs.Tables.{value_at, put, replace_at, without}
-use Rattle.sentry_laws.proofs.Found.{same_number, other_number}
+use Rattle.sentry_plain.proofs.NumberLemmas.{same_number}
+use Rattle.sentry_laws.proofs.Found.{other_number}
 use Rattle.sentry_laws.proofs.Tables.{others_without, at_same}
 
 lower_ : (a b : ℕ) → nat_cmp a b ≡ Less → a < b

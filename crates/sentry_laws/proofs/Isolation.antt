@@ -7,6 +7,7 @@ use Rattle.std.specs.List.{list_any, AllByRecursion}
 use Rattle.sentry_laws.specs.Reachable.{ClientsAreHeld}
 use Rattle.std.specs.Option.{option_map, option_and_then}
 use Rattle.sentry_plain.specs.Tables.{value_at, put, replace_at, without}
+use Rattle.sentry_plain.proofs.NumberLemmas.{same_number}
 use Rattle.sentry_base.specs.Callbacks.{Partial}
 use Rattle.sentry_base.specs.declared.protocol.breadcrumb.Breadcrumb.{Breadcrumb}
 use Rattle.sentry_base.specs.declared.protocol.envelope.Envelope.{Envelope}
@@ -43,7 +44,7 @@ use Rattle.std.specs.BTreeMap.{is_at}
 use Rattle.std.specs.Ordering.{nat_cmp}
 use Rattle.sentry_client_reports.specs.LossBooks.{LossEntry}
 use Rattle.sentry_laws.proofs.Tables.{AreBelow, below_put, below_replaced, below_without}
-use Rattle.sentry_laws.proofs.Found.{same_number, found_put, found_replaced, found_without, all_by, all_without}
+use Rattle.sentry_laws.proofs.Found.{found_put, found_replaced, found_without, all_by, all_without}
 use Rattle.sentry_laws.proofs.Trails.{found_under, seen_in, own_seen}
 use Rattle.sentry_laws.proofs.Keeping.{trail_of}
 use Rattle.sentry_laws.proofs.SendingTrails.{own_tag}

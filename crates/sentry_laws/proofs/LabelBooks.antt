@@ -6,6 +6,7 @@ use Rattle.std.proofs.Math.Bool.{and-false}
 use Rattle.std.specs.Prelude.{Option, Some, None, Result, Ok, Err, ◌==◌, ◌&&◌, ◌||◌, if◌then◌else◌}
 use Rattle.std.specs.Option.{is_some}
 use Rattle.sentry_plain.specs.Tables.{value_at, put, replace_at, without}
+use Rattle.sentry_plain.proofs.NumberLemmas.{same_number, equal_to_itself, equal_turned}
 use Rattle.sentry_base.specs.Callbacks.{Partial}
 use Rattle.sentry_base.specs.declared.protocol.envelope.Envelope.{Envelope}
 use Rattle.sentry_base.specs.declared.protocol.keys.ClientKey.{ClientKey}
@@ -19,6 +20,7 @@ use Rattle.sentry_state.specs.Books.{with_book, with_entry, is_label, has_client
 use Rattle.sentry_state.specs.Changes.{with_client_history}
 use Rattle.sentry_state.specs.Clients.{clone_from}
 use Rattle.sentry_state.specs.Worlds.{World, ClientHistory, starting_world}
+use Rattle.sentry_state.proofs.Keeping.{replace_absent}
 use Rattle.sentry_calls.specs.declared.call.Call.{Call}
 use Rattle.sentry_calls.specs.declared.call.Reply.{Reply}
 use Rattle.sentry_calls.specs.Runs.{Run, StepsTo}
@@ -26,9 +28,9 @@ use Rattle.sentry_laws.proofs.Effects.{Effect}
 use Rattle.sentry_laws.proofs.Changes.{Change, Arrival, log_came, metric_came, session_ended, flush_came, after_arrival, envelopes_on_arrival, makes_hub, makes_hub_from, changes_hub, leaves_hub, notes_event_id, releases_hub, adds_client, clones_client, drops_client, arrives, accepts, accepts_none, mails, loses, takes_report, absorbs, starts_none, starts_session, changes_session, ends_session, starts_transaction, starts_span, changes_spans}
 use Rattle.sentry_laws.specs.Reachable.{BooksAreOfClients}
 use Rattle.sentry_laws.proofs.Tables.{AreBelow, below_put, below_replaced, below_without}
-use Rattle.sentry_laws.proofs.Found.{same_number, found_put, found_replaced, own_number, other_way}
+use Rattle.sentry_laws.proofs.Found.{found_put, found_replaced}
 use Rattle.sentry_laws.proofs.Increasing.{IsIncreasing, increasing_put, increasing_replaced, increasing_without, without_if}
-use Rattle.sentry_laws.proofs.Absorbed.{replace_absent, call_keeps}
+use Rattle.sentry_laws.proofs.Absorbed.{call_keeps}
 use Rattle.sentry_laws.specs.Losses.{AbsorbedStays}
 use Rattle.sentry_laws.proofs.Tests.{passes_put, passes_replaced, passes_without, passes_found, or_none}
 use Rattle.sentry_laws.proofs.Trails.{found_under}
@@ -40,7 +42,7 @@ or_known false true h = absurd (let e : false ≡ true = h refl in cc)
 or_known false false h = refl
 
 pub is_own_label : (label : Label) → is_label label label ≡ true
-is_own_label label = ap (λ b. b && (label.number == label.number)) (own_number label.tag) ∙ own_number label.number
+is_own_label label = ap (λ b. b && (label.number == label.number)) (equal_to_itself label.tag) ∙ equal_to_itself label.number
 
 -- ---- whether a book is there
 
@@ -161,8 +163,8 @@ module _ {P C : Type 0} where
         ∙ (added-by (label.tag == world.tag) (label.number == client.label.number)
         (is_some (value_at world.books label.number)) (has_client_of label world.clients) (is_label label client.label)
         (ap (λ t. (t == label.tag) && (client.label.number == label.number)) (same_number client.label.tag world.tag own)
-        ∙ (ap (λ b. b && (client.label.number == label.number)) (other_way world.tag label.tag)
-        ∙ ap (λ b. (label.tag == world.tag) && b) (other_way client.label.number label.number)))
+        ∙ (ap (λ b. b && (client.label.number == label.number)) (equal_turned world.tag label.tag)
+        ∙ ap (λ b. (label.tag == world.tag) && b) (equal_turned client.label.number label.number)))
         (h.same label)
         ∙ sym (passes_put (λ (c : ClientHistory C). is_label label c.label)
         world.next.client client world.clients h.clients));
@@ -202,7 +204,7 @@ module _ {P C : Type 0} where
   dropped_own world n client found h false is =
       ap (λ o. (client.label.tag == world.tag) && is_some o)
       (without_if 0 client.label.number client.label.number world.books h.books
-      ∙ ap (λ b. if b then None else value_at world.books client.label.number) (own_number client.label.number))
+      ∙ ap (λ b. if b then None else value_at world.books client.label.number) (equal_to_itself client.label.number))
       ∙ and-false (client.label.tag == world.tag)
 
   -- another label
@@ -226,8 +228,8 @@ module _ {P C : Type 0} where
           ∙ sym (same_number other.tag world.tag own) in
           let both_ : is_label label other ≡ true =
           ap (λ n. (n == label.tag) && (other.number == label.number)) (sym tags)
-          ∙ (ap (λ b. b && (other.number == label.number)) (own_number label.tag)
-          ∙ (other_way other.number label.number ∙ e)) in
+          ∙ (ap (λ b. b && (other.number == label.number)) (equal_to_itself label.tag)
+          ∙ (equal_turned other.number label.number ∙ e)) in
           absurd cc
 
   dropped-by : (world : World P C) (n : ℕ) (client : ClientHistory C) (label : Label)

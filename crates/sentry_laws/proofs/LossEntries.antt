@@ -4,12 +4,13 @@ use Rattle.std.proofs.lemmas.Bool.Decides.{nat_tests}
 use Rattle.std.specs.Prelude.{Option, Some, None, ◌==◌, ◌&&◌, unwrap_or, if◌then◌else◌}
 use Rattle.std.specs.Option.{is_some}
 use Rattle.sentry_plain.specs.Tables.{value_at, put, replace_at, without}
+use Rattle.sentry_plain.proofs.NumberLemmas.{same_number, equal_to_itself, equal_turned}
 use Rattle.sentry_base.specs.declared.protocol.keys.Label.{Label}
 use Rattle.sentry_client_reports.specs.LossBooks.{LossEntry, engine_losses, drained_losses, report_point}
 use Rattle.sentry_state.specs.Books.{with_book, is_label}
+use Rattle.sentry_state.proofs.Keeping.{replace_absent}
 use Rattle.sentry_laws.specs.LossesByCalls.{losses_in}
-use Rattle.sentry_laws.proofs.Absorbed.{replace_absent}
-use Rattle.sentry_laws.proofs.Found.{same_number, found_put, found_replaced, own_number, other_way}
+use Rattle.sentry_laws.proofs.Found.{found_put, found_replaced}
 use Rattle.sentry_laws.proofs.Increasing.{IsIncreasing, without_if}
 
 -- what the book at a number holds, reports aside
@@ -95,4 +96,4 @@ pub same_labels : (label other : Label) (tag : ℕ) → (label.tag == tag) ≡ t
 same_labels label other tag of_engine others =
     let tags : label.tag ≡ other.tag = same_number label.tag tag of_engine ∙ sym (same_number other.tag tag others) in
     ap (λ t. (other.tag == t) && (other.number == label.number)) tags
-    ∙ (ap (λ b. b && (other.number == label.number)) (own_number other.tag) ∙ other_way other.number label.number)
+    ∙ (ap (λ b. b && (other.number == label.number)) (equal_to_itself other.tag) ∙ equal_turned other.number label.number)

@@ -3,7 +3,7 @@ use Rattle.std.proofs.Common.{◌≡◌, ◌<◌, ◌≤◌, ◌+◌, ◌/◌, �
 use Rattle.std.proofs.lemmas.Bool.Decides.{nat_tests}
 use Rattle.std.proofs.lemmas.List.Sums.{sum_by-cons, sum_by-append}
 use Rattle.std.specs.Prelude.{◌==◌, slice_index, sum_by}
-use Rattle.sentry_laws.proofs.Found.{same_number}
+use Rattle.sentry_plain.proofs.NumberLemmas.{same_number}
 use Rattle.sentry_base.specs.Losses.{category_at, reason_at, loss_index, loss_of}
 use Rattle.sentry_base.proofs.ByIndex.{at_index, length_by_index}
 use Rattle.sentry_base.specs.declared.protocol.client_report.ClientReportItem.{ClientReportItem}

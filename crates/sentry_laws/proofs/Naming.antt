@@ -5,6 +5,7 @@ use Rattle.std.specs.Prelude.{Option, Some, None, if◌then◌else◌, ◌==◌,
 use Rattle.std.specs.List.{list_any}
 use Rattle.std.specs.Option.{option_and_then}
 use Rattle.sentry_plain.specs.Tables.{value_at, put, replace_at, without}
+use Rattle.sentry_plain.proofs.NumberLemmas.{same_number}
 use Rattle.sentry_base.specs.declared.protocol.breadcrumb.Breadcrumb.{Breadcrumb}
 use Rattle.sentry_base.specs.declared.protocol.envelope.Envelope.{Envelope}
 use Rattle.sentry_base.specs.declared.protocol.keys.ClientKey.{ClientKey}
@@ -26,7 +27,7 @@ use Rattle.sentry_laws.proofs.Effects.{Effect, seen, session_named, session_begu
 use Rattle.sentry_laws.proofs.Changes.{Change, Changes, nothing, one, both, held_options, after_arrival, envelopes_on_arrival, makes_hub, makes_hub_from, changes_hub, leaves_hub, sets_session, notes_event_id, releases_hub, adds_client, clones_client, drops_client, arrives, accepts, accepts_none, mails, loses, takes_report, absorbs, starts_none, starts_session, changes_session, ends_session, starts_transaction, starts_span, changes_spans}
 use Rattle.sentry_laws.specs.Reachable.{SessionsAreNamed}
 use Rattle.sentry_laws.proofs.Tables.{AreBelow}
-use Rattle.sentry_laws.proofs.Found.{same_number, found_replaced, found_without}
+use Rattle.sentry_laws.proofs.Found.{found_replaced, found_without}
 use Rattle.sentry_laws.proofs.Tests.{passes_put, passes_raised, or_rest, any_first, any_second}
 use Rattle.sentry_laws.proofs.Numbered.{IsNumbered, numbered_changes}
 

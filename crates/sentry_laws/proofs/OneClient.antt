@@ -3,6 +3,7 @@ use Rattle.std.proofs.Common.{◌≡◌, ◌<◌, refl, ap, ◌∙◌, sym, subs
 use Rattle.std.specs.Prelude.{Option, Some, None, Result, Ok, if◌then◌else◌, ◌==◌, ◌||◌}
 use Rattle.std.specs.List.{list_any}
 use Rattle.sentry_plain.specs.Tables.{value_at, put}
+use Rattle.sentry_plain.proofs.NumberLemmas.{same_number}
 use Rattle.sentry_base.specs.Callbacks.{Partial}
 use Rattle.sentry_base.specs.declared.protocol.envelope.Envelope.{Envelope}
 use Rattle.sentry_base.specs.declared.protocol.keys.ClientKey.{ClientKey}
@@ -22,7 +23,7 @@ use Rattle.sentry_calls.specs.Runs.{StepsTo}
 use Rattle.sentry_laws.proofs.Effects.{Came, a_log, a_metric, a_close, Effect, came_to_queues, effects}
 use Rattle.sentry_laws.proofs.Changes.{Change, Changes, nothing, one, both, IsArrival, kind_of, Arrival, log_came, metric_came, session_ended, flush_came, after_arrival, envelopes_on_arrival, makes_hub, makes_hub_from, changes_hub, leaves_hub, notes_event_id, releases_hub, adds_client, clones_client, drops_client, arrives, accepts, accepts_none, mails, loses, takes_report, absorbs, starts_none, starts_session, changes_session, ends_session, starts_transaction, starts_span, changes_spans}
 use Rattle.sentry_laws.proofs.Tables.{AreBelow, below_put, below_replaced, below_without}
-use Rattle.sentry_laws.proofs.Found.{same_number, found_put, found_replaced, found_without}
+use Rattle.sentry_laws.proofs.Found.{found_put, found_replaced, found_without}
 use Rattle.sentry_laws.proofs.Keeping.{trail_of}
 use Rattle.std.proofs.lemmas.Bool.{or_parts}
 use Rattle.sentry_laws.proofs.Tests.{any_first, any_second}

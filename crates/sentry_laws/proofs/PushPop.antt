@@ -7,6 +7,7 @@ use Rattle.std.specs.Prelude.{Option, Some, None, Result, Ok, Err, if◌then◌e
 use Rattle.std.specs.List.{list_any}
 use Rattle.std.specs.Option.{option_map, option_and_then}
 use Rattle.sentry_plain.specs.Tables.{value_at, put, replace_at, without}
+use Rattle.sentry_plain.proofs.NumberLemmas.{same_number, equal_to_itself}
 use Rattle.sentry_base.specs.Callbacks.{Partial}
 use Rattle.sentry_base.specs.declared.protocol.breadcrumb.Breadcrumb.{Breadcrumb}
 use Rattle.sentry_base.specs.declared.protocol.envelope.Envelope.{Envelope}
@@ -46,7 +47,7 @@ use Rattle.sentry_laws.specs.SentItems.{handed_in}
 use Rattle.sentry_laws.specs.PartsOfRuns.{IfElse}
 use Rattle.sentry_laws.specs.PushPop.{pops, PopLeaves, UndoesPush, PushesAreUndone, stack_at, PopUndoesPush}
 use Rattle.sentry_laws.proofs.Tables.{AreBelow, below_put, below_replaced, below_without, own_replaced, others_put}
-use Rattle.sentry_laws.proofs.Found.{same_number, found_replaced, found_without, found_below, own_number}
+use Rattle.sentry_laws.proofs.Found.{found_replaced, found_without, found_below}
 use Rattle.sentry_laws.proofs.Tests.{any_first, any_second}
 use Rattle.sentry_laws.proofs.SendingTrails.{found_released}
 use Rattle.sentry_laws.proofs.Trails.{found_under, own_any, neither}
@@ -147,7 +148,7 @@ module _ {P C : Type 0} (meanings : C → Meanings) (n : ℕ) (base : List (Stac
   change_on options (client_bound client) stack not_popped s = s
   change_on options layer_pushed stack not_popped s =
       (s.0 ++ stack.top ∷ [], ap (λ l. l ++ stack.top ∷ []) s.1 ∙ append_assoc base s.0 (stack.top ∷ []))
-  change_on options layer_popped stack not_popped s = neither (n == n) not_popped (own_number n)
+  change_on options layer_popped stack not_popped s = neither (n == n) not_popped (equal_to_itself n)
 
   replaced-on : (b : Bool) (world : World P C) (number : ℕ) (old new : HubState P) → value_at world.hubs number ≡ Some old
       → (n == number) ≡ b → (n ≡ number → StandsOn old.stack → StandsOn new.stack) → OnBase world

@@ -6,6 +6,7 @@ use Rattle.std.specs.Prelude.{Option, Some, None, if◌then◌else◌, ◌==◌,
 use Rattle.std.specs.List.{list_any}
 use Rattle.sentry_plain.specs.Tables.{value_at, replace_at, without}
 use Rattle.sentry_plain.specs.Texts.{Bytes}
+use Rattle.sentry_plain.proofs.NumberLemmas.{same_number}
 use Rattle.sentry_base.specs.declared.protocol.keys.SessionKey.{SessionKey}
 use Rattle.sentry_base.specs.declared.protocol.keys.TransactionKey.{TransactionKey}
 use Rattle.sentry_scope.specs.declared.scope.stack.Stack.{Stack}
@@ -26,7 +27,7 @@ use Rattle.sentry_span_table.specs.SpanLists.{TransactionHistory}
 use Rattle.sentry_calls.specs.Hubs.{with_renames}
 use Rattle.sentry_laws.specs.Reachable.{SessionsAreNamed}
 use Rattle.sentry_laws.proofs.Tables.{AreBelow, below_put, own_replaced}
-use Rattle.sentry_laws.proofs.Found.{same_number, found_put}
+use Rattle.sentry_laws.proofs.Found.{found_put}
 use Rattle.sentry_laws.proofs.Tests.{passes_found, passes_raised, passes_without}
 use Rattle.sentry_laws.proofs.Numbered.{IsNumbered}
 use Rattle.sentry_laws.proofs.Naming.{IsNamed, has_session, is_on, hub_replaced_named, without_before}

@@ -6,6 +6,7 @@ use Rattle.std.specs.Prelude.{Option, Some, None, Result, Ok, Err, ◌==◌, ◌
 use Rattle.std.specs.List.{list_any}
 use Rattle.std.specs.Option.{is_some, option_and_then}
 use Rattle.sentry_plain.specs.Tables.{value_at, put, replace_at, without}
+use Rattle.sentry_plain.proofs.NumberLemmas.{same_number, equal_to_itself, equal_turned}
 use Rattle.sentry_base.proofs.ByIndex.{at_index}
 use Rattle.sentry_base.specs.Callbacks.{Partial}
 use Rattle.sentry_base.specs.Envelopes.{with_report}
@@ -51,7 +52,7 @@ use Rattle.sentry_laws.proofs.Changes.{Change, Changes, nothing, one, both, is_b
 use Rattle.sentry_laws.specs.Losses.{told_by, reported}
 use Rattle.sentry_laws.specs.Reports.{told_by_item, told_by_items, own_items, told_by_envelopes, has_label, told_by_reply, told_by_answer, history_of, told_since, ReportsAddUp}
 use Rattle.sentry_laws.specs.SentItems.{handed_in, batches_among}
-use Rattle.sentry_laws.proofs.Found.{same_number, found_put, found_replaced, found_without, own_number, other_way, left_over}
+use Rattle.sentry_laws.proofs.Found.{found_put, found_replaced, found_without, left_over}
 use Rattle.sentry_laws.proofs.Increasing.{without_if}
 use Rattle.sentry_laws.proofs.Keeping.{trail_of, kept_by_call}
 use Rattle.sentry_laws.proofs.LabelBooks.{HasBooks, books_change, changed_books, entered_books, no_books, label_known, arrival_label, kept_books}
@@ -326,14 +327,14 @@ module _ (label : Label) (i : ℕ) where
         let tags : other.tag ≡ label.tag = same_number other.tag world.tag of_engine
         ∙ sym (same_number label.tag world.tag own) in
         let is : is_label label other ≡ true = ap (λ t. (t == label.tag) && (other.number == label.number)) tags
-        ∙ (ap (λ b. b && (other.number == label.number)) (own_number label.tag)
-        ∙ (ap (λ n. n == label.number) (sym numbers) ∙ own_number label.number)) in
+        ∙ (ap (λ b. b && (other.number == label.number)) (equal_to_itself label.tag)
+        ∙ (ap (λ n. n == label.number) (sym numbers) ∙ equal_to_itself label.number)) in
         let same : entry ∷ held ≡ history = cc in
         ap (λ n. n + more) (adds held (ap (value_at world.books) numbers ∙ at))
         ∙ (sym (tells is) ∙ ap (λ h. reported h i) same)
     entry-by told more world other entry held history own of_engine at tells silent adds false e found =
         ap (λ n. told + n) (silent (and_right (other.tag == label.tag) (other.number == label.number)
-        (other_way other.number label.number ∙ e))) ∙ (no_more told ∙ adds history found)
+        (equal_turned other.number label.number ∙ e))) ∙ (no_more told ∙ adds history found)
 
     entered-some : (told more : ℕ) (world : World P C) (other : Label) (entry : LossEntry) (o : Option (List LossEntry))
         → value_at world.books other.number ≡ o → is_some o ≡ true → (other.tag == world.tag) ≡ true

@@ -5,6 +5,7 @@ use Rattle.std.specs.Prelude.{Option, Some, None, Result, Ok, Err, if◌then◌e
 use Rattle.std.specs.List.{list_any}
 use Rattle.std.specs.Option.{option_and_then}
 use Rattle.sentry_plain.specs.Tables.{value_at, put}
+use Rattle.sentry_plain.proofs.NumberLemmas.{same_number}
 use Rattle.sentry_base.specs.Callbacks.{Partial}
 use Rattle.sentry_base.specs.declared.protocol.breadcrumb.Breadcrumb.{Breadcrumb}
 use Rattle.sentry_base.specs.declared.protocol.envelope.Envelope.{Envelope}
@@ -43,7 +44,7 @@ use Rattle.sentry_laws.specs.OwnCalls.{LayerChange, scope_edited, breadcrumbs_ca
 use Rattle.sentry_laws.proofs.Effects.{Effect, seen, session_named, effects, client_effects, hub_effects}
 use Rattle.sentry_laws.proofs.Changes.{IsGiven, Change, Changes, nothing, one, both, held_options, after_arrival, envelopes_on_arrival, makes_hub, makes_hub_from, changes_hub, leaves_hub, sets_session, notes_event_id, releases_hub, adds_client, clones_client, drops_client, arrives, accepts, accepts_none, mails, loses, takes_report, absorbs, starts_none, starts_session, changes_session, ends_session, starts_transaction, starts_span, changes_spans}
 use Rattle.sentry_laws.proofs.Tables.{AreBelow, below_put, below_replaced, below_without, others_put}
-use Rattle.sentry_laws.proofs.Found.{same_number, found_replaced, found_without, all_without, found_below}
+use Rattle.sentry_laws.proofs.Found.{found_replaced, found_without, all_without, found_below}
 use Rattle.sentry_laws.proofs.Increasing.{gone_}
 use Rattle.sentry_laws.proofs.Tests.{any_first, any_second}
 use Rattle.sentry_laws.proofs.Naming.{is_naming, is_begun}

@@ -7,6 +7,7 @@ use Rattle.std.specs.Prelude.{Option, Some, None, Result, Ok, Err, if◌then◌e
 use Rattle.std.specs.List.{list_any, AllByRecursion}
 use Rattle.std.specs.Option.{option_map, option_to_list}
 use Rattle.sentry_plain.specs.Tables.{value_at, put, without}
+use Rattle.sentry_plain.proofs.NumberLemmas.{same_number}
 use Rattle.sentry_base.specs.Callbacks.{Partial}
 use Rattle.sentry_base.specs.declared.protocol.client_report.ClientReport.{ClientReport}
 use Rattle.sentry_base.specs.declared.protocol.envelope.Envelope.{Envelope}
@@ -50,7 +51,7 @@ use Rattle.sentry_laws.proofs.Dropping.{Drops, is_dropped, own_dropped, call_dro
 use Rattle.sentry_laws.proofs.Keeping.{trail_of}
 use Rattle.sentry_laws.proofs.Numbered.{IsNumbered, numbered_changes, none_numbered}
 use Rattle.sentry_laws.proofs.Tables.{AreBelow, below_put, below_replaced, below_without, others_put}
-use Rattle.sentry_laws.proofs.Found.{same_number, found_put, found_replaced, found_without, found_below}
+use Rattle.sentry_laws.proofs.Found.{found_put, found_replaced, found_without, found_below}
 use Rattle.sentry_laws.proofs.Trails.{found_under, Trail, TellsBy}
 use Rattle.sentry_laws.proofs.Calls.{told_step}
 

@@ -4,6 +4,7 @@ use Rattle.std.proofs.lemmas.Bool.Decides.{nat_tests}
 use Rattle.std.specs.Prelude.{Option, Some, None, Result, Ok, Err, if◌then◌else◌, ◌==◌, length}
 use Rattle.std.specs.Option.{option_and_then}
 use Rattle.sentry_plain.specs.Tables.{value_at, put, replace_at}
+use Rattle.sentry_plain.proofs.NumberLemmas.{same_number}
 use Rattle.sentry_base.specs.Callbacks.{Partial}
 use Rattle.sentry_base.specs.declared.protocol.breadcrumb.Breadcrumb.{Breadcrumb}
 use Rattle.sentry_base.specs.declared.protocol.envelope.Envelope.{Envelope}
@@ -40,7 +41,7 @@ use Rattle.sentry_laws.proofs.Changes.{Change, Changes, nothing, one, both, held
 use Rattle.sentry_laws.specs.SentItems.{handed_in}
 use Rattle.sentry_laws.proofs.Tables.{AreBelow, below_put, below_replaced, below_without, others_put}
 use Rattle.sentry_laws.proofs.Increasing.{IsIncreasing, increasing_put, increasing_replaced, increasing_without, without_if}
-use Rattle.sentry_laws.proofs.Found.{same_number, found_put, found_replaced, found_without, all_by, all_without}
+use Rattle.sentry_laws.proofs.Found.{found_put, found_replaced, found_without, all_by, all_without}
 use Rattle.sentry_laws.proofs.Trails.{Trail, TellsBy}
 use Rattle.sentry_laws.proofs.Calls.{told_step}
 

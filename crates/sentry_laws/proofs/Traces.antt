@@ -6,6 +6,7 @@ use Rattle.std.specs.BTreeMap.{is_at}
 use Rattle.std.specs.Option.{option_map}
 use Rattle.std.specs.Ordering.{nat_cmp}
 use Rattle.sentry_plain.specs.Tables.{value_at, replace_at}
+use Rattle.sentry_plain.proofs.NumberLemmas.{same_number, equal_to_itself}
 use Rattle.sentry_base.specs.Callbacks.{Partial}
 use Rattle.sentry_base.specs.declared.protocol.envelope.Envelope.{Envelope}
 use Rattle.sentry_base.specs.declared.protocol.ids.TraceId.{TraceId}
@@ -37,7 +38,7 @@ use Rattle.sentry_calls.specs.declared.call.Reply.{Reply}
 use Rattle.sentry_laws.proofs.Effects.{Effect}
 use Rattle.sentry_laws.proofs.Changes.{Change, SpanChange, changes_transaction, changes_span, keeps_span, drops_transaction, drops_span, after_arrival, envelopes_on_arrival, makes_hub, makes_hub_from, changes_hub, leaves_hub, notes_event_id, releases_hub, adds_client, clones_client, drops_client, arrives, accepts, accepts_none, mails, loses, takes_report, absorbs, starts_none, starts_session, changes_session, ends_session, starts_transaction, starts_span, changes_spans}
 use Rattle.sentry_laws.specs.Traces.{KeptSpansAreInTrace, HeldSpansAreInTrace}
-use Rattle.sentry_laws.proofs.Found.{same_number, found_put, found_replaced, found_without, all_by, all_without, own_number}
+use Rattle.sentry_laws.proofs.Found.{found_put, found_replaced, found_without, all_by, all_without}
 use Rattle.sentry_laws.proofs.Keeping.{kept_by_run}
 use Rattle.sentry_laws.proofs.Numbered.{IsNumbered, client_numbered, numbered_change, none_numbered}
 use Rattle.sentry_laws.proofs.Numbers.{free_from}
@@ -196,7 +197,7 @@ module _ {P C : Type 0} where
       let tags : other.tag ≡ key.tag = same_number other.tag world.tag own_other
       ∙ sym (same_number key.tag world.tag own) in
       sym (ap (λ t. (t == key.tag) && (other.number == key.number)) tags ∙ ap (λ b. b && (other.number == key.number))
-      (own_number key.tag)) ∙ apart
+      (equal_to_itself key.tag)) ∙ apart
 
   traced_spans : (world : World P C) (transactions : List (ℕ × TransactionHistory)) (spans : List (ℕ × SpanRecord))
       → SpanChange world transactions spans

@@ -2,7 +2,7 @@
 use Rattle.std.proofs.Common.{◌≡◌, ◌≢◌, refl, ap, ◌∙◌, sym, subst, [], ◌∷◌, true, false}
 use Rattle.std.specs.List.{AllByRecursion}
 use Rattle.std.specs.Prelude.{Some, ◌||◌}
-use Rattle.sentry_laws.proofs.Found.{own_number}
+use Rattle.sentry_plain.proofs.NumberLemmas.{equal_to_itself}
 use Rattle.sentry_hub_table.specs.Hubs.{is_session_named}
 use Rattle.sentry_base.specs.declared.protocol.envelope.EnvelopeItem.TheVariants as item
 use Rattle.sentry_base.specs.declared.protocol.session.SessionStatus.{SessionStatus}
@@ -26,7 +26,7 @@ silent_refused P C world key client log found occupied logs sends =
 
 pub kept_log_refused : (P C : Type 0) → KeptLogIsRefused P C
 kept_log_refused P C world key client log found waits closed =
-    let none = ((closed key.number client found).1 (ap (λ b. b || false) (own_number key.number))).0 in
+    let none = ((closed key.number client found).1 (ap (λ b. b || false) (equal_to_itself key.number))).0 in
     let no : [] ≡ log ∷ [] = sym none ∙ waits in
     absurd cc
 
