@@ -1,6 +1,6 @@
 -- What a call that absorbs nothing and adds no client leaves of what the books absorbed.
-use Rattle.std.proofs.Common.{◌≡◌, refl, ap, ◌∙◌, sym, subst, ℕ, List, [], ◌∷◌, ◌++◌, Bool, true, false}
-use Rattle.std.specs.Prelude.{Option, Some, None, ◌==◌, ◌||◌, unwrap_or, if◌then◌else◌}
+use Rattle.std.proofs.Common.{◌≡◌, refl, ap, ◌∙◌, sym, subst, ℕ, List, [], ◌∷◌, Bool, true, false}
+use Rattle.std.specs.Prelude.{Option, Some, None, ◌==◌, unwrap_or, if◌then◌else◌}
 use Rattle.std.specs.List.{list_any}
 use Rattle.sentry_plain.specs.Tables.{value_at, replace_at, without}
 use Rattle.sentry_plain.proofs.NumberLemmas.{same_number}
@@ -17,8 +17,6 @@ use Rattle.sentry_state.proofs.Keeping.{replace_absent}
 use Rattle.std.specs.Prelude.{Result, Ok, Err}
 use Rattle.sentry_base.specs.declared.protocol.refusal.Refusal.{Refusal}
 use Rattle.sentry_base.specs.Callbacks.{Partial}
-use Rattle.sentry_scope.specs.declared.scope.stack.Stack.{Stack}
-use Rattle.sentry_scope.specs.Stacks.{one_layer}
 use Rattle.sentry_state.specs.declared.state.Out.{Out}
 use Rattle.sentry_calls.specs.declared.call.Call.{Call}
 use Rattle.sentry_calls.specs.declared.call.Call.TheVariants as group
@@ -35,7 +33,7 @@ use Rattle.sentry_laws.proofs.Tests.{any_first, any_second}
 use Rattle.sentry_laws.proofs.Trails.{own_any, TellsBy}
 use Rattle.sentry_laws.proofs.Calls.{told_step}
 use Rattle.sentry_laws.specs.SentItems.{handed_in}
-use Rattle.sentry_laws.proofs.Changes.{Change, Changes, nothing, one, both, after_arrival, envelopes_on_arrival, makes_hub, makes_hub_from, changes_hub, leaves_hub, notes_event_id, releases_hub, adds_client, clones_client, drops_client, arrives, accepts, accepts_none, mails, loses, takes_report, absorbs, starts_none, starts_session, changes_session, ends_session, starts_transaction, starts_span, changes_spans}
+use Rattle.sentry_laws.proofs.Changes.{Change, Changes, nothing, one, both, after_arrival, envelopes_on_arrival, adds_client, drops_client, arrives, accepts, mails, loses, takes_report, absorbs}
 use Rattle.sentry_laws.specs.Losses.{absorbed, leaves_absorbed}
 use Rattle.sentry_laws.proofs.Increasing.{IsIncreasing, increasing_replaced, increasing_without, without_if}
 use Rattle.sentry_laws.proofs.Found.{found_replaced, left_over}

@@ -1,5 +1,5 @@
 -- What a client accepts is what the calls bring to it.
-use Rattle.std.proofs.Common.{◌≡◌, ◌<◌, refl, ap, ◌∙◌, sym, subst, ℕ, ◌+◌, List, [], ◌∷◌, ◌++◌, Bool, true, false, arith, ◌⊎◌, inl, inr}
+use Rattle.std.proofs.Common.{◌≡◌, refl, ap, ◌∙◌, sym, subst, ℕ, List, [], ◌∷◌, ◌++◌, Bool, true, false, inl, inr}
 use Rattle.std.proofs.lemmas.List.{append-nil}
 use Rattle.std.proofs.Math.Bool.{and-false}
 use Rattle.std.specs.Prelude.{Option, Some, None, Result, Ok, Err, if◌then◌else◌, ◌==◌, ◌&&◌, ◌||◌, not}
@@ -45,7 +45,7 @@ use Rattle.sentry_calls.specs.Steps.{client_step, hub_step}
 use Rattle.sentry_calls.specs.Replies.{map_answer}
 use Rattle.sentry_laws.specs.Closed.{closes}
 use Rattle.sentry_laws.specs.Accepted.{comes_to, comes_under, comes_on, logs_by, metrics_by, AcceptsByCalls, AcceptsLogsByCalls, AcceptsMetricsByCalls}
-use Rattle.sentry_laws.proofs.Effects.{Came, a_log, a_metric, came_to_queues, effects, client_effects, hub_effects}
+use Rattle.sentry_laws.proofs.Effects.{Came, a_log, a_metric, effects, client_effects, hub_effects}
 use Rattle.sentry_laws.proofs.Changes.{kind_of, Arrival, log_came, metric_came, session_ended, flush_came, after_arrival}
 use Rattle.sentry_laws.proofs.Closings.{IsClosedBy, closed_next, none_closed}
 use Rattle.sentry_laws.proofs.Found.{found_replaced, found_below}

@@ -21,7 +21,6 @@ use Rattle.sentry_batches.specs.Batches.{accept, batch_on}
 use Rattle.sentry_client_reports.specs.LossBooks.{engine_losses, drained_losses, report_point}
 use Rattle.sentry_scope.specs.EditLists.{all_name_held_spans}
 use Rattle.sentry_scope.specs.declared.scope.Scope.{Scope}
-use Rattle.sentry_scope.specs.declared.scope.stack.Stack.{Stack}
 use Rattle.sentry_scope.specs.Stacks.{one_layer, top_alone, depth}
 use Rattle.sentry_sessions.specs.SessionQueues.{enqueued, envelopes_on}
 use Rattle.sentry_sessions.specs.Sessions.{SessionEntry}

@@ -17,7 +17,7 @@ use Rattle.sentry_telemetry.specs.Flushes.{flush_queues, flushed_envelopes, afte
 use Rattle.sentry_sending.specs.Sending.{send, send_nothing, send_some, reply_sending, after_sending}
 use Rattle.sentry_state.specs.declared.state.Out.{Out}
 use Rattle.sentry_state.specs.Clients.{queues_from}
-use Rattle.sentry_state.specs.Outcomes.{Outcome, require_some, client_at}
+use Rattle.sentry_state.specs.Outcomes.{require_some, client_at}
 use Rattle.sentry_state.specs.Changes.{with_client_history}
 use Rattle.sentry_state.specs.Worlds.{World, ClientHistory, stored_client, starting_world}
 use Rattle.sentry_calls.specs.Clients as clients
@@ -38,7 +38,7 @@ use Rattle.sentry_laws.proofs.Changes.{kind_of, Arrival, log_came, metric_came, 
 use Rattle.sentry_laws.proofs.Found.{found_replaced, found_below}
 use Rattle.sentry_laws.proofs.Keeping.{trail_of}
 use Rattle.sentry_laws.proofs.Numbered.{IsNumbered, numbered_changes, none_numbered}
-use Rattle.sentry_laws.proofs.OneClient.{Follows, follows_call, is_mine}
+use Rattle.sentry_laws.proofs.OneClient.{follows_call, is_mine}
 use Rattle.sentry_laws.proofs.Parts.{flush_part}
 use Rattle.sentry_laws.proofs.Tests.{or_none, or_more}
 use Rattle.sentry_laws.proofs.Trails.{neither, found_under}

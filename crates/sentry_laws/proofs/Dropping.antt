@@ -21,7 +21,7 @@ use Rattle.sentry_calls.specs.declared.call.hubs.HubCall.TheVariants.{NewHub, Ne
 use Rattle.sentry_calls.specs.declared.call.Reply.{Reply}
 use Rattle.sentry_calls.specs.declared.call.Reply.TheVariants as reply
 use Rattle.sentry_laws.proofs.Effects.{Effect, client_dropped, effects, client_effects, hub_effects}
-use Rattle.sentry_laws.proofs.Changes.{Change, Changes, nothing, one, both, after_arrival, envelopes_on_arrival, makes_hub, makes_hub_from, changes_hub, leaves_hub, notes_event_id, releases_hub, adds_client, clones_client, drops_client, arrives, accepts, accepts_none, mails, loses, takes_report, absorbs, starts_none, starts_session, changes_session, ends_session, starts_transaction, starts_span, changes_spans}
+use Rattle.sentry_laws.proofs.Changes.{Change, Changes, nothing, one, both, after_arrival, envelopes_on_arrival, adds_client, clones_client, drops_client, arrives, accepts}
 use Rattle.sentry_laws.proofs.Found.{found_put, found_replaced, found_without}
 use Rattle.sentry_laws.proofs.Numbered.{IsNumbered, numbered_changes}
 use Rattle.sentry_laws.proofs.Tests.{any_first, any_second}

@@ -102,7 +102,7 @@ use Rattle.sentry_calls.specs.declared.call.spans.records.SpanCall.TheVariants a
 use Rattle.sentry_calls.specs.declared.call.spans.records.SpanReply.TheVariants as span_reply
 use Rattle.sentry_laws.specs.LossesByCalls.{losses_in, lost_item, lost_at, lost_on, lost_by_fate, lost_with_span, lost_unsampled, lost_with_transaction, lost_prepared, lost_captured, losses_by, losses_by_answer, RecordsLosses, RecordsLossesByCalls}
 use Rattle.sentry_laws.specs.Reports.{history_of}
-use Rattle.sentry_laws.proofs.Changes.{Change, makes_hub, makes_hub_from, changes_hub, leaves_hub, notes_event_id, releases_hub, adds_client, clones_client, drops_client, arrives, accepts, accepts_none, mails, loses, takes_report, absorbs, starts_none, starts_session, changes_session, ends_session, starts_transaction, starts_span, changes_spans}
+use Rattle.sentry_laws.proofs.Changes.{Change, arrives, accepts}
 use Rattle.sentry_laws.proofs.Effects.{Effect}
 use Rattle.sentry_laws.proofs.Keeping.{kept_by_call, kept_by_changes}
 use Rattle.sentry_laws.proofs.LabelBooks.{HasBooks, books_change, no_books, label_known, kept_books}

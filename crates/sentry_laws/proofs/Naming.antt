@@ -24,7 +24,7 @@ use Rattle.sentry_state.specs.Outcomes.{session_at}
 use Rattle.sentry_state.specs.Worlds.{World, SessionHistory}
 use Rattle.sentry_laws.specs.OwnCalls.{LayerChange, scope_edited, breadcrumbs_came, client_bound, layer_pushed, layer_popped, hub_changed, hub_released, change_layers, add_under}
 use Rattle.sentry_laws.proofs.Effects.{Effect, seen, session_named, session_begun}
-use Rattle.sentry_laws.proofs.Changes.{Change, Changes, nothing, one, both, held_options, after_arrival, envelopes_on_arrival, makes_hub, makes_hub_from, changes_hub, leaves_hub, sets_session, notes_event_id, releases_hub, adds_client, clones_client, drops_client, arrives, accepts, accepts_none, mails, loses, takes_report, absorbs, starts_none, starts_session, changes_session, ends_session, starts_transaction, starts_span, changes_spans}
+use Rattle.sentry_laws.proofs.Changes.{Change, Changes, nothing, one, both, held_options, after_arrival, envelopes_on_arrival, makes_hub, makes_hub_from, changes_hub, sets_session, notes_event_id, releases_hub, arrives, accepts, starts_session, changes_session, ends_session}
 use Rattle.sentry_laws.specs.Reachable.{SessionsAreNamed}
 use Rattle.sentry_laws.proofs.Tables.{AreBelow}
 use Rattle.sentry_laws.proofs.Found.{found_replaced, found_without}

@@ -13,7 +13,7 @@ use Rattle.sentry_state.specs.Clients.{clone_from}
 use Rattle.sentry_hub_table.specs.declared.hub.HubState.{HubState}
 use Rattle.sentry_state.specs.Worlds.{World, ClientHistory, starting_world}
 use Rattle.sentry_laws.proofs.Effects.{Effect}
-use Rattle.sentry_laws.proofs.Changes.{Change, Changes, nothing, one, both, SpanChange, changes_transaction, changes_span, keeps_span, drops_transaction, drops_span, after_arrival, envelopes_on_arrival, makes_hub, makes_hub_from, changes_hub, leaves_hub, sets_session, notes_event_id, releases_hub, adds_client, clones_client, drops_client, arrives, accepts, accepts_none, mails, loses, takes_report, absorbs, starts_none, starts_session, changes_session, ends_session, starts_transaction, starts_span, changes_spans}
+use Rattle.sentry_laws.proofs.Changes.{Change, Changes, nothing, one, both, SpanChange, changes_transaction, changes_span, keeps_span, drops_transaction, drops_span, after_arrival, envelopes_on_arrival, makes_hub, makes_hub_from, changes_hub, sets_session, notes_event_id, releases_hub, adds_client, clones_client, drops_client, arrives, accepts, starts_session, changes_session, ends_session, starts_transaction, starts_span, changes_spans}
 use Rattle.sentry_laws.proofs.Tables.{AreBelow, below_put, below_replaced, below_without}
 
 module _ {P C : Type 0} where

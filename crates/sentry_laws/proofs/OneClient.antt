@@ -1,6 +1,6 @@
 -- What a call keeps of one client, where it brings nothing of one kind to its queues.
 use Rattle.std.proofs.Common.{◌≡◌, ◌<◌, refl, ap, ◌∙◌, sym, subst, ℕ, ◌+◌, List, [], ◌∷◌, Bool, true, false, arith, ◌⊎◌, inl, inr}
-use Rattle.std.specs.Prelude.{Option, Some, None, Result, Ok, if◌then◌else◌, ◌==◌, ◌||◌}
+use Rattle.std.specs.Prelude.{Option, Some, None, Ok, if◌then◌else◌, ◌==◌}
 use Rattle.std.specs.List.{list_any}
 use Rattle.sentry_plain.specs.Tables.{value_at, put}
 use Rattle.sentry_plain.proofs.NumberLemmas.{same_number}
@@ -8,7 +8,6 @@ use Rattle.sentry_base.specs.Callbacks.{Partial}
 use Rattle.sentry_base.specs.declared.protocol.envelope.Envelope.{Envelope}
 use Rattle.sentry_base.specs.declared.protocol.keys.ClientKey.{ClientKey}
 use Rattle.sentry_base.specs.declared.protocol.keys.Label.{Label}
-use Rattle.sentry_base.specs.declared.protocol.refusal.Refusal.{Refusal}
 use Rattle.sentry_options.specs.Meanings.{Meanings}
 use Rattle.sentry_client_reports.specs.LossBooks.{LossEntry}
 use Rattle.sentry_sending.specs.Sending.{send, after_sending}
@@ -21,7 +20,7 @@ use Rattle.sentry_calls.specs.declared.call.Call.{Call}
 use Rattle.sentry_calls.specs.declared.call.Reply.{Reply}
 use Rattle.sentry_calls.specs.Runs.{StepsTo}
 use Rattle.sentry_laws.proofs.Effects.{Came, a_log, a_metric, a_close, Effect, came_to_queues, effects}
-use Rattle.sentry_laws.proofs.Changes.{Change, Changes, nothing, one, both, IsArrival, kind_of, Arrival, log_came, metric_came, session_ended, flush_came, after_arrival, envelopes_on_arrival, makes_hub, makes_hub_from, changes_hub, leaves_hub, notes_event_id, releases_hub, adds_client, clones_client, drops_client, arrives, accepts, accepts_none, mails, loses, takes_report, absorbs, starts_none, starts_session, changes_session, ends_session, starts_transaction, starts_span, changes_spans}
+use Rattle.sentry_laws.proofs.Changes.{Change, Changes, nothing, one, both, IsArrival, kind_of, Arrival, log_came, metric_came, session_ended, flush_came, after_arrival, envelopes_on_arrival, adds_client, clones_client, drops_client, arrives, accepts}
 use Rattle.sentry_laws.proofs.Tables.{AreBelow, below_put, below_replaced, below_without}
 use Rattle.sentry_laws.proofs.Found.{found_put, found_replaced, found_without}
 use Rattle.sentry_laws.proofs.Keeping.{trail_of}

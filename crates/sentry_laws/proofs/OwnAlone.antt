@@ -1,7 +1,7 @@
 -- The effects on a hub alone give its layers.
 use Rattle.std.proofs.Common.{◌≡◌, refl, ap, ◌∙◌, sym, ℕ, List, [], ◌∷◌, Bool, true, false}
 use Rattle.std.proofs.lemmas.Bool.{or_parts}
-use Rattle.std.specs.Prelude.{Option, Some, None, ◌==◌, ◌||◌, if◌then◌else◌}
+use Rattle.std.specs.Prelude.{Option, Some, None, ◌==◌, if◌then◌else◌}
 use Rattle.std.specs.List.{list_any}
 use Rattle.std.specs.Option.{option_map}
 use Rattle.sentry_base.specs.declared.protocol.keys.ClientKey.{ClientKey}

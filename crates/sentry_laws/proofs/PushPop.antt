@@ -1,7 +1,6 @@
 -- A pop undoes the push whose layer it pops.
 use Rattle.std.proofs.Common.{◌≡◌, ◌<◌, refl, ap, ◌∙◌, sym, subst, ℕ, ◌+◌, List, [], ◌∷◌, ◌++◌, Bool, true, false, cond, length, append_assoc, length-append, arith}
 use Rattle.std.proofs.lemmas.Bool.{and_parts, or_parts, eq-eqb}
-use Rattle.std.proofs.lemmas.Bool.Decides.{nat_tests}
 use Rattle.std.proofs.lemmas.List.{append-nil}
 use Rattle.std.specs.Prelude.{Option, Some, None, Result, Ok, Err, if◌then◌else◌, ◌==◌, ◌&&◌, ◌||◌, nat_lt}
 use Rattle.std.specs.List.{list_any}
@@ -38,15 +37,14 @@ use Rattle.sentry_calls.specs.declared.call.Reply.{Reply}
 use Rattle.sentry_calls.specs.declared.call.Reply.TheVariants as reply
 use Rattle.sentry_calls.specs.Layers as layer_calls
 use Rattle.sentry_calls.specs.Runs.{StepsTo, Run}
-use Rattle.sentry_calls.specs.Steps.{step, hub_step}
+use Rattle.sentry_calls.specs.Steps.{hub_step}
 use Rattle.sentry_calls.specs.Replies.{map_answer}
 use Rattle.sentry_laws.specs.OwnCalls.{LayerChange, scope_edited, breadcrumbs_came, client_bound, layer_pushed, layer_popped, hub_changed, change_layers, add_under}
 use Rattle.sentry_laws.proofs.Effects.{Effect, seen, effects, client_effects, hub_effects}
-use Rattle.sentry_laws.proofs.Changes.{Change, Changes, nothing, one, both, held_options, IsAllowed, after_arrival, envelopes_on_arrival, makes_hub, makes_hub_from, changes_hub, leaves_hub, notes_event_id, releases_hub, adds_client, clones_client, drops_client, arrives, accepts, accepts_none, mails, loses, takes_report, absorbs, sets_session, starts_none, starts_session, changes_session, ends_session, starts_transaction, starts_span, changes_spans}
-use Rattle.sentry_laws.specs.SentItems.{handed_in}
+use Rattle.sentry_laws.proofs.Changes.{Change, Changes, nothing, one, both, held_options, after_arrival, envelopes_on_arrival, makes_hub, makes_hub_from, changes_hub, notes_event_id, releases_hub, arrives, accepts, sets_session}
 use Rattle.sentry_laws.specs.PartsOfRuns.{IfElse}
 use Rattle.sentry_laws.specs.PushPop.{pops, PopLeaves, UndoesPush, PushesAreUndone, stack_at, PopUndoesPush}
-use Rattle.sentry_laws.proofs.Tables.{AreBelow, below_put, below_replaced, below_without, own_replaced, others_put}
+use Rattle.sentry_laws.proofs.Tables.{own_replaced, others_put}
 use Rattle.sentry_laws.proofs.Found.{found_replaced, found_without, found_below}
 use Rattle.sentry_laws.proofs.Tests.{any_first, any_second}
 use Rattle.sentry_laws.proofs.SendingTrails.{found_released}

@@ -1,8 +1,7 @@
 -- What the reports of a label told is what its book says.
-use Rattle.std.proofs.Common.{◌≡◌, ◌<◌, ◌+◌, ◌%◌, ◌^◌, refl, ap, ◌∙◌, sym, subst, ℕ, List, [], ◌∷◌, ◌++◌, Bool, true, false, cond, arith, length, drop, inl, inr, ◌⊎◌}
-use Rattle.std.proofs.lemmas.Bool.Decides.{nat_tests}
+use Rattle.std.proofs.Common.{◌≡◌, ◌<◌, ◌+◌, ◌%◌, ◌^◌, refl, ap, ◌∙◌, sym, subst, ℕ, List, [], ◌∷◌, ◌++◌, Bool, true, false, arith, length, drop, inl, inr, ◌⊎◌}
 use Rattle.std.proofs.lemmas.Bool.{and_parts, or_parts, and_right}
-use Rattle.std.specs.Prelude.{Option, Some, None, Result, Ok, Err, ◌==◌, ◌&&◌, ◌||◌, slice_index, unwrap_or, option_to_list, if◌then◌else◌, nat_lt, ◌-◌}
+use Rattle.std.specs.Prelude.{Option, Some, None, Result, Ok, Err, ◌==◌, ◌&&◌, slice_index, unwrap_or, option_to_list, if◌then◌else◌, nat_lt, ◌-◌}
 use Rattle.std.specs.List.{list_any}
 use Rattle.std.specs.Option.{is_some, option_and_then}
 use Rattle.sentry_plain.specs.Tables.{value_at, put, replace_at, without}
@@ -40,7 +39,7 @@ use Rattle.sentry_calls.specs.Steps.{client_step}
 use Rattle.sentry_calls.specs.declared.call.Call.{Call}
 use Rattle.sentry_calls.specs.declared.call.Call.TheVariants as group
 use Rattle.sentry_calls.specs.declared.call.clients.ClientCall.{ClientCall}
-use Rattle.sentry_calls.specs.declared.call.clients.ClientCall.TheVariants.{AddClient, CloneClient, TakeReport, Absorb}
+use Rattle.sentry_calls.specs.declared.call.clients.ClientCall.TheVariants.{AddClient, CloneClient, TakeReport}
 use Rattle.sentry_calls.specs.declared.call.hubs.HubCall.{HubCall}
 use Rattle.sentry_calls.specs.declared.call.hubs.HubCall.TheVariants.{NewHub, NewHubFromTop}
 use Rattle.sentry_calls.specs.declared.call.Reply.{Reply}
@@ -48,13 +47,13 @@ use Rattle.sentry_calls.specs.declared.call.Reply.TheVariants as reply
 use Rattle.sentry_laws.specs.OwnCalls.{client_added, client_cloned}
 use Rattle.sentry_laws.proofs.Tests.{any_first, any_second}
 use Rattle.sentry_laws.proofs.Effects.{Effect, seen, session_named, report_taken, effects, client_effects, hub_effects}
-use Rattle.sentry_laws.proofs.Changes.{Change, Changes, nothing, one, both, is_batch_or_report, Arrival, log_came, metric_came, session_ended, flush_came, after_arrival, envelopes_on_arrival, makes_hub, makes_hub_from, changes_hub, leaves_hub, notes_event_id, releases_hub, adds_client, clones_client, drops_client, arrives, accepts, accepts_none, mails, loses, takes_report, absorbs, starts_none, starts_session, changes_session, ends_session, starts_transaction, starts_span, changes_spans}
+use Rattle.sentry_laws.proofs.Changes.{Change, Changes, nothing, one, both, is_batch_or_report, Arrival, log_came, metric_came, session_ended, flush_came, after_arrival, envelopes_on_arrival, adds_client, clones_client, drops_client, arrives, accepts, mails, loses, takes_report, absorbs}
 use Rattle.sentry_laws.specs.Losses.{told_by, reported}
 use Rattle.sentry_laws.specs.Reports.{told_by_item, told_by_items, own_items, told_by_envelopes, has_label, told_by_reply, told_by_answer, history_of, told_since, ReportsAddUp}
 use Rattle.sentry_laws.specs.SentItems.{handed_in, batches_among}
 use Rattle.sentry_laws.proofs.Found.{found_put, found_replaced, found_without, left_over}
 use Rattle.sentry_laws.proofs.Increasing.{without_if}
-use Rattle.sentry_laws.proofs.Keeping.{trail_of, kept_by_call}
+use Rattle.sentry_laws.proofs.Keeping.{trail_of}
 use Rattle.sentry_laws.proofs.LabelBooks.{HasBooks, books_change, changed_books, entered_books, no_books, label_known, arrival_label, kept_books}
 use Rattle.sentry_laws.proofs.Losses.{books_balance}
 use Rattle.sentry_laws.proofs.SentBatches.{all_batches}

@@ -1,5 +1,5 @@
 -- What an occupied slot sent is what its client accepted, but for the queue.
-use Rattle.std.proofs.Common.{◌≡◌, ◌≢◌, ◌<◌, ◌≤◌, refl, ap, ◌∙◌, sym, subst, ℕ, ◌+◌, List, [], ◌∷◌, ◌++◌, Bool, true, false, cond, append_assoc, arith, ◌⊎◌, inl, inr}
+use Rattle.std.proofs.Common.{◌≡◌, ◌≢◌, ◌<◌, ◌≤◌, refl, ap, ◌∙◌, sym, subst, ℕ, ◌+◌, List, [], ◌∷◌, ◌++◌, Bool, true, false, append_assoc, arith, ◌⊎◌, inl, inr}
 use Rattle.std.proofs.lemmas.Bool.Decides.{nat_tests}
 use Rattle.std.proofs.lemmas.List.{append-nil}
 use Rattle.std.proofs.lemmas.Bool.{and_parts, or_parts}
@@ -43,7 +43,7 @@ use Rattle.sentry_calls.specs.declared.call.Reply.{Reply}
 use Rattle.sentry_calls.specs.Runs.{StepsTo, Run}
 use Rattle.sentry_calls.specs.Steps.{step, client_step, needs}
 use Rattle.sentry_laws.proofs.Effects.{Effect, effects}
-use Rattle.sentry_laws.proofs.Changes.{Change, Changes, nothing, one, both, is_batch_or_report, after_arrival, envelopes_on_arrival, Arrival, log_came, metric_came, session_ended, flush_came, makes_hub, makes_hub_from, changes_hub, leaves_hub, notes_event_id, releases_hub, adds_client, clones_client, drops_client, arrives, accepts, accepts_none, mails, loses, takes_report, absorbs, starts_none, starts_session, changes_session, ends_session, starts_transaction, starts_span, changes_spans}
+use Rattle.sentry_laws.proofs.Changes.{Change, Changes, nothing, one, both, is_batch_or_report, after_arrival, envelopes_on_arrival, Arrival, log_came, metric_came, session_ended, flush_came, adds_client, clones_client, drops_client, arrives, accepts, mails}
 use Rattle.sentry_laws.specs.SentItems.{handed_in, batches_among, batches_for, batches_by, batches_sent, SendsAccepted, AreSent, what_waits, IsSentBy, SendsAtEachCall}
 use Rattle.sentry_laws.specs.Closed.{closes, HasNothingWaiting}
 use Rattle.sentry_laws.proofs.Closings.{IsClosedBy, closed_next, none_closed}

@@ -30,7 +30,7 @@ use Rattle.sentry_calls.specs.Runs.{Run}
 use Rattle.sentry_laws.specs.SentItems.{handed_in, batches_among}
 use Rattle.sentry_laws.specs.Traces.{ItemIsInTrace, EnvelopeIsInTrace, AreInTrace, SentSpansAreInTrace}
 use Rattle.sentry_laws.proofs.Effects.{Effect}
-use Rattle.sentry_laws.proofs.Changes.{Change, Changes, nothing, one, both, AreOfTransactions, Arrival, log_came, metric_came, session_ended, flush_came, envelopes_on_arrival, makes_hub, makes_hub_from, changes_hub, leaves_hub, notes_event_id, releases_hub, adds_client, clones_client, drops_client, arrives, accepts, accepts_none, mails, loses, takes_report, absorbs, starts_none, starts_session, changes_session, ends_session, starts_transaction, starts_span, changes_spans}
+use Rattle.sentry_laws.proofs.Changes.{Change, Changes, nothing, one, both, AreOfTransactions, Arrival, log_came, metric_came, session_ended, flush_came, envelopes_on_arrival, arrives, accepts, mails}
 use Rattle.sentry_laws.proofs.Keeping.{trail_of}
 use Rattle.sentry_laws.proofs.SentBatches.{all_batches}
 use Rattle.sentry_laws.proofs.SentKinds.{session_none, flushed_none}

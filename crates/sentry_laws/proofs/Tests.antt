@@ -1,11 +1,9 @@
 -- Whether something in a table passes a test, after a change of the table.
-use Rattle.std.proofs.Common.{◌≡◌, ◌<◌, ◌+◌, refl, ap, ◌∙◌, sym, ℕ, List, [], ◌∷◌, ◌++◌, Bool, true, false, cond, arith}
-use Rattle.std.proofs.lemmas.Bool.Decides.{nat_tests}
+use Rattle.std.proofs.Common.{◌≡◌, ◌+◌, refl, ap, ◌∙◌, sym, ℕ, List, [], ◌∷◌, ◌++◌, Bool, true, false, cond}
 use Rattle.std.proofs.lemmas.Bool.{or_parts, or_right}
-use Rattle.std.specs.Prelude.{Some, ◌&&◌, ◌||◌}
+use Rattle.std.specs.Prelude.{Some, ◌||◌}
 use Rattle.std.specs.List.{list_any}
 use Rattle.std.specs.declared.cmp.Ordering.{Ordering}
-use Rattle.std.specs.declared.cmp.Ordering.TheVariants.{Greater}
 use Rattle.std.specs.Ordering.{match_ordering, nat_cmp}
 use Rattle.std.specs.BTreeMap.{is_at}
 use Rattle.sentry_plain.specs.Tables.{value_at, put, replace_at, without}

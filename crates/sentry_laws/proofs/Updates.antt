@@ -1,7 +1,6 @@
 -- Of the updates of one session, none that follows one with another status than `Ok` has another status.
 use Rattle.std.proofs.Common.{◌≡◌, ◌≢◌, ◌≤◌, refl, ap, ◌∙◌, sym, subst, ℕ, zero, suc, ◌+◌, List, [], ◌∷◌, ◌++◌, Bool, true, false, append_assoc, arith, drop, length, ◌⊎◌, inl, inr}
 use Rattle.std.proofs.lemmas.List.{append-nil}
-use Rattle.std.proofs.lemmas.Bool.Decides.{nat_tests}
 use Rattle.std.specs.Prelude.{Option, Some, None, Result, Ok, Err, if◌then◌else◌, ◌==◌, ◌||◌, unwrap_or}
 use Rattle.std.specs.List.{list_any, AllByRecursion}
 use Rattle.std.specs.Option.{option_map}
@@ -45,7 +44,7 @@ use Rattle.sentry_laws.specs.SentItems.{handed_in}
 use Rattle.sentry_laws.specs.Statuses.{Among, status_of, GoesOn}
 use Rattle.sentry_laws.specs.Updates.{updates_in, updates_sent, updates_among, all_queued, queued_at, queued_below, updates_told, StaysEnded, started_id, IsNotStarted, IsStartedOnce, StatusStays}
 use Rattle.sentry_laws.proofs.Effects.{Came, Effect, session_named, session_begun, effects, client_effects, hub_effects}
-use Rattle.sentry_laws.proofs.Changes.{Change, Changes, nothing, one, both, IsOfHeld, AreOfHeld, IsArrival, kind_of, Arrival, log_came, metric_came, session_ended, flush_came, after_arrival, envelopes_on_arrival, makes_hub, makes_hub_from, changes_hub, leaves_hub, notes_event_id, releases_hub, adds_client, clones_client, drops_client, arrives, accepts, accepts_none, mails, loses, takes_report, absorbs, starts_none, starts_session, changes_session, ends_session, starts_transaction, starts_span, changes_spans}
+use Rattle.sentry_laws.proofs.Changes.{Change, Changes, nothing, one, both, IsOfHeld, AreOfHeld, IsArrival, kind_of, Arrival, log_came, metric_came, session_ended, flush_came, after_arrival, envelopes_on_arrival, adds_client, clones_client, drops_client, arrives, accepts, accepts_none, mails, starts_none, starts_session, changes_session, ends_session}
 use Rattle.sentry_laws.proofs.Found.{found_put, found_replaced, found_without, other_number}
 use Rattle.sentry_laws.proofs.Keeping.{trail_of}
 use Rattle.sentry_laws.proofs.Tests.{any_first, any_second}
