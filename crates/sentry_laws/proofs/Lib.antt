@@ -40,6 +40,7 @@ pub mod CallsAddUp
 pub mod Numbers
 pub mod Traces
 pub mod SentTraces
+pub mod FinishedTraces
 pub mod Layers
 pub mod ActiveSpans
 pub mod NamedSessions

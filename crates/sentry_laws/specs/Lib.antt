@@ -13,3 +13,4 @@ pub mod Reachable
 pub mod Reports
 pub mod LossesByCalls
 pub mod Traces
+pub mod FinishedTraces

@@ -22,6 +22,7 @@ ghost use Rattle.sentry_laws.specs.Wrong.{LaterCrashIsRefused, OutlivingSessionI
 ghost use Rattle.sentry_laws.specs.Wrong.{KeptLogIsRefused, OverwrittenStatusIsRefused, ForeignSpanIsRefused};
 ghost use Rattle.sentry_laws.specs.Sessions.{EndsOnce};
 ghost use Rattle.sentry_laws.specs.Traces.{KeptSpansAreInTrace, HeldSpansAreInTrace, SentSpansAreInTrace};
+ghost use Rattle.sentry_laws.specs.FinishedTraces.{FinishedHaveTrace};
 ghost use Rattle.sentry_laws.specs.SentItems.{SendsAcceptedLogs, SendsAcceptedMetrics};
 ghost use Rattle.sentry_laws.specs.SentItems.{SendsLogsAtEachCall, SendsMetricsAtEachCall};
 ghost use Rattle.sentry_laws.specs.Closed.{ClosedByCalls};
@@ -146,7 +147,8 @@ pub fn worlds_are_consistent<P, C>()
 
 /// After any run, each span that a transaction keeps has its trace id; and each span that is held belongs to a
 /// transaction that is held, and has its trace id. Each span of a transaction that was sent is in the trace that the
-/// header of its envelope names.
+/// header of its envelope names. A transaction that finishes is sent with a context `trace` that is a place in that
+/// trace, unless the top scope of the hub has a context `trace`, which then takes its place.
 pub fn spans_are_in_trace<P, C>()
     ensures kept { (gives : P → Partial) (meanings : C → Meanings) (tag start : ℕ) (calls : List (Call P C))
         (answers : List (Result (Out (Reply P C)) Refusal)) (last : World P C)
@@ -157,6 +159,10 @@ pub fn spans_are_in_trace<P, C>()
     ensures sent { (gives : P → Partial) (meanings : C → Meanings) (tag start : ℕ) (calls : List (Call P C))
         (answers : List (Result (Out (Reply P C)) Refusal)) (last : World P C)
         → Run gives meanings (starting_world tag start) calls answers last → SentSpansAreInTrace calls answers }
+    ensures finished { (gives : P → Partial) (meanings : C → Meanings) (tag start : ℕ) (calls : List (Call P C))
+        (answers : List (Result (Out (Reply P C)) Refusal)) (last : World P C)
+        (run : Run gives meanings (starting_world tag start) calls answers last)
+        → FinishedHaveTrace gives meanings (starting_world tag start) calls answers last run }
 {}
 
 /// After any run, for each label that a client has and each index of losses: what the reports of the label told, since
