@@ -41,7 +41,7 @@ use Rattle.sentry_scope.specs.declared.scope.Scope.{Scope}
 use Rattle.sentry_scope.specs.declared.scope.edit.ScopeEdit.{ScopeEdit}
 use Rattle.sentry_scope.specs.EditLists.{all_name_held_spans, renames_after}
 use Rattle.sentry_scope.specs.Stacks.{depth}
-use Rattle.sentry_sessions.specs.Sessions.{session_attributes, start_of}
+use Rattle.sentry_sessions.specs.Sessions.{start_of}
 use Rattle.sentry_client_reports.specs.LossBooks.{LossEntry, engine_losses, drained_losses, report_point}
 use Rattle.sentry_pipeline.specs.Pipeline.{Prepared, loss_reason}
 use Rattle.sentry_pipeline.specs.Pipeline as pipeline
