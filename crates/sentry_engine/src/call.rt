@@ -20,6 +20,7 @@ ghost use Rattle.sentry_laws.specs.Accepted.{AcceptsLogsByCalls, AcceptsMetricsB
 ghost use Rattle.sentry_laws.specs.Closed.{ClosedByCalls};
 ghost use Rattle.sentry_laws.specs.Sessions.{SecondEndsAreSilent};
 ghost use Rattle.sentry_laws.specs.Traces.{KeptSpansAreInTrace, HeldSpansAreInTrace, SentSpansAreInTrace};
+ghost use Rattle.sentry_laws.specs.FinishedTraces.{FinishedHaveTrace};
 ghost use Rattle.sentry_laws.specs.Statuses.{SessionsKeepStatus};
 ghost use Rattle.sentry_laws.specs.Updates.{StatusesStay};
 ghost use Rattle.sentry_state.specs.Outcomes.{DoesWith};
@@ -83,7 +84,8 @@ impl<P: EventCallback + Drop, C: Callbacks> Engine<P, C> {
         ensures traces { IfOk result (λ end. AtEnd P.gives C.meanings tag calls.items end.1.items
             (λ last run. KeptSpansAreInTrace last × HeldSpansAreInTrace last)) }
         ensures sent { IfOk result (λ end. AtEnd P.gives C.meanings tag calls.items end.1.items
-            (λ last run. SentSpansAreInTrace calls.items end.1.items)) }
+            (λ last run. SentSpansAreInTrace calls.items end.1.items
+            × FinishedHaveTrace P.gives C.meanings (first_world tag) calls.items end.1.items last run)) }
         ensures reports { IfOk result (λ end. AtEnd P.gives C.meanings tag calls.items end.1.items
             (λ last run. LabelsAddUp P.gives C.meanings (first_world tag) calls.items end.1.items last run)) }
         ensures losses { IfOk result (λ end. AtEnd P.gives C.meanings tag calls.items end.1.items

@@ -6,6 +6,7 @@ use Rattle.sentry_laws.proofs.Accepted.{accepts_logs, accepts_metrics}
 use Rattle.sentry_laws.proofs.ActiveSpans.{active_spans_held}
 use Rattle.sentry_laws.proofs.Closings.{closed_by_calls}
 use Rattle.sentry_laws.proofs.CallsAddUp.{calls_add_up}
+use Rattle.sentry_laws.proofs.FinishedTraces.{finished_with_trace}
 use Rattle.sentry_laws.proofs.Isolation.{named_clients_held, isolated, keeps_options}
 use Rattle.sentry_laws.proofs.LabelBooks.{books_of_clients}
 use Rattle.sentry_laws.proofs.KeptStatuses.{statuses_kept}
@@ -74,7 +75,10 @@ returns-clause-traces g c = λ last run. (
 )
 
 pub returns-clause-sent : goal.returns-clause-sent
-returns-clause-sent g c = sent_in_trace g.P.EventCallback.gives g.C.Callbacks.meanings c.args.tag 0 c.args.calls.items c.loop-call.answers.items
+returns-clause-sent g c = λ last run. (
+  sent_in_trace g.P.EventCallback.gives g.C.Callbacks.meanings c.args.tag 0 c.args.calls.items c.loop-call.answers.items last run,
+  finished_with_trace g.P.EventCallback.gives g.C.Callbacks.meanings c.args.tag 0 c.args.calls.items c.loop-call.answers.items last run,
+)
 
 pub returns-clause-reports : goal.returns-clause-reports
 returns-clause-reports g c = reports_add_up g.P.EventCallback.gives g.C.Callbacks.meanings c.args.tag 0 c.args.calls.items c.loop-call.answers.items
