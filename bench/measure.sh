@@ -1,6 +1,14 @@
 # What the scripts of this folder measure by; they read it with `.`, and have set `runs`. A command that fails ends them.
 shopt -s inherit_errexit
 
+# sets `bench` to the program of the loops: the one that BENCH names, or the proved one, which is built in this folder first
+set_bench() {
+    bench=${BENCH:-out/bench}
+    if [ -z "${BENCH:-}" ]; then
+        rt run >/dev/null
+    fi
+}
+
 # the least nanoseconds of `runs` runs of a command
 least() {
     local best="" start taken
