@@ -27,3 +27,16 @@ least() {
 instructions() {
     valgrind --tool=callgrind --callgrind-out-file=/dev/null "$@" 2>&1 >/dev/null | awk '/Collected/ { print $4 }'
 }
+
+# so many runs of a command, all at once
+at_once() {
+    local copies=$1 started=() one
+    shift
+    for _ in $(seq "$copies"); do
+        "$@" &
+        started+=($!)
+    done
+    for one in "${started[@]}"; do
+        wait "$one"
+    done
+}
