@@ -6,6 +6,7 @@ mod clocks;
 mod engine_start;
 mod environment;
 mod job_service;
+mod list_of_calls;
 mod log_bridge;
 mod middleware;
 mod order_service;
@@ -37,6 +38,7 @@ use std::{env, io};
 #[derive(Clone, Copy)]
 enum Example {
     EngineStart,
+    ListOfCalls,
     Environment,
     WebShop,
     LogBridge,
@@ -52,8 +54,9 @@ enum Example {
     StockBridge,
 }
 
-const EXAMPLES: [(&str, Example); 14] = [
+const EXAMPLES: [(&str, Example); 15] = [
     ("engine_start", Example::EngineStart),
+    ("list_of_calls", Example::ListOfCalls),
     ("environment", Example::Environment),
     ("web_shop", Example::WebShop),
     ("log_bridge", Example::LogBridge),
@@ -115,6 +118,7 @@ fn run<R: Threads + Wait + Clock + Print + Copy + Drop + Send + Sync + 'static>(
     let alloc = host.alloc();
     match example {
         Example::EngineStart => engine_start::run(&rt, alloc),
+        Example::ListOfCalls => list_of_calls::run(&rt, alloc),
         Example::Environment => environment::run(host),
         Example::WebShop => web_shop::run(&rt, alloc),
         Example::LogBridge => log_bridge::run(host, wait),
