@@ -2,10 +2,11 @@
 use Rattle.std.proofs.Common.{◌≡◌, refl, ap, ◌∙◌, sym, ℕ, List, [], Bool, true, false}
 use Rattle.std.specs.Prelude.{Option, Some, None, ◌==◌, if◌then◌else◌}
 use Rattle.std.specs.Ordering.{is_eq, nat_cmp}
+use Rattle.sentry_plain.proofs.NumberLemmas.{same_number}
 use Rattle.sentry_plain.specs.Tables.{value_at, put, replace_at}
 use Rattle.sentry_base.specs.declared.protocol.keys.Label.{Label}
 use Rattle.sentry_client_reports.specs.LossCounts.{CountedPart}
-use Rattle.sentry_laws.proofs.Found.{found_put, found_replaced, same_number}
+use Rattle.sentry_laws.proofs.Found.{found_put, found_replaced}
 use Rattle.sentry_lock.specs.Words.{Drainers, AreLabelled, DrainsOne, EndsWords}
 
 labelled_at : (b : Bool) (tag number n : ℕ) (slot : Option CountedPart) (drainer : CountedPart)

@@ -8,9 +8,8 @@ use Rattle.sentry_base.proofs.ByIndex.{same_by_index}
 use Rattle.sentry_base.specs.Losses.{sum_losses}
 use Rattle.sentry_base.specs.declared.protocol.keys.Label.{Label}
 use Rattle.sentry_client_reports.specs.LossBooks.{LossEntry, drained_losses, book_of, losses_absorbed, losses_since_report, recorded_losses, reported_losses}
-use Rattle.sentry_laws.proofs.Absorbed.{replace_absent}
 use Rattle.sentry_plain.proofs.ChangeLemmas.{changed_same}
-use Rattle.sentry_state.proofs.Keeping.{replace_at-map_values, value_at-map_values}
+use Rattle.sentry_state.proofs.Keeping.{replace_absent, replace_at-map_values, value_at-map_values}
 use Rattle.sentry_state.specs.Books.{with_entry}
 use Rattle.sentry_state.specs.Worlds.{World, Stands, map_values}
 use Rattle.sentry_state.specs.declared.state.State.{State}
