@@ -2,8 +2,8 @@
 //! and draws are the thread's, and are asked for only then, but by sessions and transactions at once.
 //!
 //! Most hold the lock of the core once, in which they look whether the hub is active and make the call. Meanwhile the clock
-//! and the generator of the thread are asked, and breadcrumbs are made: none of these may make a call on the core, which
-//! would wait for itself. Closures run without the lock, and so do the methods of an error.
+//! and the generator of the thread are asked: neither may make a call on the core, which would wait for itself. Closures
+//! run without the lock, and so do the methods of an error, and what makes breadcrumbs.
 ghost use Rattle.std.specs.Prelude.{◌≡◌, IfOk};
 ghost use Rattle.std.specs.Iterator.{IsFiniteIterable};
 ghost use Rattle.sentry_hub.specs.Requests.{message_event, with_request};
@@ -248,11 +248,14 @@ pub fn add_breadcrumb<L: CoreLock, K: Clock, G, B: IntoBreadcrumbsAt>(
     ensures current { thread.new.current ≡ thread.old.current }
 {
     let hub = &thread.current;
+    if !hub.is_active()? {
+        return Ok(());
+    }
+    let alloc = hub.core().allocator();
+    let breadcrumbs = breadcrumb.into_breadcrumbs_at(alloc, &mut thread.clock)?;
     let Some(active) = hub.lock_active()? else {
         return Ok(());
     };
-    let alloc = hub.core().allocator();
-    let breadcrumbs = breadcrumb.into_breadcrumbs_at(alloc, &mut thread.clock)?;
     active.add_breadcrumbs(breadcrumbs)
 }
 
