@@ -4,14 +4,17 @@
 //! Most hold the lock of the core once, in which they look whether the hub is active and make the call. Meanwhile the clock
 //! and the generator of the thread are asked: neither may make a call on the core, which would wait for itself. Closures
 //! run without the lock, and so do the methods of an error, and what makes breadcrumbs.
-ghost use Rattle.std.specs.Prelude.{◌≡◌, IfOk};
+ghost use Rattle.std.specs.Prelude.{◌≡◌, IfErr, IfOk, IfSome};
 ghost use Rattle.std.specs.Iterator.{IsFiniteIterable};
+ghost use Rattle.std.specs.Option.{IsSome};
 ghost use Rattle.sentry_hub.specs.Requests.{message_event, with_request};
+ghost use Rattle.sentry_hub.specs.Works.{Answers};
 
 use crate::breadcrumbs::IntoBreadcrumbsAt;
 use crate::errors::IntoErrorLinks;
 use crate::hub::{Hub, WithScopeError, refuse_scope};
 use crate::performance::Transaction;
+use crate::scoped::run_there;
 use rand_core::Rng;
 use sentry_base::callbacks::{BreadcrumbCallback, EventCallback, LogCallback, MetricCallback};
 use sentry_base::clock::Clock;
@@ -25,7 +28,7 @@ use sentry_options::{Callbacks, ClientCallbacks, Integration, TracesSampler};
 use sentry_plain::{Boxed, Text};
 use sentry_scope::Scope;
 use sentry_texts::utils::event_from_error;
-use sentry_thread_hub::{ThreadHub, fresh_of, run_under};
+use sentry_thread_hub::{ThreadHub, fresh_of};
 use sentry_trace::performance::TransactionContext;
 use std::alloc::{AllocError, Global};
 use std::fmt::Display;
@@ -328,7 +331,10 @@ pub fn with_scope<
 >(thread: &mut ThreadHub<Hub<L>, K, G>, configure: F, callback: M) -> Result<A, WithScopeError<A>>
     requires configure { F.IsAlwaysCallable configure }
     requires callback { M.IsAlwaysCallable callback }
-    ensures { thread.new.current ≡ thread.old.current }
+    ensures answer { IfOk result (λ answer. Answers M.FnOnce callback answer) }
+    ensures refused { IfErr result (λ error. IfSome error.answer (λ answer.
+        Answers M.FnOnce callback answer × IsSome error.guard)) }
+    ensures current { thread.new.current ≡ thread.old.current }
 {
     let entered = match enter(&thread.current) {
         Ok(entered) => entered,
@@ -336,13 +342,14 @@ pub fn with_scope<
     };
     let Entered { layer, same } = entered;
     let Some((guard, scope)) = layer else {
-        return Ok(run_under(thread, same, callback));
+        let ran = run_there(thread, same, callback);
+        return Ok(ran);
     };
     let now = thread.clock.now();
     let guard = thread
         .current
         .configure_layer(guard, scope, now, configure)?;
-    let answer = run_under(thread, same, callback);
+    let answer = run_there(thread, same, callback);
     let now = thread.clock.now();
     thread.current.leave_scope(guard, answer, now)
 }

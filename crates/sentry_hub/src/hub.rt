@@ -1,5 +1,8 @@
 //! A hub, by its key and a share of the core that holds it.
-ghost use Rattle.std.specs.Prelude.{◌≡◌};
+ghost use Rattle.std.specs.Prelude.{◌≡◌, ◌⊎◌, false, IfErr, IfOk, MatchOption, option_copied};
+ghost use Rattle.sentry_calls.specs.Hubs as hubs;
+ghost use Rattle.sentry_calls.specs.Layers as layers;
+ghost use Rattle.sentry_lock.specs.Answers.{LockAnswers, LockAnswersWithoutMemory, LockRefuses};
 
 mod calls;
 mod captures;
@@ -9,7 +12,7 @@ mod threads;
 
 pub(crate) use scopes::refuse_scope;
 pub use scopes::{PopScopeError, WithScopeError};
-use sentry_base::protocol::{HubKey, Refusal};
+use sentry_base::protocol::{ClientKey, HubKey, Refusal};
 use sentry_lock::{Client, CoreLock, LockedHub, SharedCore};
 use sentry_scope::Scope;
 use sentry_thread_hub::MakeFromTop;
@@ -49,6 +52,16 @@ impl<L: Drop> Clone for Hub<L> {
     }
 }
 
+// The key of a client, if there is one.
+fn key_of<L: CoreLock>(client: Option<&Client<L>>) -> Option<ClientKey>
+    ensures { result ≡ option_copied client.entry }
+{
+    match client {
+        None => None,
+        Some(client) => Some(client.key()),
+    }
+}
+
 impl<L: CoreLock> Hub<L> {
     /// A hub with one layer, of a client or none and a scope.
     ///
@@ -57,14 +70,17 @@ impl<L: CoreLock> Hub<L> {
         core: &SharedCore<L>,
         client: Option<&Client<L>>,
         scope: Scope<L::Processor>,
-    ) -> Result<Hub<L>, Refusal> {
-        let client = match client {
-            None => None,
-            Some(client) => Some(client.key()),
-        };
+    ) -> Result<Hub<L>, Refusal>
+        ensures done { IfOk result (λ hub. LockAnswers L.Processor L.Callbacks L.Transport
+            hub (hubs.new_hub (option_copied client.entry) scope)) }
+        ensures refused { IfErr result (λ refusal. (refusal ≡ Refusal.OutOfMemory)
+            ⊎ LockRefuses L.Processor L.Callbacks L.Transport refusal (hubs.new_hub (option_copied client.entry) scope)) }
+    {
         let share = core.clone()?;
-        let key = core.new_hub(client, scope)?;
-        Ok(Hub { core: share, key })
+        match core.new_hub(key_of(client), scope) {
+            Ok(key) => Ok(Hub { core: share, key }),
+            Err(refusal) => Err(refusal),
+        }
     }
 
     // A hub with one layer, of no client and a scope.
@@ -82,10 +98,17 @@ impl<L: CoreLock> Hub<L> {
     /// end with it: `in_new_hub` releases it.
     ///
     /// `Stale`: the other hub isn't held. `Full`: the numbers are used up. `OutOfMemory`.
-    pub fn new_from_top(other: &Hub<L>) -> Result<Hub<L>, Refusal> {
+    pub fn new_from_top(other: &Hub<L>) -> Result<Hub<L>, Refusal>
+        ensures done { IfOk result (λ hub. LockAnswers L.Processor L.Callbacks L.Transport
+            hub (layers.new_hub_from_top other.now)) }
+        ensures refused { IfErr result (λ refusal. (refusal ≡ Refusal.OutOfMemory)
+            ⊎ LockRefuses L.Processor L.Callbacks L.Transport refusal (layers.new_hub_from_top other.now)) }
+    {
         let core = other.core.clone()?;
-        let key = other.lock().new_hub_from_top()?;
-        Ok(Hub { core, key })
+        match other.lock().new_hub_from_top() {
+            Ok(key) => Ok(Hub { core, key }),
+            Err(refusal) => Err(refusal),
+        }
     }
 
     /// The key of the hub.
@@ -121,14 +144,20 @@ impl<L: CoreLock> Hub<L> {
     }
 
     // Takes the lock for one call on the hub.
-    pub(crate) fn lock(&self) -> LockedHub<'_, L::Processor, L::Callbacks, L::Transport> {
+    pub(crate) fn lock(&self) -> LockedHub<'_, L::Processor, L::Callbacks, L::Transport>
+        ensures { result.hub ≡ self.now }
+    {
         self.core.lock_hub(self.key)
     }
 
     // The same if the hub is active.
     pub(crate) fn lock_active(
         &self,
-    ) -> Result<Option<LockedHub<'_, L::Processor, L::Callbacks, L::Transport>>, Refusal> {
+    ) -> Result<Option<LockedHub<'_, L::Processor, L::Callbacks, L::Transport>>, Refusal>
+        ensures { IfOk result (λ found. MatchOption found
+            (LockAnswersWithoutMemory L.Processor L.Callbacks L.Transport false (hubs.is_active self.now))
+            (λ locked. locked.hub ≡ self.now)) }
+    {
         self.core.lock_active(self.key)
     }
 }

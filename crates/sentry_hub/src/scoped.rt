@@ -62,11 +62,13 @@ fn run_here<L: CoreLock, K, G, A, F: FnOnce(&mut ThreadHub<Hub<L>, K, G>) -> A +
 }
 
 // Runs the work on a hub. Afterwards the one of before is current again.
-fn run_there<L: CoreLock, K: Drop, G: Drop, A, F: FnOnce(&mut ThreadHub<Hub<L>, K, G>) -> A + Drop>(
-    thread: &mut ThreadHub<Hub<L>, K, G>,
-    hub: Hub<L>,
-    work: F,
-) -> A
+pub(crate) fn run_there<
+    L: CoreLock,
+    K: Drop,
+    G: Drop,
+    A,
+    F: FnOnce(&mut ThreadHub<Hub<L>, K, G>) -> A + Drop,
+>(thread: &mut ThreadHub<Hub<L>, K, G>, hub: Hub<L>, work: F) -> A
     requires { F.IsAlwaysCallable work }
     ensures answer { Answers F.FnOnce work result }
     ensures current { thread.new.current ≡ thread.old.current }

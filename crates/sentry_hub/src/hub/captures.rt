@@ -1,4 +1,11 @@
 //! What is captured on a hub, and transactions that start on it.
+ghost use Rattle.std.specs.Prelude.{◌≡◌, ◌⊎◌, IfErr, IfOk};
+ghost use Rattle.sentry_calls.specs.Hubs as hubs;
+ghost use Rattle.sentry_calls.specs.Telemetry as telemetry;
+ghost use Rattle.sentry_events.specs.Captures as captures;
+ghost use Rattle.sentry_spans.specs.Spans as spans;
+ghost use Rattle.sentry_lock.specs.Answers.{LockAnswers, LockDrainsAndAnswers, LockRefuses};
+
 use crate::hub::Hub;
 use crate::performance::Transaction;
 use sentry_base::protocol::{ErrorLink, Event, Fresh, Level, Log, Refusal, Uuid};
@@ -10,7 +17,10 @@ impl<L: CoreLock> Hub<L> {
     /// Captures an event under the top layer. Its id is the answer; the nil id if it was not sent.
     ///
     /// `Stale`: the hub isn't held. `OutOfMemory`.
-    pub fn capture_event(&self, event: Event, fresh: Fresh) -> Result<Uuid, Refusal> {
+    pub fn capture_event(&self, event: Event, fresh: Fresh) -> Result<Uuid, Refusal>
+        ensures { IfOk result (λ reply. LockDrainsAndAnswers L.Processor L.Callbacks L.Transport
+            reply (captures.capture_event L.Processor.gives L.Callbacks.meanings self.now event fresh)) }
+    {
         self.lock().capture_event(event, fresh)
     }
 
@@ -22,7 +32,10 @@ impl<L: CoreLock> Hub<L> {
         message: &str,
         level: Level,
         fresh: Fresh,
-    ) -> Result<Uuid, Refusal> {
+    ) -> Result<Uuid, Refusal>
+        ensures { IfOk result (λ reply. LockDrainsAndAnswers L.Processor L.Callbacks L.Transport
+            reply (hubs.capture_message L.Processor.gives L.Callbacks.meanings self.now message.now level fresh)) }
+    {
         self.lock().capture_message(message, level, fresh)
     }
 
@@ -30,14 +43,20 @@ impl<L: CoreLock> Hub<L> {
     /// links, which are given outermost first.
     ///
     /// `Stale`: the hub isn't held. `OutOfMemory`.
-    pub fn capture_error(&self, links: &[ErrorLink], fresh: Fresh) -> Result<Uuid, Refusal> {
+    pub fn capture_error(&self, links: &[ErrorLink], fresh: Fresh) -> Result<Uuid, Refusal>
+        ensures { IfOk result (λ reply. LockDrainsAndAnswers L.Processor L.Callbacks L.Transport
+            reply (hubs.capture_error L.Processor.gives L.Callbacks.meanings self.now links.now fresh)) }
+    {
         self.lock().capture_error(links, fresh)
     }
 
     /// Captures a log under the top layer. It is sent with the batch that it waits in.
     ///
     /// `Stale`: the hub isn't held. `OutOfMemory`.
-    pub fn capture_log(&self, log: Log) -> Result<(), Refusal> {
+    pub fn capture_log(&self, log: Log) -> Result<(), Refusal>
+        ensures { IfOk result (λ reply. LockDrainsAndAnswers L.Processor L.Callbacks L.Transport
+            reply (telemetry.capture_log L.Callbacks.meanings self.now log)) }
+    {
         self.lock().capture_log(log)
     }
 
@@ -45,11 +64,10 @@ impl<L: CoreLock> Hub<L> {
     /// nanoseconds since the epoch.
     ///
     /// `Stale`: the hub isn't held. `OutOfMemory`.
-    pub fn capture_metric<M: IntoProtocolMetric>(
-        &self,
-        metric: M,
-        now: u64,
-    ) -> Result<(), Refusal> {
+    pub fn capture_metric<M: IntoProtocolMetric>(&self, metric: M, now: u64) -> Result<(), Refusal>
+        ensures { IfOk result (λ reply. LockDrainsAndAnswers L.Processor L.Callbacks L.Transport
+            reply (telemetry.capture_metric L.Callbacks.meanings self.now (M.draft_of metric) now)) }
+    {
         let draft = metric.into_draft();
         self.lock().capture_metric(draft, now)
     }
@@ -63,10 +81,18 @@ impl<L: CoreLock> Hub<L> {
         &self,
         context: TransactionContext,
         fresh: Fresh,
-    ) -> Result<Transaction<L>, Refusal> {
+    ) -> Result<Transaction<L>, Refusal>
+        ensures done { IfOk result (λ transaction. LockAnswers L.Processor L.Callbacks L.Transport
+            transaction (spans.start_transaction L.Callbacks.meanings self.now context fresh)) }
+        ensures refused { IfErr result (λ refusal. (refusal ≡ Refusal.OutOfMemory)
+            ⊎ LockRefuses L.Processor L.Callbacks L.Transport
+            refusal (spans.start_transaction L.Callbacks.meanings self.now context fresh)) }
+    {
         let share = self.core.clone()?;
-        let key = self.lock().start_transaction(context, fresh)?;
-        Ok(Transaction::of_key(share, key))
+        match self.lock().start_transaction(context, fresh) {
+            Ok(key) => Ok(Transaction::of_key(share, key)),
+            Err(refusal) => Err(refusal),
+        }
     }
 
     /// The same as `start_transaction`, with a start in nanoseconds since the epoch.
@@ -77,11 +103,20 @@ impl<L: CoreLock> Hub<L> {
         context: TransactionContext,
         start: u64,
         fresh: Fresh,
-    ) -> Result<Transaction<L>, Refusal> {
+    ) -> Result<Transaction<L>, Refusal>
+        ensures done { IfOk result (λ transaction. LockAnswers L.Processor L.Callbacks L.Transport
+            transaction (spans.start_transaction_with_timestamp L.Callbacks.meanings self.now context start fresh)) }
+        ensures refused { IfErr result (λ refusal. (refusal ≡ Refusal.OutOfMemory)
+            ⊎ LockRefuses L.Processor L.Callbacks L.Transport
+            refusal (spans.start_transaction_with_timestamp L.Callbacks.meanings self.now context start fresh)) }
+    {
         let share = self.core.clone()?;
-        let key = self
+        match self
             .lock()
-            .start_transaction_with_timestamp(context, start, fresh)?;
-        Ok(Transaction::of_key(share, key))
+            .start_transaction_with_timestamp(context, start, fresh)
+        {
+            Ok(key) => Ok(Transaction::of_key(share, key)),
+            Err(refusal) => Err(refusal),
+        }
     }
 }

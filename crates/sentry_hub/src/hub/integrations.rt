@@ -1,5 +1,5 @@
 //! The integrations of the client of a hub.
-ghost use Rattle.std.specs.Prelude.{◌≡◌, IfSome};
+ghost use Rattle.std.specs.Prelude.{◌≡◌, ◌⊎◌, IfOk, IfSome};
 
 use crate::hub::Hub;
 use sentry_base::callbacks::{BreadcrumbCallback, EventCallback, LogCallback, MetricCallback};
@@ -34,7 +34,9 @@ where
     S: TracesSampler + Drop,
 {
     // A share of the first integration of this name that the client of the top layer has.
-    pub(crate) fn integration(&self, name: &str) -> Result<Option<Shared<I>>, Refusal> {
+    pub(crate) fn integration(&self, name: &str) -> Result<Option<Shared<I>>, Refusal>
+        ensures { IfOk result (λ found. IfSome found (λ integration. (I.meaning integration).name ≡ name.now)) }
+    {
         let Some(client) = self.client()? else {
             return Ok(None);
         };
@@ -56,10 +58,15 @@ where
         callback: F,
     ) -> Result<A, Refusal>
         requires { F.IsAlwaysCallable callback }
+        ensures { IfOk result (λ answer. A.is_default answer
+            ⊎ ((lent : _) × F.post callback lent answer × ((I.meaning lent.now).name ≡ name.now))) }
     {
         match self.integration(name)? {
             None => Ok(A::default()),
-            Some(integration) => Ok(callback(integration.get())),
+            Some(integration) => {
+                let answer = callback(integration.get());
+                Ok(answer)
+            }
         }
     }
 }

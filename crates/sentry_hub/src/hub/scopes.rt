@@ -1,5 +1,10 @@
 //! The layers of a hub, and the scope of the top one.
-ghost use Rattle.std.specs.Prelude.{◌≡◌, Err, None, IfErr, IfOk};
+ghost use Rattle.std.specs.Prelude.{◌≡◌, Err, IfErr, IfOk, IfSome, MatchOption, None, Some};
+ghost use Rattle.std.specs.Option.{IsSomeAnd};
+ghost use Rattle.sentry_calls.specs.Hubs as hubs;
+ghost use Rattle.sentry_calls.specs.Layers as layers;
+ghost use Rattle.sentry_lock.specs.Answers.{LockAnswers, LockDrainsAndAnswers, LockRefuses};
+ghost use Rattle.sentry_hub.specs.Configures.{Configures, ConfiguresTop};
 
 use crate::hub::Hub;
 use sentry_base::protocol::Refusal;
@@ -142,7 +147,12 @@ impl<L: CoreLock> Hub<L> {
     /// it on the hub, which then can't be released: `with_scope` and `in_scope` pop it.
     ///
     /// `Stale`: the hub isn't held. `OutOfMemory`.
-    pub fn push_scope(&self) -> Result<ScopeGuard, Refusal> {
+    pub fn push_scope(&self) -> Result<ScopeGuard, Refusal>
+        ensures done { IfOk result (λ guard. LockAnswers L.Processor L.Callbacks L.Transport
+            guard (layers.push_scope self.now)) }
+        ensures refused { IfErr result (λ refusal. LockRefuses L.Processor L.Callbacks L.Transport
+            refusal (layers.push_scope self.now)) }
+    {
         self.core.push_scope(self.key)
     }
 
@@ -152,7 +162,9 @@ impl<L: CoreLock> Hub<L> {
     /// `Stale`: the guard's hub isn't held. `OutOfOrder`: the guard's layer isn't the top one, or is the only one.
     /// `OutOfMemory`.
     pub fn pop_scope(&self, guard: ScopeGuard, now: u64) -> Result<(), PopScopeError>
-        ensures { IfErr result (λ error. error.guard ≡ guard) }
+        ensures done { IfOk result (λ reply. LockDrainsAndAnswers L.Processor L.Callbacks L.Transport
+            reply (layers.pop_scope guard.0 guard.1 now)) }
+        ensures back { IfErr result (λ error. error.guard ≡ guard) }
     {
         match self.core.pop_scope(guard, now) {
             Ok(()) => Ok(()),
@@ -164,7 +176,10 @@ impl<L: CoreLock> Hub<L> {
     /// is refused too, the layer stays on the hub.
     ///
     /// `Stale`, `OutOfOrder`, `OutOfMemory`: as of `pop_scope`.
-    pub fn pop_or_give_up(&self, guard: ScopeGuard, now: u64) -> Result<(), Refusal> {
+    pub fn pop_or_give_up(&self, guard: ScopeGuard, now: u64) -> Result<(), Refusal>
+        ensures { IfOk result (λ reply. LockDrainsAndAnswers L.Processor L.Callbacks L.Transport
+            reply (layers.pop_scope guard.0 guard.1 now)) }
+    {
         match self.core.pop_scope(guard, now) {
             Ok(()) => Ok(()),
             Err((Refusal::OutOfMemory, guard)) => {
@@ -182,7 +197,10 @@ impl<L: CoreLock> Hub<L> {
     /// since the epoch.
     ///
     /// `Stale`: the hub isn't held, or a span that is set isn't. `OutOfMemory`.
-    pub fn configure(&self, edits: Vec<ScopeEdit<L::Processor>>, now: u64) -> Result<(), Refusal> {
+    pub fn configure(&self, edits: Vec<ScopeEdit<L::Processor>>, now: u64) -> Result<(), Refusal>
+        ensures { IfOk result (λ reply. LockDrainsAndAnswers L.Processor L.Callbacks L.Transport
+            reply (hubs.configure self.now edits.items now)) }
+    {
         self.lock().configure(edits, now)
     }
 
@@ -197,9 +215,11 @@ impl<L: CoreLock> Hub<L> {
         F: FnOnce(&mut ScopeEdits<L::Processor>) -> Result<A, AllocError> + Drop,
     >(&self, now: u64, configure: F) -> Result<A, Refusal>
         requires { F.IsAlwaysCallable configure }
+        ensures { IfOk result (λ answer. ConfiguresTop L.Callbacks L.Transport F.FnOnce configure self.now now answer) }
     {
         let scope = self.lock().scope()?;
-        self.configure_copy(scope, now, configure)
+        let answer = self.configure_copy(scope, now, configure)?;
+        Ok(answer)
     }
 
     // Makes the calls of setters that a closure makes, which is lent this copy of the scope.
@@ -208,6 +228,7 @@ impl<L: CoreLock> Hub<L> {
         F: FnOnce(&mut ScopeEdits<L::Processor>) -> Result<A, AllocError> + Drop,
     >(&self, scope: Boxed<Scope<L::Processor>>, now: u64, configure: F) -> Result<A, Refusal>
         requires { F.IsAlwaysCallable configure }
+        ensures { IfOk result (λ answer. Configures L.Callbacks L.Transport F.FnOnce configure self.now now scope answer) }
     {
         let mut edits = ScopeEdits::new(self.core.allocator(), scope.into_inner());
         let answer = configure(&mut edits)?;
@@ -232,6 +253,9 @@ impl<L: CoreLock> Hub<L> {
         F: FnOnce(&mut ScopeEdits<L::Processor>) -> Result<B, AllocError> + Drop,
     >(&self, now: u64, configure: F) -> Result<ScopeGuard, WithScopeError<A>>
         requires { F.IsAlwaysCallable configure }
+        ensures guard { IfOk result (λ guard. LockAnswers L.Processor L.Callbacks L.Transport
+            guard (layers.push_scope self.now)) }
+        ensures answer { IfErr result (λ error. error.answer ≡ None) }
     {
         match self.lock().push_scope() {
             Ok((guard, scope)) => self.configure_layer(guard, scope, now, configure),
@@ -253,6 +277,10 @@ impl<L: CoreLock> Hub<L> {
         configure: F,
     ) -> Result<ScopeGuard, WithScopeError<A>>
         requires { F.IsAlwaysCallable configure }
+        ensures guard { IfOk result (λ same. same ≡ guard) }
+        ensures answer { IfErr result (λ error. error.answer ≡ None) }
+        ensures back { IfErr result (λ error. MatchOption error.guard (LockDrainsAndAnswers
+            L.Processor L.Callbacks L.Transport tt (layers.pop_scope guard.0 guard.1 now)) (λ back. back ≡ guard)) }
     {
         match self.configure_copy(scope, now, configure) {
             Ok(_) => Ok(guard),
@@ -262,7 +290,9 @@ impl<L: CoreLock> Hub<L> {
 
     // Removes a layer whose scope was not configured.
     fn leave_refused<A>(&self, guard: ScopeGuard, refusal: Refusal, now: u64) -> WithScopeError<A>
-        ensures { (result.refusal ≡ refusal) × (result.answer ≡ None) }
+        ensures refusal { (result.refusal ≡ refusal) × (result.answer ≡ None) }
+        ensures back { MatchOption result.guard (LockDrainsAndAnswers
+            L.Processor L.Callbacks L.Transport tt (layers.pop_scope guard.0 guard.1 now)) (λ back. back ≡ guard) }
     {
         match self.core.pop_scope(guard, now) {
             Ok(()) => refuse_scope(refusal, None, None),
@@ -277,7 +307,8 @@ impl<L: CoreLock> Hub<L> {
         answer: A,
         now: u64,
     ) -> Result<A, WithScopeError<A>>
-        ensures { IfOk result (λ same. same ≡ answer) }
+        ensures answer { IfOk result (λ same. same ≡ answer) }
+        ensures refused { IfErr result (λ error. (error.answer ≡ Some answer) × (error.guard ≡ Some guard)) }
     {
         match self.core.pop_scope(guard, now) {
             Ok(()) => Ok(answer),
@@ -300,7 +331,10 @@ impl<L: CoreLock> Hub<L> {
     >(&self, now: u64, configure: F, callback: M) -> Result<A, WithScopeError<A>>
         requires configure { F.IsAlwaysCallable configure }
         requires callback { M.IsAlwaysCallable callback }
-        ensures { IfOk result (M.post callback) }
+        ensures answer { IfOk result (M.post callback) }
+        ensures refused { IfErr result (λ error. IfSome error.answer (λ answer. M.post callback answer
+            × IsSomeAnd error.guard (λ guard. LockAnswers L.Processor L.Callbacks L.Transport
+            guard (layers.push_scope self.now)))) }
     {
         let guard = self.enter_scope(now, configure)?;
         let answer = callback();

@@ -1,5 +1,8 @@
 //! Hubs of a thread.
-ghost use Rattle.std.specs.Prelude.{◌≡◌, ◌⊎◌, IfOk, IfSome, OnErr};
+ghost use Rattle.std.specs.Prelude.{◌≡◌, ◌⊎◌, ℕ, false, IfOk, MatchOption, OnErr};
+ghost use Rattle.sentry_calls.specs.Hubs as hubs;
+ghost use Rattle.sentry_calls.specs.Layers as layers;
+ghost use Rattle.sentry_lock.specs.Answers.{LockAnswersWithoutMemory, LockDrainsAndAnswers};
 ghost use Rattle.sentry_thread_hub.specs.Lends.{AnswersLent};
 
 use crate::hub::Hub;
@@ -34,6 +37,8 @@ impl<L: CoreLock> Hub<L> {
     ///
     /// `Stale`: the hub isn't held. `ScopesOpen`: layers stand on its first one. `OutOfMemory`.
     pub fn release<K: Clock, G>(&self, thread: &mut ThreadHub<Hub<L>, K, G>) -> Result<(), Refusal>
+        ensures done { IfOk result (λ reply. (now : ℕ) × LockDrainsAndAnswers L.Processor L.Callbacks L.Transport
+            reply (layers.release_hub self.now now)) }
         ensures main { thread.new.main ≡ thread.old.main }
         ensures current { thread.new.current ≡ thread.old.current }
     {
@@ -42,7 +47,10 @@ impl<L: CoreLock> Hub<L> {
     }
 
     // The same, with the moment.
-    pub(crate) fn release_at(&self, now: u64) -> Result<(), Refusal> {
+    pub(crate) fn release_at(&self, now: u64) -> Result<(), Refusal>
+        ensures { IfOk result (λ reply. LockDrainsAndAnswers L.Processor L.Callbacks L.Transport
+            reply (layers.release_hub self.now now)) }
+    {
         self.lock().release_hub(now)
     }
 
@@ -74,7 +82,8 @@ impl<L: CoreLock> Hub<L> {
     >(thread: &mut ThreadHub<Hub<L>, K, G>, callback: F) -> Result<A, Refusal>
         requires { F.IsAlwaysCallable callback }
         ensures answer { IfOk result (λ answer. AnswersLent F.FnOnce callback thread.old.current thread.old answer thread.new
-            ⊎ (A.is_default answer × (thread.new ≡ thread.old))) }
+            ⊎ (A.is_default answer × (thread.new ≡ thread.old)
+            × LockAnswersWithoutMemory L.Processor L.Callbacks L.Transport false (hubs.is_active thread.old.current))) }
         ensures refused { OnErr result (thread.new ≡ thread.old) }
     {
         match Hub::active(thread)? {
@@ -88,7 +97,9 @@ impl<L: CoreLock> Hub<L> {
 
     // The current hub of the thread, if it is active.
     pub(crate) fn active<K, G>(thread: &ThreadHub<Hub<L>, K, G>) -> Result<Option<Hub<L>>, Refusal>
-        ensures { IfOk result (λ found. IfSome found (λ hub. hub ≡ thread.now.current)) }
+        ensures { IfOk result (λ found. MatchOption found
+            (LockAnswersWithoutMemory L.Processor L.Callbacks L.Transport false (hubs.is_active thread.now.current))
+            (λ hub. hub ≡ thread.now.current)) }
     {
         let hub = Hub::current(thread)?;
         if !hub.is_active()? {

@@ -1,0 +1,6 @@
+use Rattle.sentry_hub.proofs.Locked.{locked_drains}
+use Rattle.std.specs.Sync.Mutex.{mutex_guard_value}
+use Rattle.sentry_hub.proofs.hub.Hub.end_session_with_status.Goals as goal
+
+pub returns : goal.returns
+returns g c = rw (← c.lock.ensures) (locked_drains (mutex_guard_value c.lock.result.guard.under) _ c.end_session_with_status.result c.end_session_with_status.ensures)
