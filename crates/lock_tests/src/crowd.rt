@@ -224,7 +224,11 @@ pub(crate) fn pop_in_turn<L: CoreLock>(
     for _ in 0..LOOKS {
         match core.pop_scope(guard, 1) {
             Ok(()) => return Ok(()),
-            Err((_refusal, back)) => guard = back,
+            Err((Refusal::OutOfOrder, back)) => guard = back,
+            Err((refusal, back)) => {
+                let (_hub, _depth) = back.into_parts();
+                return Err(refusal);
+            }
         }
         yield_now();
     }

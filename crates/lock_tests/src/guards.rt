@@ -1,15 +1,14 @@
 //! Hubs and clients that one thread gives back while others have guards of layers on them.
 use crate::crowd::{LOOKS, new_scope, pop_in_turn};
-use crate::workshop::{Held, Lock, Notebook, event, fresh, options, what_came};
+use crate::workshop::{Held, event, fresh, options, what_came};
 use sentry_base::protocol::{HubKey, Refusal};
-use sentry_lock::{Client, CoreLock, SharedCore, Waiting};
-use sentry_options::ClientOptions;
+use sentry_lock::{Client, CoreLock, SharedCore};
 use std::alloc::Global;
 use std::sync::atomic::{AtomicBool, Ordering};
 use std::test::Fail;
 use std::thread::{Threads, join, yield_now};
 
-/// How many hubs are given back, and how many layers each of two threads pushes onto one at most.
+/// How many hubs are given back, and how many layers each of two threads pushes onto one, at most.
 const ROUNDS: u64 = 8;
 
 const LAYERS: u64 = 50;
@@ -82,9 +81,41 @@ fn capture_all<L: CoreLock>(
     Ok(LAYERS)
 }
 
+/// The same in two threads.
+fn capture_in_two_threads<R: Threads + Sync, L: CoreLock + Send + Sync + 'static>(
+    rt: &R,
+    core: &SharedCore<L>,
+    hub: HubKey,
+    first: u64,
+    turns: &Turns,
+) -> Result<u64, Refusal>
+where
+    L::Processor: Send + Sync + 'static,
+    L::Callbacks: Send + Sync + 'static,
+    L::Transport: Send + Sync + 'static,
+{
+    let (one, other) = join(
+        rt,
+        || capture_all(core, hub, first, turns),
+        || capture_all(core, hub, first.wrapping_add(LAYERS), turns),
+    );
+    Ok(one?.wrapping_add(other?))
+}
+
 /// Gives the hub back once no layer is out, and its client then.
 fn release<L: CoreLock>(client: &Client<L>, hub: HubKey, turns: &Turns) -> Result<(), Refusal> {
     wait_for(&turns.is_pushed);
+    let released = release_in_turn(client, hub, turns);
+    // from here on no thread waits for a refusal
+    turns.is_refused.store(true, Ordering::SeqCst);
+    released
+}
+
+fn release_in_turn<L: CoreLock>(
+    client: &Client<L>,
+    hub: HubKey,
+    turns: &Turns,
+) -> Result<(), Refusal> {
     for _ in 0..LOOKS {
         if client.drop_client().err() != Some(Refusal::StillNamed) {
             return Err(Refusal::StillNamed);
@@ -99,12 +130,10 @@ fn release<L: CoreLock>(client: &Client<L>, hub: HubKey, turns: &Turns) -> Resul
     Err(Refusal::ScopesOpen)
 }
 
-/// One hub of a client of its own. Answers how many events were captured on it.
+/// One hub of a copy of the client. Answers how many events were captured on it.
 fn play_round<R: Threads + Sync, L: CoreLock + Send + Sync + 'static>(
     rt: &R,
-    core: &SharedCore<L>,
-    options: ClientOptions<L::Callbacks>,
-    transport: L::Transport,
+    client: &Client<L>,
     first: u64,
 ) -> Result<u64, Refusal>
 where
@@ -112,44 +141,46 @@ where
     L::Callbacks: Send + Sync + 'static,
     L::Transport: Send + Sync + 'static,
 {
-    let held = Held::on(core, options, Some(transport))?;
-    let hub = core.new_hub(Some(held.client.key()), new_scope(core))?;
+    let core = client.core();
+    let copy = client.clone_client(1)?;
+    let hub = core.new_hub(Some(copy.key()), new_scope(core))?;
     let turns = Turns::new();
-    let (released, (one, other)) = join(
+    let (released, captured) = join(
         rt,
-        || release(&held.client, hub, &turns),
-        || {
-            join(
-                rt,
-                || capture_all(core, hub, first, &turns),
-                || capture_all(core, hub, first.wrapping_add(LAYERS), &turns),
-            )
-        },
+        || release(&copy, hub, &turns),
+        || capture_in_two_threads(rt, core, hub, first, &turns),
     );
     released?;
-    Ok(one?.wrapping_add(other?))
+    captured
+}
+
+/// Several of them, one after the other.
+fn play_rounds<R: Threads + Sync, L: CoreLock + Send + Sync + 'static>(
+    rt: &R,
+    client: &Client<L>,
+) -> Result<u64, Refusal>
+where
+    L::Processor: Send + Sync + 'static,
+    L::Callbacks: Send + Sync + 'static,
+    L::Transport: Send + Sync + 'static,
+{
+    let mut captured = 0u64;
+    for round in 0..ROUNDS {
+        let more = play_round(rt, client, round.wrapping_mul(100))?;
+        captured = captured.wrapping_add(more);
+    }
+    Ok(captured)
 }
 
 #[test]
 fn a_hub_stays_while_a_guard_is_out(rt: HostRuntime) -> Result<(), Fail> {
     let alloc: Global = rt.alloc();
-    let notebook = Notebook::new(rt, alloc, true)?;
-    let core: SharedCore<Lock<Notebook<HostRuntime>, HostRuntime>> = SharedCore::new(
-        Waiting(rt),
-        alloc,
-        1,
-    )?;
-    let mut captured = 0u64;
-    for round in 0..ROUNDS {
-        let options = options(alloc, false)?;
-        let first = round.wrapping_mul(100);
-        let more = play_round(&rt, &core, options, notebook.clone()?, first)?;
-        captured = captured.wrapping_add(more);
-    }
+    let (held, notebook) = Held::noted(rt, alloc, options(alloc, false)?, true)?;
+    let captured = play_rounds(&rt, &held.client)?;
     let came = what_came(alloc, notebook.take(alloc).asked.as_slice())?;
     assert!(rt; captured >= ROUNDS);
     assert_eq!(rt; (came.events, came.different), (captured, captured));
-    let held = core.held();
-    assert!(rt; (held.clients, held.hubs, held.layers) == (0, 0, 0));
+    let left = held.client.core().held();
+    assert!(rt; (left.clients, left.hubs, left.layers) == (1, 0, 0));
     Ok(())
 }

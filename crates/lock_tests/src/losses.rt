@@ -114,7 +114,8 @@ fn the_losses_of_a_dropped_client_reach_no_report(rt: HostRuntime) -> Result<(),
     let alloc: Global = rt.alloc();
     let (mut held, notebook) = Held::noted(rt, alloc, options(alloc, false)?, true)?;
     let is_flushed = drop_and_lose(&mut held, options(alloc, false)?, notebook.clone()?)?;
-    assert!(rt; is_flushed && network_errors(&notebook.take(alloc).told) == 0);
+    let told = notebook.take(alloc).told;
+    assert!(rt; is_flushed && network_errors(&told) == 0);
     assert!(rt; refusals(&held) == [Some(Refusal::ForeignLosses); 3]);
     Ok(())
 }

@@ -115,21 +115,18 @@ fn flush_and_take<L: CoreLock>(held: &Held<L>) -> Result<Losses, Refusal> {
 }
 
 /// How many events were limited, and for how many events and logs there was no room; none if anything else was lost.
-fn lost(losses: &Losses) -> Option<[u64; 3]> {
-    let mut all = Losses::none();
-    let mut counts = [0u64; 3];
-    for (place, (category, reason)) in [
-        (Category::Error, Reason::RatelimitBackoff),
-        (Category::Error, Reason::QueueOverflow),
-        (Category::LogItem, Reason::QueueOverflow),
-    ]
-    .into_iter()
-    .enumerate()
-    {
-        counts[place] = losses.get(category, reason);
-        all.add(&Losses::of(category, reason, counts[place]));
+fn lost(losses: &Losses) -> Option<(u64, u64, u64)> {
+    let limited = losses.get(Category::Error, Reason::RatelimitBackoff);
+    let turned_away = losses.get(Category::Error, Reason::QueueOverflow);
+    let logs = losses.get(Category::LogItem, Reason::QueueOverflow);
+    let mut all = Losses::of(Category::Error, Reason::RatelimitBackoff, limited);
+    all.add(&Losses::of(Category::Error, Reason::QueueOverflow, turned_away));
+    all.add(&Losses::of(Category::LogItem, Reason::QueueOverflow, logs));
+    if all == *losses {
+        Some((limited, turned_away, logs))
+    } else {
+        None
     }
-    if all == *losses { Some(counts) } else { None }
 }
 
 #[test]
@@ -148,9 +145,10 @@ fn what_a_queue_loses_is_told(rt: HostRuntime) -> Result<(), Fail> {
     sent?;
     let mut told = flush_and_take(&held)?;
     let notes = queue.inner().take(alloc);
-    told.add(&notes.told);
+    let reported = notes.told;
+    told.add(&reported);
     let came = what_came(alloc, notes.asked.as_slice())?;
-    let Some([limited, turned_away, logs]) = lost(&told) else {
+    let Some((limited, turned_away, logs)) = lost(&told) else {
         panic!(rt; "other losses")
     };
     assert!(rt; limited > 0 && turned_away > 0 && logs > 0);

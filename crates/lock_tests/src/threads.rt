@@ -106,8 +106,9 @@ fn threads_lose_and_send_at_once(rt: HostRuntime) -> Result<(), Fail> {
     let (mut held, notebook) = Held::noted(rt, alloc, options(alloc, false)?, true)?;
     let (is_closed, left) = lose_and_send(&rt, &mut held)?;
     let notes = notebook.take(alloc);
+    let told = notes.told;
     assert!(rt; is_closed);
-    assert!(rt; network_errors(&notes.told).wrapping_add(left) == 4000);
+    assert!(rt; network_errors(&told).wrapping_add(left) == 4000);
     assert!(rt; is_each_once(notes.asked.as_slice()));
     Ok(())
 }

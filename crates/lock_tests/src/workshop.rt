@@ -280,7 +280,7 @@ pub(crate) fn network_errors(losses: &Losses) -> u64 {
 }
 
 /// What came to a transport: how many events, how many different ones, and how many logs.
-#[derive(Clone, Copy, Debug, PartialEq)]
+#[derive(Clone, Copy)]
 pub(crate) struct Came {
     pub(crate) events: u64,
     pub(crate) different: u64,
