@@ -1,1 +1,3 @@
+mod Groups
+mod Handles
 mod Locked

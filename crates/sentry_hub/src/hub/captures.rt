@@ -83,7 +83,7 @@ impl<L: CoreLock> Hub<L> {
         fresh: Fresh,
     ) -> Result<Transaction<L>, Refusal>
         ensures done { IfOk result (λ transaction. LockAnswers L.Processor L.Callbacks L.Transport
-            transaction (spans.start_transaction L.Callbacks.meanings self.now context fresh)) }
+            transaction.0 (spans.start_transaction L.Callbacks.meanings self.now context fresh)) }
         ensures refused { IfErr result (λ refusal. (refusal ≡ Refusal.OutOfMemory)
             ⊎ LockRefuses L.Processor L.Callbacks L.Transport
             refusal (spans.start_transaction L.Callbacks.meanings self.now context fresh)) }
@@ -105,7 +105,7 @@ impl<L: CoreLock> Hub<L> {
         fresh: Fresh,
     ) -> Result<Transaction<L>, Refusal>
         ensures done { IfOk result (λ transaction. LockAnswers L.Processor L.Callbacks L.Transport
-            transaction (spans.start_transaction_with_timestamp L.Callbacks.meanings self.now context start fresh)) }
+            transaction.0 (spans.start_transaction_with_timestamp L.Callbacks.meanings self.now context start fresh)) }
         ensures refused { IfErr result (λ refusal. (refusal ≡ Refusal.OutOfMemory)
             ⊎ LockRefuses L.Processor L.Callbacks L.Transport
             refusal (spans.start_transaction_with_timestamp L.Callbacks.meanings self.now context start fresh)) }

@@ -1,6 +1,8 @@
 //! Calls of setters, which are made together.
-ghost use Rattle.std.specs.Prelude.{◌≡◌, true, IfOk};
+ghost use Rattle.std.specs.Prelude.{◌≡◌, true, IfOk, OnOk, map};
 ghost use Rattle.std.specs.List.{list_all};
+ghost use Rattle.sentry_calls.specs.declared.call.Call.TheVariants as group;
+ghost use Rattle.sentry_lock.specs.CallLists.{LockMakesEach};
 ghost use Rattle.sentry_lock.specs.ValueCalls.{is_ordinary_call};
 
 use sentry_base::protocol::Refusal;
@@ -14,7 +16,8 @@ fn group_calls<P: Drop, C: Drop>(
     alloc: Global,
     calls: Vec<SpanCall>,
 ) -> Result<Vec<Call<P, C>>, AllocError>
-    ensures { IfOk result (λ all. list_all is_ordinary_call all.items ≡ true) }
+    ensures calls { IfOk result (λ all. all.items ≡ map group.Span calls.items) }
+    ensures ordinary { IfOk result (λ all. list_all is_ordinary_call all.items ≡ true) }
 {
     let mut all = Vec::new(alloc);
     for call in calls {
@@ -27,7 +30,9 @@ fn group_calls<P: Drop, C: Drop>(
 pub(super) fn make_all<L: CoreLock>(
     core: &SharedCore<L>,
     calls: Items<SpanCall>,
-) -> Result<(), Refusal> {
+) -> Result<(), Refusal>
+    ensures { OnOk result (LockMakesEach L.Transport L.Processor.gives L.Callbacks.meanings (map group.Span calls)) }
+{
     let calls = group_calls(core.allocator(), calls.into_vec())?;
     core.call_all(calls)
 }

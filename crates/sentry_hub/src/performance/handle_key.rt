@@ -1,5 +1,6 @@
 //! What the keys of transactions and spans have in common.
-ghost use Rattle.std.specs.Prelude.{◌≡◌};
+ghost use Rattle.std.specs.Prelude.{◌≡◌, IfErr, OnOk};
+ghost use Rattle.sentry_hub.specs.Handles.{Ends, EndsNot, Finishes, FinishesNot};
 
 use sentry_base::protocol::{HubKey, Refusal, SpanKey, TransactionKey, TransactionOrSpanKey};
 use sentry_lock::{CoreLock, SharedCore};
@@ -25,18 +26,17 @@ pub trait HandleKey: Copy + Drop {
         core: &SharedCore<L>,
         hub: HubKey,
         moment: u64,
-    ) -> Result<(), Refusal>;
+    ) -> Result<(), Refusal>
+        ensures done { OnOk result (Finishes L.Processor L.Callbacks L.Transport hub moment (span_key self)) }
+        ensures refused { IfErr result (FinishesNot L.Processor L.Callbacks L.Transport hub moment (span_key self)) };
 
     /// Finishes what the key names, as `finish` does, and forgets it, in one hold of the lock.
     ///
     /// `Stale`, `OutOfMemory`: as of `finish`. `StillNamed`: a layer of a hub names it, or a span of the transaction is
     /// held; it is finished then, and stays.
-    fn end<L: CoreLock>(
-        self,
-        core: &SharedCore<L>,
-        hub: HubKey,
-        moment: u64,
-    ) -> Result<(), Refusal>;
+    fn end<L: CoreLock>(self, core: &SharedCore<L>, hub: HubKey, moment: u64) -> Result<(), Refusal>
+        ensures done { OnOk result (Ends L.Processor L.Callbacks L.Transport hub moment (span_key self)) }
+        ensures refused { IfErr result (EndsNot L.Processor L.Callbacks L.Transport hub moment (span_key self)) };
 }
 
 impl HandleKey for TransactionKey {

@@ -1,0 +1,18 @@
+use Rattle.sentry_base.specs.declared.protocol.keys.TransactionOrSpanKey.{TransactionOrSpanKey}
+use Rattle.sentry_hub.proofs.Handles.{done_for, refused_for}
+use Rattle.sentry_hub.specs.Handles.{context_of_zeros}
+use Rattle.sentry_lock.specs.Answers.{LockAnswers, LockRefuses}
+use Rattle.sentry_span_edits.specs.Reads as reads
+use Rattle.std.proofs.Common.{◌≡◌, false}
+use Rattle.sentry_hub.proofs.performance.handle.Handle.get_trace_context.Goals as goal
+
+pub returns-in-Some-clause-done : goal.returns-in-Some-clause-done
+returns-in-Some-clause-done g c =
+    done_for (λ reply. (c.args.self.now.1 ≡ false) × (reply ≡ context_of_zeros))
+    (λ (key : TransactionOrSpanKey). λ reply. LockAnswers g.row.L-Processor.Denot g.row.L-Callbacks.Denot g.row.L-Transport.Denot reply (reads.get_trace_context key)) _ _ c.span_key.ensures
+    c.get_trace_context.result c.get_trace_context.ensures.done
+
+pub returns-in-Some-clause-refused : goal.returns-in-Some-clause-refused
+returns-in-Some-clause-refused g c =
+    refused_for (λ (key : TransactionOrSpanKey). λ refusal. LockRefuses g.row.L-Processor.Denot g.row.L-Callbacks.Denot g.row.L-Transport.Denot refusal (reads.get_trace_context key)) _ _ c.span_key.ensures
+    c.get_trace_context.result c.get_trace_context.ensures.refused

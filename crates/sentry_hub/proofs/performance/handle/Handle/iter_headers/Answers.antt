@@ -1,0 +1,18 @@
+use Rattle.sentry_base.specs.declared.protocol.keys.TransactionOrSpanKey.{TransactionOrSpanKey}
+use Rattle.sentry_hub.proofs.Handles.{done_for, refused_for}
+use Rattle.sentry_lock.specs.Answers.{LockAnswers, LockRefuses}
+use Rattle.sentry_span_edits.specs.Reads as reads
+use Rattle.sentry_trace.specs.TraceHeaders.{headers_left}
+use Rattle.std.proofs.Common.{◌≡◌, false, []}
+use Rattle.sentry_hub.proofs.performance.handle.Handle.iter_headers.Goals as goal
+
+pub returns-in-Some-clause-done : goal.returns-in-Some-clause-done
+returns-in-Some-clause-done g c =
+    done_for (λ reply. (c.args.self.now.1 ≡ false) × (headers_left reply ≡ []))
+    (λ (key : TransactionOrSpanKey). λ reply. LockAnswers g.row.L-Processor.Denot g.row.L-Callbacks.Denot g.row.L-Transport.Denot reply (reads.iter_headers key)) _ _ c.span_key.ensures
+    c.iter_headers.result c.iter_headers.ensures.done
+
+pub returns-in-Some-clause-refused : goal.returns-in-Some-clause-refused
+returns-in-Some-clause-refused g c =
+    refused_for (λ (key : TransactionOrSpanKey). λ refusal. LockRefuses g.row.L-Processor.Denot g.row.L-Callbacks.Denot g.row.L-Transport.Denot refusal (reads.iter_headers key)) _ _ c.span_key.ensures
+    c.iter_headers.result c.iter_headers.ensures.refused

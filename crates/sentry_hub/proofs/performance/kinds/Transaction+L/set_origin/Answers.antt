@@ -1,0 +1,17 @@
+use Rattle.sentry_base.specs.declared.protocol.keys.TransactionKey.{TransactionKey}
+use Rattle.sentry_hub.proofs.Handles.{done_for, refused_for}
+use Rattle.sentry_lock.specs.Answers.{LockAnswers, LockRefuses}
+use Rattle.sentry_span_edits.specs.Setters as setters
+use Rattle.std.proofs.Common.{◌≡◌, false}
+use Rattle.sentry_hub.proofs.performance.kinds.Transaction+L.set_origin.Goals as goal
+
+pub returns-in-Some-clause-done : goal.returns-in-Some-clause-done
+returns-in-Some-clause-done g c =
+    done_for (λ reply. c.args.self.now.1 ≡ false)
+    (λ (key : TransactionKey). λ reply. LockAnswers g.row.L-Processor.Denot g.row.L-Callbacks.Denot g.row.L-Transport.Denot reply (setters.set_origin key c.args.origin.now)) _ _ c.key.ensures
+    c.set_origin.result c.set_origin.ensures.done
+
+pub returns-in-Some-clause-refused : goal.returns-in-Some-clause-refused
+returns-in-Some-clause-refused g c =
+    refused_for (λ (key : TransactionKey). λ refusal. LockRefuses g.row.L-Processor.Denot g.row.L-Callbacks.Denot g.row.L-Transport.Denot refusal (setters.set_origin key c.args.origin.now)) _ _ c.key.ensures
+    c.set_origin.result c.set_origin.ensures.refused
