@@ -4,9 +4,11 @@
 //! Most hold the lock of the core once, in which they look whether the hub is active and make the call. Meanwhile the clock
 //! and the generator of the thread are asked: neither may make a call on the core, which would wait for itself. Closures
 //! run without the lock, and so do the methods of an error, and what makes breadcrumbs.
-ghost use Rattle.std.specs.Prelude.{◌≡◌, IfErr, IfOk, IfSome};
+ghost use Rattle.std.specs.Prelude.{◌≡◌, ◌⊎◌, IfErr, IfOk, IfSome};
 ghost use Rattle.std.specs.Iterator.{IsFiniteIterable};
 ghost use Rattle.std.specs.Option.{IsSome};
+ghost use Rattle.sentry_calls.specs.Hubs as hubs;
+ghost use Rattle.sentry_lock.specs.Answers.{LockAnswersWithoutMemory, LockRefusesWithoutMemory};
 ghost use Rattle.sentry_hub.specs.Requests.{message_event, with_request};
 ghost use Rattle.sentry_hub.specs.Works.{Answers};
 
@@ -374,6 +376,9 @@ where
     A: Default,
     F: FnOnce(&I, &Hub<L>) -> A + Drop,
     requires { F.IsAlwaysCallable callback }
+    ensures { IfOk result (λ answer. A.is_default answer
+        ⊎ ((lent : _) × (hub : _) × F.post callback lent hub answer × (hub.now ≡ thread.now.current)
+        × ((I.meaning lent.now).name ≡ name.now))) }
 {
     let hub = &thread.current;
     if !hub.is_active()? {
@@ -391,7 +396,12 @@ where
 /// `Stale`: the hub isn't held.
 pub fn last_event_id<L: CoreLock, K, G>(
     thread: &ThreadHub<Hub<L>, K, G>,
-) -> Result<Option<Uuid>, Refusal> {
+) -> Result<Option<Uuid>, Refusal>
+    ensures done { IfOk result (λ reply. LockAnswersWithoutMemory L.Processor L.Callbacks L.Transport
+        reply (hubs.last_event_id thread.now.current)) }
+    ensures refused { IfErr result (λ refusal. LockRefusesWithoutMemory L.Processor L.Callbacks L.Transport
+        refusal (hubs.last_event_id thread.now.current)) }
+{
     thread.current.last_event_id()
 }
 
