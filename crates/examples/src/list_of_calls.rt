@@ -44,8 +44,10 @@ impl Integration for Counter {
 /// Runs the example.
 pub fn run(rt: &impl Print, alloc: Global) -> Result<()> {
     let added = Arc::new(alloc, AtomicU64::new(0))?;
-    let first = add_client(alloc, &added, 0)?;
-    let second = add_client(alloc, &added, 1)?;
+    let one: BoxedIntegration = Box::new(alloc, Counter(added.clone()?))?;
+    let other: BoxedIntegration = Box::new(alloc, Counter(added.clone()?))?;
+    let first = add_client(alloc, one, 0)?;
+    let second = add_client(alloc, other, 1)?;
     let calls = vec![in alloc; first, second, new_hub(alloc)?]?;
     println!(rt; "the calls are made in turn")?;
     match Engine::run(alloc, 0, calls) {
@@ -56,10 +58,9 @@ pub fn run(rt: &impl Print, alloc: Global) -> Result<()> {
     Ok(())
 }
 
-// A call that adds a client, which the number counts.
-fn add_client(alloc: Global, added: &Arc<AtomicU64>, label: u64) -> Result<Call> {
-    let counter: BoxedIntegration = Box::new(alloc, Counter(added.clone()?))?;
-    let options = options(alloc)?.add_integration(counter)?;
+// A call that adds a client with an integration.
+fn add_client(alloc: Global, integration: BoxedIntegration, label: u64) -> Result<Call> {
+    let options = options(alloc)?.add_integration(integration)?;
     Ok(Call::Client(ClientCall::AddClient {
         options: Boxed::new(alloc, options)?,
         transport: true,
