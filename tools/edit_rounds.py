@@ -3,6 +3,7 @@
 A body is proved by the contracts of what it calls and not by their bodies, so no edit of a round can have the function of
 another one refused. Where that isn't plain from what the prover says, the edits are tried one by one.
 """
+import functools
 import os
 import re
 
@@ -33,6 +34,7 @@ def is_in_body(text, old):
     return bool(opens and closes) and opens.end() <= at and at + len(old) <= closes.start()
 
 
+@functools.cache
 def changes_bodies(edit):
     """Whether all that an edit changes stands in bodies."""
     texts, crate = {}, os.path.dirname(os.path.dirname(edit))
@@ -44,6 +46,7 @@ def changes_bodies(edit):
     return True
 
 
+@functools.cache
 def names_of(edit):
     """The names of the functions in which the changes of an edit begin."""
     crate = os.path.dirname(os.path.dirname(edit))
@@ -52,23 +55,15 @@ def names_of(edit):
     return {NAME.search(it[-1][0])[1] for it in heads if it}
 
 
-def rounds_of(edits, size):
-    """The edits in rounds of at most so many, none with two of functions of one name, since the prover's words for a
-    method don't always tell its type. An edit that changes more than bodies stands alone."""
-    rounds, alone = [], []
+def next_round(edits, size):
+    """The edits of the next round: the first of them that fit into one, at most so many. None has functions of the name of
+    another's, since the prover's words for a method don't always tell its type. Edits that change more than bodies come
+    last, each alone."""
+    tried, taken = Round(), set()
     for edit in edits:
-        names = names_of(edit)
-        if not changes_bodies(edit):
-            alone.append(edit)
-            continue
-        for tried, taken in rounds:
-            if len(tried.edits) < size and not names & taken and tried.takes(edit):
-                taken |= names
-                break
-        else:
-            rounds.append((Round(), names))
-            rounds[-1][0].takes(edit)
-    return [tried.edits for tried, _ in rounds] + [[it] for it in alone]
+        if len(tried.edits) < size and not names_of(edit) & taken and changes_bodies(edit) and tried.takes(edit):
+            taken |= names_of(edit)
+    return tried.edits or edits[:1]
 
 
 def edit_at(crate, tried, file, line):

@@ -1,7 +1,8 @@
-//! Closures that call the hub which they were passed to: they run without the lock.
-use crate::workshop::{Bench, Callbacks, at, fresh};
+//! Closures, and breadcrumbs of a caller's own type, that call the hub which they were passed to: they run without the
+//! lock.
+use crate::workshop::{Bench, Callbacks, Thread, at, fresh};
 use sentry_core::protocol::{Refusal, SpanId, TraceId};
-use sentry_core::{Breadcrumb, TransactionContext};
+use sentry_core::{Breadcrumb, Few, IntoBreadcrumbs, TransactionContext, add_breadcrumb};
 use sentry_hub::Hub;
 use sentry_lock::CoreLock;
 use std::alloc::{AllocError, Global};
@@ -19,6 +20,34 @@ fn breadcrumb_of<L: CoreLock>(hub: &Hub<L>) -> Result<Breadcrumb, AllocError> {
     } else {
         Err(AllocError)
     }
+}
+
+// A breadcrumb, if this hub can be asked.
+struct Asking<'a, L: CoreLock>(&'a Hub<L>);
+
+impl<L: CoreLock> Drop for Asking<'_, L> {
+    fn drop(self) {
+        let Asking(_) = self;
+    }
+}
+
+impl<L: CoreLock> IntoBreadcrumbs for Asking<'_, L> {
+    ghost use Rattle.std.specs.Prelude.{⊤};
+
+    ghost breadcrumbs = { λ _ _. ⊤ };
+
+    fn into_breadcrumbs(self, _alloc: Global) -> Result<Few<Breadcrumb>, AllocError> {
+        Ok(Few::single(Some(breadcrumb_of(self.0)?)))
+    }
+}
+
+// Adds such breadcrumbs by the method of a hub and by the function. Answers how many the hub has then.
+fn ask_in_breadcrumbs<L: CoreLock>(thread: &mut Thread<L>) -> Result<usize, Refusal> {
+    let asked = Hub::new_from_top(&thread.current)?;
+    thread.current.add_breadcrumb(Asking(&asked), at(1))?;
+    add_breadcrumb(thread, Asking(&asked))?;
+    let scope = thread.current.scope()?;
+    Ok(scope.breadcrumbs.get().map_or(0, |trail| trail.len()))
 }
 
 // Whether the hub answers in a closure that is lent the data of a transaction.
@@ -44,5 +73,14 @@ fn closures_run_without_the_lock(rt: HostRuntime) -> Result<(), Fail> {
     let answers = ask_in_closures(&bench.thread.current)?;
     drop(bench);
     assert_eq!(rt; answers, [true; 3]);
+    Ok(())
+}
+
+#[test]
+fn breadcrumbs_are_made_without_the_lock(rt: HostRuntime) -> Result<(), Fail> {
+    let mut bench = Bench::new(rt, rt.alloc())?;
+    let added = ask_in_breadcrumbs(&mut bench.thread)?;
+    drop(bench);
+    assert_eq!(rt; added, 2);
     Ok(())
 }

@@ -110,10 +110,8 @@ impl<R: Wait + Drop> Transport for Notebook<R> {
 
 /// Options with a DSN.
 pub(crate) fn options(alloc: Global, is_starving: bool) -> Result<Options, Refusal> {
-    let callbacks = Quiet {
-        is_starving,
-        ..Quiet::new()
-    };
+    let mut callbacks = Quiet::new();
+    callbacks.is_starving = is_starving;
     ClientOptions::with_callbacks(alloc, callbacks).dsn("https://key@sentry.example.com/42")
 }
 

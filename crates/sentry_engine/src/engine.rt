@@ -13,7 +13,8 @@ mod sessions;
 mod spans;
 mod telemetry;
 
-pub use facts::Held;
+pub use facts::{EventProcessors, Held};
+pub use hubs::one_clears;
 pub use layers::ScopeGuard;
 use sentry_options::Callbacks;
 use sentry_state::State;

@@ -4,4 +4,4 @@
 pub mod call;
 pub mod engine;
 
-pub use engine::{Engine, Held, Out, ScopeGuard, Sent};
+pub use engine::{Engine, EventProcessors, Held, Out, ScopeGuard, Sent, one_clears};

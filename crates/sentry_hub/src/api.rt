@@ -253,7 +253,7 @@ pub fn add_breadcrumb<L: CoreLock, K: Clock, G, B: IntoBreadcrumbsAt>(
     ensures current { thread.new.current ≡ thread.old.current }
 {
     let hub = &thread.current;
-    if !hub.is_active()? {
+    if !B::ARE_MADE_AT && !hub.is_active()? {
         return Ok(());
     }
     let alloc = hub.core().allocator();

@@ -6,6 +6,7 @@ ghost use Rattle.sentry_lock.specs.Words.{AreLabelled};
 mod calls;
 mod clients;
 mod hubs;
+pub(crate) mod let_go;
 mod losses;
 mod sending;
 mod spans;

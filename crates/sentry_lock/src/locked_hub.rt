@@ -113,8 +113,11 @@ impl<P: EventCallback + Drop, C: Callbacks, T: Transport + Drop> LockedHub<'_, P
             reply (hubs.configure self.entry.hub edits.items now)) }
     {
         let LockedHub { mut guard, hub } = self;
-        let handed = guard.under.core.configure(hub, edits, now)?;
+        let core = &mut guard.under.core;
+        let let_go = core.processors_cleared(hub, &edits);
+        let handed = core.configure(hub, edits, now)?;
         drop(guard);
+        drop(let_go);
         Ok(handed.deliver())
     }
 
@@ -179,8 +182,11 @@ impl<P: EventCallback + Drop, C: Callbacks, T: Transport + Drop> LockedHub<'_, P
             reply (layers.release_hub self.entry.hub now)) }
     {
         let LockedHub { mut guard, hub } = self;
-        let handed = guard.under.core.release_hub(hub, now)?;
+        let core = &mut guard.under.core;
+        let let_go = core.processors_of(hub);
+        let handed = core.release_hub(hub, now)?;
         drop(guard);
+        drop(let_go);
         Ok(handed.deliver())
     }
 

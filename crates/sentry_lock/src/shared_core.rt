@@ -16,6 +16,7 @@ mod spans;
 use crate::client::{Client, ClientSetup};
 use crate::core_lock::{CoreGuard, CoreLock, Gate, Locked};
 use crate::handed::Handed;
+use crate::locked::let_go::{LetGo, processors_in};
 use crate::under_lock::UnderLock;
 use sentry_base::callbacks::EventCallback;
 use sentry_base::protocol::{ClientKey, ClientReport, HubKey, Label, Losses, Refusal};
@@ -37,6 +38,9 @@ use std::sync::Arc;
 /// Each call that can hand out envelopes first drains and absorbs the losses of each label that a held client names, in
 /// the order of the labels; then it makes the engine's call; then, without the lock, it hands the envelopes to their
 /// transports. What was absorbed stays so if the call is refused.
+///
+/// The processors and callbacks of a layer, a hub or a client that goes are dropped once the lock is free; what a refused
+/// call was handed may be dropped under it.
 pub struct SharedCore<L> {
     core: Arc<L>,
     alloc: Global,
@@ -144,7 +148,12 @@ impl<L: CoreLock> SharedCore<L> {
             refusal (step L.Processor.gives L.Callbacks.meanings call)) }
     {
         let mut guard = self.lock();
-        match guard.under.core.drain_and_apply(call) {
+        let core = &mut guard.under.core;
+        let let_go = core.let_go_by(&call);
+        let made = core.drain_and_apply(call);
+        drop(guard);
+        drop(let_go);
+        match made {
             Ok(handed) => Ok(handed),
             Err(refusal) => Err(refusal),
         }
@@ -170,20 +179,22 @@ impl<L: CoreLock> SharedCore<L> {
         }
     }
 
-    // Makes the calls up to the first refusal, and answers that. What they hand out goes to the end of the list. The lock
-    // is free again when it returns.
+    // Makes the calls up to the first refusal, and answers that. What they hand out goes to the end of one list, what they
+    // may let go to the end of the other. The lock is free again when it returns.
     fn all_called(
         &self,
         calls: Vec<Call<L::Processor, L::Callbacks>>,
         all: &mut Vec<Handed<Reply<L::Processor, L::Callbacks>, L::Transport>>,
+        let_go: &mut Vec<LetGo<L::Processor, L::Callbacks>>,
     ) -> Result<(), Refusal>
         requires ordinary { list_all is_ordinary_call calls.items ≡ true }
         requires room { vec_len all.old + length calls.items ≤ vec_capacity all.old }
+        requires room_beside { vec_len let_go.old + length calls.items ≤ vec_capacity let_go.old }
         ensures done { OnOk result (LockMakesEach L.Transport L.Processor.gives L.Callbacks.meanings calls.items) }
         ensures refused { IfErr result (λ refusal. LockRefusesOne L.Transport
             L.Processor.gives L.Callbacks.meanings calls.items refusal) }
     {
-        self.lock().under.core.apply_all(calls, all)
+        self.lock().under.core.apply_all(calls, all, let_go)
     }
 
     /// Makes the calls in order, in one hold of the lock, up to the first that is refused, and answers that refusal. The
@@ -197,7 +208,8 @@ impl<L: CoreLock> SharedCore<L> {
             ⊎ LockRefusesOne L.Transport L.Processor.gives L.Callbacks.meanings calls.items refusal) }
     {
         let mut all = Vec::with_capacity(self.alloc, calls.len())?;
-        let answer = self.all_called(calls, &mut all);
+        let mut let_go = Vec::with_capacity(self.alloc, calls.len())?;
+        let answer = self.all_called(calls, &mut all, &mut let_go);
         for handed in all {
             drop(handed.deliver());
         }
@@ -255,7 +267,11 @@ impl<L: CoreLock> SharedCore<L> {
         ensures refused { IfErr result (λ refusal. LockRefuses L.Processor L.Callbacks L.Transport
             refusal (hubs.new_hub client scope)) }
     {
-        self.lock().under.core.new_hub(client, scope)
+        // By this share the processors of a scope that is refused are dropped without the lock.
+        let let_go: LetGo<L::Processor, L::Callbacks> = processors_in(&scope);
+        let added = self.lock().under.core.new_hub(client, scope);
+        drop(let_go);
+        added
     }
 
     /// Pushes a copy of a hub's top layer onto it. The guard stands for the new layer.
@@ -281,8 +297,11 @@ impl<L: CoreLock> SharedCore<L> {
         ensures back { IfErr result (λ refused. refused.1 ≡ guard) }
     {
         let mut held = self.lock();
-        let handed = held.under.core.pop_scope(guard, now)?;
+        let core = &mut held.under.core;
+        let let_go = core.processors_of(guard.hub());
+        let handed = core.pop_scope(guard, now)?;
         drop(held);
+        drop(let_go);
         Ok(handed.deliver())
     }
 }

@@ -1,14 +1,19 @@
 //! What a caller that keeps something beside an engine has to know of it.
-ghost use Rattle.std.specs.Prelude.{◌≡◌, Some, None, if◌then◌else◌, length};
+ghost use Rattle.std.specs.Prelude.{◌≡◌, Some, None, [], if◌then◌else◌, length, IfOk, unwrap_or};
 ghost use Rattle.std.specs.Option.{option_map, option_and_then};
 ghost use Rattle.sentry_hub_table.specs.Names.{all_layers};
 ghost use Rattle.sentry_state.specs.Books.{has_book};
-ghost use Rattle.sentry_state.specs.Outcomes.{client_at};
+ghost use Rattle.sentry_state.specs.Outcomes.{client_at, hub_at};
 ghost use Rattle.sentry_state.specs.Worlds.{World, Stands};
 
 use crate::engine::Engine;
-use sentry_base::protocol::{ClientKey, Label};
+use sentry_base::protocol::{ClientKey, HubKey, Label};
 use sentry_options::Callbacks;
+use sentry_plain::{CopyOnWrite, Items, Shared};
+use std::alloc::AllocError;
+
+/// The event processors of a scope, as a share.
+pub type EventProcessors<P> = CopyOnWrite<Items<Shared<P>>>;
 
 /// How many clients, hubs, layers of all hubs, transactions, spans, and sessions that go on an engine holds.
 #[derive(Clone, Copy, Debug, PartialEq, Eq)]
@@ -89,6 +94,18 @@ impl<P: Drop, C: Callbacks> Engine<P, C> {
                 true => Some(held.options.get().plain.shutdown_timeout),
                 false => None,
             },
+        }
+    }
+
+    /// The event processors of a hub's top scope, as a share; none if the hub isn't held. As long as the share is held, no
+    /// call drops one of them.
+    pub fn event_processors(&self, hub: HubKey) -> Result<EventProcessors<P>, AllocError>
+        ensures { (world : World P C) → Stands self.now world → IfOk result
+            (λ processors. processors ≡ unwrap_or (option_map (λ held. held.stack.top.scope.processors) (hub_at world hub)) []) }
+    {
+        match self.state.hub_at(hub) {
+            None => Ok(CopyOnWrite::new(self.state.alloc)),
+            Some(held) => held.stack.top.scope.processors.clone(),
         }
     }
 }

@@ -58,8 +58,8 @@ fn is_clear<P>(edit: &ScopeEdit<P>) -> bool
     matches!(edit, ScopeEdit::Clear(_, _))
 }
 
-// Whether one of the edits clears the scope.
-fn one_clears<P>(edits: &[ScopeEdit<P>]) -> bool
+/// Whether one of the edits clears the scope.
+pub fn one_clears<P>(edits: &[ScopeEdit<P>]) -> bool
     ensures { result ≡ list_any is_clear edits.now }
 {
     edits.iter().any(|edit| is_clear(edit))

@@ -28,6 +28,13 @@ impl Model for ScopeGuard {
 }
 
 impl ScopeGuard {
+    /// The hub.
+    pub fn hub(&self) -> HubKey
+        ensures { result ≡ self.now.0 }
+    {
+        self.hub
+    }
+
     /// The hub, and its depth after the push.
     pub fn into_parts(self) -> (HubKey, usize)
         ensures { result ≡ self }

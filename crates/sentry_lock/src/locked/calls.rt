@@ -14,6 +14,7 @@ ghost use Rattle.sentry_lock.specs.Words.{Drainers};
 
 use crate::handed::{Handed, Routes, Transports};
 use crate::locked::Core;
+use crate::locked::let_go::LetGo;
 use sentry_base::callbacks::EventCallback;
 use sentry_base::protocol::Refusal;
 use sentry_engine::call::{Answer, Call, ClientCall, HubCall, Reply, SpanCall};
@@ -147,19 +148,22 @@ impl<P: EventCallback + Drop, C: Callbacks, T: Drop> Core<P, C, T> {
     }
 
     /// The same with each call of a list, in order, up to the first that is refused, and answers that refusal. What they
-    /// hand out goes to the end of the other list.
+    /// hand out goes to the end of one list, what they may let go to the end of the other.
     pub(crate) fn apply_all(
         &mut self,
         calls: Vec<Call<P, C>>,
         all: &mut Vec<Handed<Reply<P, C>, T>>,
+        let_go: &mut Vec<LetGo<P, C>>,
     ) -> Result<(), Refusal>
         requires ordinary { list_all is_ordinary_call calls.items ≡ true }
         requires room { vec_len all.old + length calls.items ≤ vec_capacity all.old }
+        requires room_beside { vec_len let_go.old + length calls.items ≤ vec_capacity let_go.old }
         ensures done { OnOk result (MakesEach T P.gives C.meanings self.old self.new calls.items) }
         ensures refused { IfErr result (λ refusal. RefusesOne T P.gives C.meanings self.old calls.items refusal) }
         ensures labels { self.new.next_label ≡ self.old.next_label }
     {
         for call in calls {
+            let_go.push_reserved(self.let_go_by(&call));
             match self.drain_and_apply(call) {
                 Ok(handed) => all.push_reserved(handed),
                 Err(refusal) => return Err(refusal),

@@ -11,7 +11,8 @@ loop-call-preserved g c =
     let did = c.in-Ok.ensures.done in
     record {
       ordinary = search rules;
-      room = grind (arith, c.push_reserved.ensures.len, c.push_reserved.ensures.capacity, loop.invariant.room, e);
+      room = grind (arith, c.push_reserved-in-Ok.ensures.len, c.push_reserved-in-Ok.ensures.capacity, loop.invariant.room, e);
+      room_beside = grind (arith, c.push_reserved.ensures.len, c.push_reserved.ensures.capacity, loop.invariant.room_beside, e);
       labels = search rules;
       leads =
           leads_on _ g.P.EventCallback.gives g.C.Callbacks.meanings c.args.calls.items c.args.self.now loop.self

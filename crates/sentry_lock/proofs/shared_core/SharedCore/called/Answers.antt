@@ -7,7 +7,7 @@ pub returns-in-Ok-clause-done : goal.returns-in-Ok-clause-done
 returns-in-Ok-clause-done g c =
     let did = c.in-Ok.ensures.done in
     lock_makes c.behind-guard.inside.core (can_hand_out c.args.call) (needs c.args.call) did.0
-    c.drain_and_apply.new.self.engine did.1 _ c.in-Ok.handed.out did.2 did.3
+    c.drain_and_apply-made.new.self.engine did.1 _ c.in-Ok.handed.out did.2 did.3
 
-pub returns-clause-refused : goal.returns-clause-refused
-returns-clause-refused g c = (c.behind-guard.inside.core, c.in-Err.ensures.refusal)
+pub returns-in-Err-clause-refused : goal.returns-in-Err-clause-refused
+returns-in-Err-clause-refused g c = (c.behind-guard.inside.core, c.in-Err.ensures.refusal)
