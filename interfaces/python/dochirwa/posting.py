@@ -2,6 +2,7 @@
 from __future__ import annotations
 
 import base64
+import encodings.idna  # noqa: F401  (a process that is forked off while the posting thread imports it could encode no host)
 import gzip
 import http.client
 import io

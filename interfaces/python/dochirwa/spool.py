@@ -5,7 +5,7 @@ import contextlib
 import itertools
 import os
 import time
-from typing import Iterator, List, Optional, Tuple
+from typing import BinaryIO, Iterator, List, Optional, Tuple
 
 try:
     import fcntl
@@ -23,6 +23,7 @@ class Spool:
 
     def __init__(self, folder: str) -> None:
         self.folder, self.numbers = folder, itertools.count()
+        self.held: Optional[BinaryIO] = None
         os.makedirs(folder, mode=0o700, exist_ok=True)
 
     def names(self) -> List[str]:
@@ -94,4 +95,11 @@ class Spool:
                 except OSError:
                     yield False
                     return
+            self.held = file
             yield True
+
+    def after_fork(self) -> None:
+        """In a process that was forked off: it holds a copy of the file by which the parent has the folder, and would have
+        the folder after the parent's end."""
+        if self.held is not None:
+            self.held.close()

@@ -77,6 +77,8 @@ class Sender:
         self.in_flight, self.failures, self.told = None, 0, 0
         if isinstance(self.post, Poster):
             self.post.close()
+        if self.spool is not None:
+            self.spool.after_fork()
         self.is_closing = self.is_over = self.has_left = False
         self.start()
 
