@@ -19,18 +19,19 @@ impl Limits {
     /// Keeps what an answer says.
     pub(crate) fn keep(&mut self, answer: &Answer, now: Instant) {
         self.0.retain(|it| now < it.1);
-        match (&answer.rate_limits, answer.status) {
+        match (answer.rate_limits.as_deref().filter(|it| !it.trim().is_empty()), answer.status) {
             (Some(limits), _) => limits.split(',').for_each(|it| self.keep_limit(it.trim(), now)),
             (None, 429) => self.0.push((None, now + seconds(answer.retry_after.as_deref().unwrap_or("")))),
             _ => {}
         }
     }
 
-    /// Keeps a limit as `60:error;transaction:organization`. One of no category is of all.
+    /// Keeps a limit as `60:error;transaction:organization`. One of an empty category is of all, and a text without a colon
+    /// is none.
     fn keep_limit(&mut self, limit: &str, now: Instant) {
-        let mut parts = limit.split(':');
-        let until = now + seconds(parts.next().unwrap_or(""));
-        for name in parts.next().unwrap_or("").split(';') {
+        let Some((length, rest)) = limit.split_once(':') else { return };
+        let until = now + seconds(length);
+        for name in rest.split(':').next().unwrap_or("").split(';') {
             let of = Category::ALL
                 .iter()
                 .find(|it| it.as_str() == name || (name == "trace_metric" && **it == Category::Metric));
@@ -86,5 +87,15 @@ mod tests {
         }
         let (limits, now) = after(200, None, Some("3"));
         assert!(!limits.holds(None, now));
+    }
+
+    #[test]
+    fn what_is_no_limit_holds_nothing() {
+        for text in ["", " ", "60", ",", "60, "] {
+            let (limits, now) = after(200, Some(text), None);
+            assert!(!limits.holds(Some(Category::Error), now) && !limits.holds(None, now), "{text:?}");
+        }
+        let (limits, now) = after(429, Some(""), Some("3"));
+        assert!(limits.holds(None, now));
     }
 }
