@@ -360,12 +360,13 @@ impl Hub {
             Slot::OfMain(of, hub) if *of == number => Some(hub.clone()),
             Slot::OfMain(..) => None,
         });
-        found.ok()?.or_else(|| {
+        found.ok().flatten().unwrap_or_else(|| {
             let hub = Hub::main().and_then(|main| Hub::new_from_top(&main).ok());
+            // (a thread whose values have ended keeps none)
             let before = CURRENT.try_with(|it| it.replace(Slot::OfMain(number, hub.clone())));
             drop(before);
-            Some(hub)
-        })?
+            hub
+        })
     }
 
     /// Calls a function with the hub of this thread; what it would give by default where there is none.

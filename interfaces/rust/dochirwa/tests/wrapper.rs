@@ -387,8 +387,31 @@ fn each_thread_has_a_hub_of_its_own() {
     Hub::run(hub, || capture_message("in a hub of its own", Level::Info));
     let tags: Vec<_> = sent.payloads("event").iter().map(|it| (has_tag(it, "main"), has_tag(it, "other"))).collect();
     assert_eq!(tags, [(true, true), (true, false), (false, false)]);
+    // a value of a thread that ends captures, before or after the thread's hub has gone
+    for is_first in [true, false] {
+        let other = std::thread::spawn(move || {
+            let begin = || ENDS.with(|_| ());
+            is_first.then(begin);
+            capture_message("in a thread", Level::Info);
+            (!is_first).then(begin);
+        });
+        other.join().unwrap();
+        assert_eq!(sent.payloads("event").len(), 2, "{is_first}");
+    }
     drop(guard);
     assert!(capture_message("nobody hears it", Level::Info).is_nil() && Hub::current().is_none());
+}
+
+struct CapturesAtItsEnd;
+
+impl Drop for CapturesAtItsEnd {
+    fn drop(&mut self) {
+        capture_message("at the end", Level::Info);
+    }
+}
+
+thread_local! {
+    static ENDS: CapturesAtItsEnd = const { CapturesAtItsEnd };
 }
 
 /// Answers as a test says, and keeps what was posted.
