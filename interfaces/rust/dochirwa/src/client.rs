@@ -9,6 +9,7 @@ use crate::types::*;
 use std::fmt;
 use std::fs::File;
 use std::io::Read;
+use std::panic::{catch_unwind, AssertUnwindSafe};
 use std::sync::atomic::{AtomicBool, Ordering};
 use std::sync::mpsc::{channel, RecvTimeoutError, Sender};
 use std::sync::{Arc, Mutex, PoisonError};
@@ -102,8 +103,8 @@ impl Shared {
     fn send(self: &Arc<Shared>, bytes: Vec<u8>) {
         let envelope = Envelope::new(bytes, Arc::downgrade(self));
         match &self.before_send {
-            Some(keeps) if !keeps(&envelope) => envelope.lose(Reason::BeforeSend),
-            _ => self.transport.send_envelope(envelope),
+            Some(keeps) if !caught(|| keeps(&envelope)) => envelope.lose(Reason::BeforeSend),
+            _ => caught(|| self.transport.send_envelope(envelope)),
         }
     }
 
@@ -113,7 +114,7 @@ impl Shared {
 
     fn flush(self: &Arc<Shared>, timeout: Duration) -> bool {
         self.tolerated(|state| state.engine.flush(self.client));
-        self.transport.flush(timeout)
+        caught(|| self.transport.flush(timeout))
     }
 
     fn close(self: &Arc<Shared>, timeout: Duration) -> bool {
@@ -121,8 +122,14 @@ impl Shared {
             return true;
         }
         self.tolerated(|state| state.engine.close(self.client));
-        self.transport.shutdown(timeout)
+        caught(|| self.transport.shutdown(timeout))
     }
+}
+
+/// What a function of the program answers. Its panic ends no call, since an end of the crate may have made that, in the midst
+/// of another panic, and no thread.
+fn caught<R: Default>(call: impl FnOnce() -> R) -> R {
+    catch_unwind(AssertUnwindSafe(call)).unwrap_or_default()
 }
 
 /// A client, which any threads may share. Its hubs capture.

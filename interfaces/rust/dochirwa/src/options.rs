@@ -182,8 +182,8 @@ impl ClientOptions {
         self
     }
 
-    /// Asks a function of each envelope before the transport has it. Where it answers false, the envelope isn't sent, and
-    /// is counted as lost for [`Reason::BeforeSend`](crate::Reason::BeforeSend).
+    /// Asks a function of each envelope before the transport has it. Where it answers false, or panics, the envelope isn't
+    /// sent, and is counted as lost for [`Reason::BeforeSend`](crate::Reason::BeforeSend).
     pub fn before_send(mut self, keeps: impl Fn(&Envelope) -> bool + Send + Sync + 'static) -> ClientOptions {
         self.before_send = Some(Arc::new(keeps));
         self

@@ -105,7 +105,7 @@ fn losses(item: &Item<'_>, reason: Reason) -> Vec<(Category, Reason, u64)> {
 /// What takes the envelopes of a client. A closure is one.
 pub trait Transport: Send + Sync {
     /// Takes an envelope, on the thread that made the call which it comes from. What isn't sent is to be lost by
-    /// [`Envelope::lose`].
+    /// [`Envelope::lose`]. A panic ends nothing but the envelope.
     fn send_envelope(&self, envelope: Envelope);
 
     /// Waits until what it took so far is sent or lost, and answers whether it was in time.

@@ -342,6 +342,52 @@ fn a_hook_drops_envelopes_and_they_are_reported() {
 }
 
 #[test]
+fn a_panic_of_a_hook_or_a_transport_loses_its_envelope_alone() {
+    let sent = Sent::default();
+    let has = |it: &Envelope, word: &str| it.items().any(|it| String::from_utf8_lossy(it.payload()).contains(word));
+    let taken = sent.clone();
+    let take = move |it: Envelope| {
+        assert!(!has(&it, "to the transport"), "on purpose");
+        taken.0.lock().unwrap().push(it);
+    };
+    let (meets, met) = channel();
+    let keep = move |it: &Envelope| {
+        let is_for_it = has(it, "to the hook");
+        let _ = meets.send(is_for_it);
+        assert!(!is_for_it, "on purpose");
+        true
+    };
+    let options = ClientOptions::new().dsn(DSN).traces_sample_rate(1.0).transport(take).before_send(keep);
+    let client = Client::with_options(options).unwrap();
+    let hub = Hub::new(&client).unwrap();
+    for message in ["to the transport", "to the hook"] {
+        assert!(!hub.capture_message(message, Level::Info).is_nil());
+    }
+    // an end in the midst of a panic
+    let ended = std::panic::catch_unwind(std::panic::AssertUnwindSafe(|| {
+        let _sale = hub.start_transaction(&TransactionContext::new("to the hook", "till"));
+        panic!("of the program, on purpose");
+    }));
+    assert!(ended.is_err() && sent.take().is_empty());
+    assert_eq!(met.try_iter().collect::<Vec<_>>(), [false, true, true]);
+    // the thread that tells the time goes on
+    for (body, is_for_hook) in [("to the hook", true), ("after", false)] {
+        hub.capture_log(&Log::new(LogLevel::Info, body));
+        assert_eq!(met.recv_timeout(Duration::from_secs(30)), Ok(is_for_hook));
+    }
+    let begun = std::time::Instant::now();
+    while sent.0.lock().unwrap().is_empty() && begun.elapsed() < Duration::from_secs(30) {
+        std::thread::sleep(Duration::from_millis(10));
+    }
+    let found = sent.take().iter().map(|it| String::from_utf8_lossy(it.as_bytes()).into_owned()).collect::<String>();
+    for (category, quantity) in [("error", 1), ("transaction", 1), ("log_item", 1)] {
+        let entry = format!("\"reason\":\"before_send\",\"category\":\"{category}\",\"quantity\":{quantity}}}");
+        assert_eq!(found.matches(&entry).count(), 1, "{entry} in {found}");
+    }
+    assert_eq!(found.matches("\"after\"").count(), 1, "{found}");
+}
+
+#[test]
 fn what_a_transport_loses_is_reported() {
     let sent = Sent::default();
     let client = sent.client(ClientOptions::new().traces_sample_rate(1.0));
