@@ -8,7 +8,7 @@ use crate::transport::{Envelope, Transport, TransportThread};
 use crate::types::*;
 use std::fmt;
 use std::fs::File;
-use std::io::Read;
+use std::io::{Read, Write};
 use std::panic::{catch_unwind, AssertUnwindSafe};
 use std::sync::atomic::{AtomicBool, Ordering};
 use std::sync::mpsc::{channel, RecvTimeoutError, Sender};
@@ -94,7 +94,8 @@ impl Shared {
     pub(crate) fn tolerated<R: Default>(self: &Arc<Shared>, call: impl FnOnce(&mut State) -> Result<R, Fault>) -> R {
         self.call(call).unwrap_or_else(|fault| {
             if self.debug {
-                eprintln!("dochirwa: {fault}");
+                // (where standard error can't be written to, nothing is)
+                let _ = writeln!(std::io::stderr(), "dochirwa: {fault}");
             }
             R::default()
         })

@@ -600,6 +600,24 @@ fn logs_are_sent_after_a_while() {
     assert_eq!(sent.payloads("log").len(), 1);
 }
 
+/// Runs itself once more, with a standard error that nobody reads.
+#[test]
+fn a_fault_that_cannot_be_printed_ends_nothing() {
+    const NAME: &str = "a_fault_that_cannot_be_printed_ends_nothing";
+    if std::env::var_os(NAME).is_none() {
+        let (read, written) = std::os::unix::net::UnixStream::pair().unwrap();
+        drop(read);
+        let mut again = std::process::Command::new(std::env::current_exe().unwrap());
+        again.args(["--exact", NAME, "--nocapture"]).env(NAME, "").stdout(std::process::Stdio::null());
+        assert!(again.stderr(std::os::fd::OwnedFd::from(written)).status().unwrap().success());
+        return;
+    }
+    let client = Sent::default().client(ClientOptions::new().debug(true));
+    // at a rate that is none
+    let sale = TransactionContext::new("sell", "till").sample_rate(7.0);
+    assert!(Hub::new(&client).unwrap().start_transaction(&sale).iter_headers().next().is_none());
+}
+
 #[test]
 fn a_span_of_another_client_is_passed_over() {
     let sent = Sent::default();
