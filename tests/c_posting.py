@@ -4,6 +4,7 @@ what is looked at, what is wanted, and what was found."""
 import collections
 import http.server
 import json
+import signal
 import subprocess
 import threading
 import time
@@ -110,6 +111,7 @@ def all_of(path, env=None):
     program.capture(3)
     yield "a flush", "1", flushed(program)
     yield "where and how envelopes are posted", {("/api/7/envelope/", "Sentry sentry_key=akey, sentry_version=7, sentry_client=posting/1", "application/x-sentry-envelope", 200)}, set(store.posts)
+    yield "a signal that the program waits for", str(int(signal.SIGTERM)), program.do("wait")
     store.stop()
     program.capture(5)
     yield "a flush while the store is killed", "1", flushed(program)

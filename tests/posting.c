@@ -1,9 +1,16 @@
 /* Makes the calls that the lines of its standard input say over a reporter of dochirwa_curl.h, and prints an answer for each:
  * `error TEXT`, `log TEXT`, `transaction CHILDREN`, `session`, `drop TEXT` (of what has it nothing is posted), `flush
- * MILLISECONDS` and `close MILLISECONDS`. Its argument is the DSN. tests/c_interface runs it. */
+ * MILLISECONDS`, `wait` (for a signal of the process, which it sends) and `close MILLISECONDS`. Its argument is the DSN.
+ * tests/c_interface runs it. */
+#ifndef _DEFAULT_SOURCE
+#define _DEFAULT_SOURCE
+#endif
 #include "dochirwa_curl.h"
+#include <pthread.h>
+#include <signal.h>
 #include <stdio.h>
 #include <stdlib.h>
+#include <unistd.h>
 
 static dochirwa_curl *reporter;
 
@@ -51,6 +58,16 @@ static uint32_t call(const char *name, const char *text) {
     return fault;
 }
 
+/* The signal that this thread, which alone waits for it, gets. */
+static int waited(void) {
+    sigset_t set;
+    int came = 0;
+    sigemptyset(&set);
+    sigaddset(&set, SIGTERM);
+    pthread_sigmask(SIG_BLOCK, &set, NULL);
+    return kill(getpid(), SIGTERM) || sigwait(&set, &came) ? -1 : came;
+}
+
 int main(int count, char **words) {
     char options[300], line[300], dropped[300] = "", name[20], text[280];
     snprintf(options, sizeof options, "dsn=%s\nrelease=r\ntraces=1\n", count > 1 ? words[1] : "");
@@ -65,6 +82,7 @@ int main(int count, char **words) {
             dochirwa_curl_before_send(reporter, keeps, dropped);
             printf("0\n");
         } else if (strcmp(name, "flush") == 0) printf("%d\n", dochirwa_curl_flush(reporter, (uint32_t)atoi(text)));
+        else if (strcmp(name, "wait") == 0) printf("%d\n", waited());
         else if (strcmp(name, "close") == 0) {
             printf("%d\n", dochirwa_curl_close(reporter, (uint32_t)atoi(text)));
             return 0;

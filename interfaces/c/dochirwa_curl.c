@@ -5,6 +5,7 @@
 #include "dochirwa_curl.h"
 #include <curl/curl.h>
 #include <pthread.h>
+#include <signal.h>
 #include <stdlib.h>
 #include <strings.h>
 #include <sys/random.h>
@@ -469,6 +470,18 @@ static void free_all(dochirwa_curl *curl) {
     free(curl);
 }
 
+/* Starts the thread, without the signals of the process: the program's own threads wait for those. */
+static bool start(dochirwa_curl *curl) {
+    static const int faults[] = {SIGBUS, SIGFPE, SIGILL, SIGSEGV};
+    sigset_t others, before;
+    sigfillset(&others);
+    for (size_t i = 0; i < sizeof faults / sizeof *faults; i++) sigdelset(&others, faults[i]);
+    pthread_sigmask(SIG_SETMASK, &others, &before);
+    bool is_started = pthread_create(&curl->thread, NULL, run, curl) == 0;
+    pthread_sigmask(SIG_SETMASK, &before, NULL);
+    return is_started;
+}
+
 uint32_t dochirwa_curl_open(dochirwa_curl **made, const char *options, const char *client_agent) {
     dochirwa_curl *curl = (dochirwa_curl *)calloc(1, sizeof *curl);
     size_t dsn_length;
@@ -490,7 +503,7 @@ uint32_t dochirwa_curl_open(dochirwa_curl **made, const char *options, const cha
     pthread_cond_init(&curl->come, &clock);
     pthread_cond_init(&curl->done, &clock);
     pthread_condattr_destroy(&clock);
-    if (pthread_create(&curl->thread, NULL, run, curl)) {
+    if (!start(curl)) {
         free_all(curl);
         return DOCHIRWA_FAULT_OUT_OF_MEMORY;
     }

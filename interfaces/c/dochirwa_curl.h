@@ -9,7 +9,7 @@
  *
  * Any thread may call these functions, but no signal handler. A process that is forked off makes no call. The first reporter
  * is opened before another thread uses libcurl (curl_global_init). They answer 0 or the number of a fault as dochirwa.h
- * has them.
+ * has them. The reporter's thread takes no signals of the process.
  */
 #ifndef DOCHIRWA_CURL_H
 #define DOCHIRWA_CURL_H
