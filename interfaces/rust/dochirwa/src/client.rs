@@ -216,7 +216,7 @@ fn transport_of(options: &ClientOptions) -> Result<Arc<dyn Transport>, InitError
 /// Starts the thread that tells a client the time, until what is returned, or the client, is gone.
 fn start_ticks(shared: &Arc<Shared>) -> std::io::Result<Sender<()>> {
     let ((sender, receiver), weak) = (channel::<()>(), Arc::downgrade(shared));
-    std::thread::Builder::new().name("dochirwa-ticks".into()).spawn(move || {
+    crate::threads::start("dochirwa-ticks", move || {
         while let (Err(RecvTimeoutError::Timeout), Some(shared)) = (receiver.recv_timeout(INTERVAL), weak.upgrade()) {
             shared.tolerated(|state| state.engine.tick(shared.client, Moment::now()));
         }

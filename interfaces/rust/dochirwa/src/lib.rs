@@ -32,6 +32,7 @@ mod protocol;
 mod read;
 #[cfg(feature = "backtrace")]
 mod stacktrace;
+mod threads;
 mod transport;
 mod types;
 mod value;

@@ -208,7 +208,7 @@ impl TransportThread {
     pub fn start(http: Arc<dyn HttpClient>, url: String, auth: String) -> std::io::Result<TransportThread> {
         let queue = Arc::new(Queue::default());
         let (taken, mut limits) = (queue.clone(), Limits::default());
-        std::thread::Builder::new().name("dochirwa".into()).spawn(move || {
+        crate::threads::start("dochirwa", move || {
             while let Some(envelope) = taken.next() {
                 post(&*http, &url, &auth, &mut limits, envelope);
             }

@@ -600,6 +600,29 @@ fn logs_are_sent_after_a_while() {
     assert_eq!(sent.payloads("log").len(), 1);
 }
 
+#[cfg(target_os = "linux")]
+#[test]
+fn no_thread_takes_signals_of_the_process() {
+    let client = Client::with_options(ClientOptions::new().dsn(DSN).http_client(Server::default())).unwrap();
+    let mask = |status: String| {
+        let blocked = status.lines().find_map(|it| it.strip_prefix("SigBlk:")).map(str::trim);
+        blocked.and_then(|it| u64::from_str_radix(it, 16).ok()).unwrap()
+    };
+    let (mut found, begun) = (Vec::new(), std::time::Instant::now());
+    // (a thread has its name once it runs, and others may end meanwhile)
+    while found.len() < 2 && begun.elapsed() < Duration::from_secs(30) {
+        let threads = std::fs::read_dir("/proc/self/task").unwrap().map(|it| it.unwrap().path().join("status"));
+        let masks = threads.filter_map(|it| std::fs::read_to_string(it).ok());
+        let masks = masks.filter(|it| it.starts_with("Name:\tdochirwa")).map(mask);
+        // SIGINT, SIGPIPE, SIGTERM, and SIGSEGV
+        found = masks.map(|it| [2, 13, 15, 11].map(|signal| it >> (signal - 1) & 1)).collect();
+    }
+    assert!(found.len() >= 2 && found.iter().all(|it| *it == [1, 1, 1, 0]), "{found:?}");
+    drop(client);
+    let own = mask(std::fs::read_to_string("/proc/thread-self/status").unwrap());
+    assert_eq!(own >> 14 & 1, 0);
+}
+
 /// Runs itself once more, with a standard error that nobody reads.
 #[test]
 fn a_fault_that_cannot_be_printed_ends_nothing() {
