@@ -81,6 +81,7 @@ class Program:
 
     def __init__(self, path, dsn, env):
         self.process = subprocess.Popen([path, dsn], stdin=subprocess.PIPE, stdout=subprocess.PIPE, text=True, env=env)
+        self.dsn = dsn
         self.captured, self.first = collections.Counter(), self.process.stdout.readline().strip()
 
     def do(self, line):
@@ -132,7 +133,20 @@ def all_of(path, env=None):
     yield from full(store, program)
     yield from counted(store, program)
     yield "closing", ("1", 0), (program.do("close 5000"), program.process.wait(20))
+    for after in ("99999999999999999999", "18446744073709552", "-1"):
+        yield f"how often is posted within a limit of {after} seconds", 1, posts_within(store, Program(path, program.dsn, env), after)
     store.stop()
+
+
+def posts_within(store, program, after):
+    """How often is posted, of three times, where the first is refused with a Retry-After."""
+    store.answer, before = (429, {"Retry-After": after}), len(store.posts)
+    for _ in range(3):
+        program.do("error within a limit")
+        flushed(program)
+    program.do("close 5000")
+    program.process.wait(20)
+    return len(store.posts) - before
 
 
 def limited(store, program):

@@ -11,7 +11,7 @@
 #include <sys/random.h>
 #include <time.h>
 
-enum { CATEGORIES = 7, ALL = CATEGORIES, TICK_MILLISECONDS = 1000, POST_MILLISECONDS = 10000 };
+enum { CATEGORIES = 7, ALL = CATEGORIES, TICK_MILLISECONDS = 1000, POST_MILLISECONDS = 10000, DAY_SECONDS = 86400 };
 
 static const char *const category_names[CATEGORIES] = {"error", "transaction", "span", "session", "attachment", "log_item", "metric"};
 static const char *const reason_names[] = {"event_processor", "before_send", "sample_rate", "buffer_overflow", "send_error", "internal_sdk_error", "network_error", "ratelimit_backoff", "queue_overflow"};
@@ -211,11 +211,11 @@ static void limit(dochirwa_curl *curl, const char *name, size_t length, uint64_t
     if (of <= ALL && curl->until[of] < until) curl->until[of] = until;
 }
 
-/* The seconds that a text begins with, or 60 where it begins with none. */
+/* The seconds that a text begins with, a day at most, or 60 where it begins with none. */
 static uint64_t seconds_of(const char *text) {
-    char *end;
-    unsigned long seconds = strtoul(text, &end, 10);
-    return end == text ? 60 : seconds;
+    if (*text < '0' || *text > '9') return 60;
+    unsigned long seconds = strtoul(text, NULL, 10);
+    return seconds > DAY_SECONDS ? (uint64_t)DAY_SECONDS : seconds;
 }
 
 /* Keeps limits such as `60:error;transaction:organization, 2700::key`. */
