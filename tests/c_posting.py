@@ -68,7 +68,7 @@ class Store:
     def keep(self, path, headers, text, status):
         has, reported = counts_of(text)
         self.texts.append(text)
-        self.posts.append((path, headers["X-Sentry-Auth"], headers["Content-Type"], status))
+        self.posts.append((path, headers["X-Sentry-Auth"], headers["Content-Type"], headers["Expect"], status))
         if status == 200:
             self.received += has
             self.reported += reported
@@ -110,8 +110,10 @@ def all_of(path, env=None):
     program = Program(path, f"http://akey@127.0.0.1:{store.port}/7", env)
     yield "opening a reporter", "0", program.first
     program.capture(3)
+    yield "a long error", "0", program.do("long 2000000")
+    program.captured["error"] += 1
     yield "a flush", "1", flushed(program)
-    yield "where and how envelopes are posted", {("/api/7/envelope/", "Sentry sentry_key=akey, sentry_version=7, sentry_client=posting/1", "application/x-sentry-envelope", 200)}, set(store.posts)
+    yield "where and how envelopes are posted", {("/api/7/envelope/", "Sentry sentry_key=akey, sentry_version=7, sentry_client=posting/1", "application/x-sentry-envelope", None, 200)}, set(store.posts)
     yield "a signal that the program waits for", str(int(signal.SIGTERM)), program.do("wait")
     store.stop()
     program.capture(5)

@@ -1,7 +1,7 @@
 /* Makes the calls that the lines of its standard input say over a reporter of dochirwa_curl.h, and prints an answer for each:
- * `error TEXT`, `log TEXT`, `transaction CHILDREN`, `session`, `drop TEXT` (of what has it nothing is posted), `flush
- * MILLISECONDS`, `wait` (for a signal of the process, which it sends) and `close MILLISECONDS`. Its argument is the DSN.
- * tests/c_interface runs it. */
+ * `error TEXT`, `long LENGTH` (an error with a text of that length), `log TEXT`, `transaction CHILDREN`, `session`,
+ * `drop TEXT` (of what has it nothing is posted), `flush MILLISECONDS`, `wait` (for a signal of the process, which it
+ * sends) and `close MILLISECONDS`. Its argument is the DSN. tests/c_interface runs it. */
 #ifndef _DEFAULT_SOURCE
 #define _DEFAULT_SOURCE
 #endif
@@ -68,6 +68,16 @@ static int waited(void) {
     return kill(getpid(), SIGTERM) || sigwait(&set, &came) ? -1 : came;
 }
 
+static uint32_t long_error(size_t length) {
+    char *text = (char *)malloc(length + 1);
+    if (!text) return 1;
+    memset(text, 'x', length);
+    text[length] = 0;
+    uint32_t fault = dochirwa_curl_error(reporter, "long", text, NULL);
+    free(text);
+    return fault;
+}
+
 int main(int count, char **words) {
     char options[300], line[300], dropped[300] = "", name[20], text[280];
     snprintf(options, sizeof options, "dsn=%s\nrelease=r\ntraces=1\n", count > 1 ? words[1] : "");
@@ -82,6 +92,7 @@ int main(int count, char **words) {
             dochirwa_curl_before_send(reporter, keeps, dropped);
             printf("0\n");
         } else if (strcmp(name, "flush") == 0) printf("%d\n", dochirwa_curl_flush(reporter, (uint32_t)atoi(text)));
+        else if (strcmp(name, "long") == 0) printf("%u\n", long_error((size_t)atol(text)));
         else if (strcmp(name, "wait") == 0) printf("%d\n", waited());
         else if (strcmp(name, "close") == 0) {
             printf("%d\n", dochirwa_curl_close(reporter, (uint32_t)atoi(text)));

@@ -434,6 +434,8 @@ static bool set_up_curl(dochirwa_curl *curl, const char *options, const char *ag
     if (auth && curl->curl) curl->headers = curl_slist_append(NULL, auth);
     free(auth);
     struct curl_slist *more = curl->headers ? curl_slist_append(curl->headers, "Content-Type: application/x-sentry-envelope") : NULL;
+    /* without this libcurl waits for the server to ask for a long body */
+    if (more) more = curl_slist_append(curl->headers, "Expect:");
     if (!more || !curl->url) return false;
     curl_easy_setopt(curl->curl, CURLOPT_URL, curl->url);
     curl_easy_setopt(curl->curl, CURLOPT_HTTPHEADER, curl->headers);
