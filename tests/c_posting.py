@@ -30,10 +30,11 @@ def counts_of(text):
 
 
 class Store:
-    """A server on loopback. `answer` is the status and the headers of the next answers, `delay` what each waits."""
+    """A server on loopback. `answer` is the status and the headers of the next answers, `delay` what each waits; connections
+    end with it unless `keeps_open`."""
 
     def __init__(self):
-        self.answer, self.delay, self.port = (200, {}), 0, 0
+        self.answer, self.delay, self.port, self.keeps_open = (200, {}), 0, 0, False
         self.received, self.refused, self.reported = (collections.Counter() for _ in range(3))
         self.posts, self.texts = [], []
         self.start()
@@ -42,13 +43,15 @@ class Store:
         store = self
 
         class Handler(http.server.BaseHTTPRequestHandler):
+            protocol_version = "HTTP/1.1"
+
             def do_POST(self):
                 text = self.rfile.read(int(self.headers["Content-Length"]))
                 time.sleep(store.delay)
                 status, headers = store.answer
                 store.keep(self.path, self.headers, text, status)
                 self.send_response(status)
-                for name, value in {**headers, "Content-Length": "0"}.items():
+                for name, value in {**headers, "Content-Length": "0", "Connection": "keep-alive" if store.keeps_open else "close"}.items():
                     self.send_header(name, value)
                 self.end_headers()
 
@@ -109,11 +112,16 @@ def all_of(path, env=None):
     store = Store()
     program = Program(path, f"http://akey@127.0.0.1:{store.port}/7", env)
     yield "opening a reporter", "0", program.first
+    store.keeps_open = True
     program.capture(3)
     yield "a long error", "0", program.do("long 2000000")
     program.captured["error"] += 1
     yield "a flush", "1", flushed(program)
     yield "where and how envelopes are posted", {("/api/7/envelope/", "Sentry sentry_key=akey, sentry_version=7, sentry_client=posting/1", "application/x-sentry-envelope", None, 200)}, set(store.posts)
+    yield "connections that a program has which it starts", "0", program.do("inherited")
+    store.keeps_open = False
+    program.capture(1)
+    flushed(program)
     yield "a signal that the program waits for", str(int(signal.SIGTERM)), program.do("wait")
     store.stop()
     program.capture(5)

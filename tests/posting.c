@@ -1,15 +1,17 @@
 /* Makes the calls that the lines of its standard input say over a reporter of dochirwa_curl.h, and prints an answer for each:
  * `error TEXT`, `long LENGTH` (an error with a text of that length), `log TEXT`, `transaction CHILDREN`, `session`,
  * `drop TEXT` (of what has it nothing is posted), `flush MILLISECONDS`, `wait` (for a signal of the process, which it
- * sends) and `close MILLISECONDS`. Its argument is the DSN. tests/c_interface runs it. */
+ * sends), `inherited` (how many of its connections a program has that it starts) and `close MILLISECONDS`. Its argument is the DSN. tests/c_interface runs it. */
 #ifndef _DEFAULT_SOURCE
 #define _DEFAULT_SOURCE
 #endif
 #include "dochirwa_curl.h"
+#include <fcntl.h>
 #include <pthread.h>
 #include <signal.h>
 #include <stdio.h>
 #include <stdlib.h>
+#include <sys/socket.h>
 #include <unistd.h>
 
 static dochirwa_curl *reporter;
@@ -68,6 +70,17 @@ static int waited(void) {
     return kill(getpid(), SIGTERM) || sigwait(&set, &came) ? -1 : came;
 }
 
+static int inherited(void) {
+    int count = 0;
+    for (int file = 0; file < 256; file++) {
+        struct sockaddr_storage address;
+        socklen_t size = sizeof address;
+        bool is_connection = getpeername(file, (struct sockaddr *)&address, &size) == 0 && address.ss_family == AF_INET;
+        if (is_connection && !(fcntl(file, F_GETFD) & FD_CLOEXEC)) count++;
+    }
+    return count;
+}
+
 static uint32_t long_error(size_t length) {
     char *text = (char *)malloc(length + 1);
     if (!text) return 1;
@@ -93,6 +106,7 @@ int main(int count, char **words) {
             printf("0\n");
         } else if (strcmp(name, "flush") == 0) printf("%d\n", dochirwa_curl_flush(reporter, (uint32_t)atoi(text)));
         else if (strcmp(name, "long") == 0) printf("%u\n", long_error((size_t)atol(text)));
+        else if (strcmp(name, "inherited") == 0) printf("%d\n", inherited());
         else if (strcmp(name, "wait") == 0) printf("%d\n", waited());
         else if (strcmp(name, "close") == 0) {
             printf("%d\n", dochirwa_curl_close(reporter, (uint32_t)atoi(text)));

@@ -9,6 +9,7 @@
 #include <stdlib.h>
 #include <strings.h>
 #include <sys/random.h>
+#include <sys/socket.h>
 #include <time.h>
 
 enum { CATEGORIES = 7, ALL = CATEGORIES, TICK_MILLISECONDS = 1000, POST_MILLISECONDS = 10000, DAY_SECONDS = 86400 };
@@ -287,6 +288,12 @@ static size_t read_header(char *line, size_t size, size_t count, void *given) {
     return size * count;
 }
 
+/* A socket that no program has which this one starts: it would keep the connection. */
+static curl_socket_t open_socket(void *given, curlsocktype purpose, struct curl_sockaddr *address) {
+    (void)given, (void)purpose;
+    return socket(address->family, address->socktype | SOCK_CLOEXEC, address->protocol);
+}
+
 /* Stops a post where the reporter is to end. */
 static int go_on(void *given, curl_off_t a, curl_off_t b, curl_off_t c, curl_off_t d) {
     dochirwa_curl *curl = (dochirwa_curl *)given;
@@ -441,6 +448,7 @@ static bool set_up_curl(dochirwa_curl *curl, const char *options, const char *ag
     curl_easy_setopt(curl->curl, CURLOPT_HTTPHEADER, curl->headers);
     curl_easy_setopt(curl->curl, CURLOPT_POST, 1L);
     curl_easy_setopt(curl->curl, CURLOPT_NOSIGNAL, 1L);
+    curl_easy_setopt(curl->curl, CURLOPT_OPENSOCKETFUNCTION, open_socket);
     curl_easy_setopt(curl->curl, CURLOPT_TIMEOUT_MS, (long)POST_MILLISECONDS);
     curl_easy_setopt(curl->curl, CURLOPT_WRITEFUNCTION, ignore);
     curl_easy_setopt(curl->curl, CURLOPT_HEADERFUNCTION, read_header);
