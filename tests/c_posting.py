@@ -36,7 +36,7 @@ class Store:
     def __init__(self):
         self.answer, self.delay, self.port, self.keeps_open = (200, {}), 0, 0, False
         self.received, self.refused, self.reported = (collections.Counter() for _ in range(3))
-        self.posts, self.texts = [], []
+        self.posts, self.texts, self.moments = [], [], []
         self.start()
 
     def start(self):
@@ -71,6 +71,7 @@ class Store:
     def keep(self, path, headers, text, status):
         has, reported = counts_of(text)
         self.texts.append(text)
+        self.moments.append(time.monotonic())
         self.posts.append((path, headers["X-Sentry-Auth"], headers["Content-Type"], headers["Expect"], status))
         if status == 200:
             self.received += has
@@ -162,7 +163,7 @@ def posts_within(store, program, after):
 def limited(store, program):
     """Limits by category and of all, which end after a second or two."""
     for headers in ({"X-Sentry-Rate-Limits": "2:error;transaction:organization, 1:default:key"}, {"Retry-After": "2"}):
-        store.answer = (429, headers)
+        store.answer, first = (429, headers), len(store.posts)
         program.capture(1)
         flushed(program)
         store.answer, before = (200, {}), len(store.posts)
@@ -170,7 +171,8 @@ def limited(store, program):
             program.do("error within a limit")
         program.captured["error"] += 20
         time.sleep(0.3)
-        yield f"how often is posted within the limits {headers}", 0, len(store.posts) - before
+        ends = store.moments[first] + 2
+        yield f"how often is posted within the limits {headers}", 0, sum(it < ends for it in store.moments[before:])
         time.sleep(2)
         yield "a flush after the limits", "1", flushed(program)
 
