@@ -123,6 +123,13 @@ def all_of(path, env=None):
     store.keeps_open = False
     program.capture(1)
     flushed(program)
+    program.do("refuse 1000000000")
+    program.capture(1)
+    yield "a flush without getrandom", "1", flushed(program)
+    ids = [json.loads(it.split(b"\n", 1)[0]).get("event_id") for it in store.texts]
+    named = [it for it in ids if it]
+    yield "how many events have one id", 0, len(named) - len(set(named))
+    program.do("refuse 0")
     yield "a signal that the program waits for", str(int(signal.SIGTERM)), program.do("wait")
     store.stop()
     program.capture(5)

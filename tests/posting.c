@@ -1,20 +1,32 @@
 /* Makes the calls that the lines of its standard input say over a reporter of dochirwa_curl.h, and prints an answer for each:
  * `error TEXT`, `long LENGTH` (an error with a text of that length), `log TEXT`, `transaction CHILDREN`, `session`,
  * `drop TEXT` (of what has it nothing is posted), `flush MILLISECONDS`, `wait` (for a signal of the process, which it
- * sends), `inherited` (how many of its connections a program has that it starts) and `close MILLISECONDS`. Its argument is the DSN. tests/c_interface runs it. */
+ * sends), `inherited` (how many of its connections a program has that it starts), `refuse COUNT` (so many calls of getrandom)
+ * and `close MILLISECONDS`. Its argument is the DSN. tests/c_interface runs it. */
 #ifndef _DEFAULT_SOURCE
 #define _DEFAULT_SOURCE
 #endif
 #include "dochirwa_curl.h"
+#include <errno.h>
 #include <fcntl.h>
 #include <pthread.h>
 #include <signal.h>
 #include <stdio.h>
 #include <stdlib.h>
+#include <sys/random.h>
 #include <sys/socket.h>
+#include <sys/syscall.h>
 #include <unistd.h>
 
 static dochirwa_curl *reporter;
+static long refused;
+
+/* In place of the C library's, as a sandbox has it. */
+ssize_t getrandom(void *room, size_t length, unsigned flags) {
+    if (__atomic_load_n(&refused, __ATOMIC_RELAXED) <= 0 || __atomic_fetch_sub(&refused, 1, __ATOMIC_RELAXED) <= 0) return syscall(SYS_getrandom, room, length, flags);
+    errno = EPERM;
+    return -1;
+}
 
 static bool keeps(void *given, const uint8_t *envelope, size_t length) {
     const char *text = (const char *)given;
@@ -107,7 +119,10 @@ int main(int count, char **words) {
         } else if (strcmp(name, "flush") == 0) printf("%d\n", dochirwa_curl_flush(reporter, (uint32_t)atoi(text)));
         else if (strcmp(name, "long") == 0) printf("%u\n", long_error((size_t)atol(text)));
         else if (strcmp(name, "inherited") == 0) printf("%d\n", inherited());
-        else if (strcmp(name, "wait") == 0) printf("%d\n", waited());
+        else if (strcmp(name, "refuse") == 0) {
+            __atomic_store_n(&refused, atol(text), __ATOMIC_RELAXED);
+            printf("0\n");
+        } else if (strcmp(name, "wait") == 0) printf("%d\n", waited());
         else if (strcmp(name, "close") == 0) {
             printf("%d\n", dochirwa_curl_close(reporter, (uint32_t)atoi(text)));
             return 0;
