@@ -130,6 +130,9 @@ def all_of(path, env=None):
     named = [it for it in ids if it]
     yield "how many events have one id", 0, len(named) - len(set(named))
     program.do("refuse 0")
+    yield "a flush without memory", "0", program.do("starved message")
+    program.captured["error"] += 1
+    yield "a flush with memory", "1", flushed(program)
     yield "a signal that the program waits for", str(int(signal.SIGTERM)), program.do("wait")
     store.stop()
     program.capture(5)

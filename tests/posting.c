@@ -1,8 +1,9 @@
 /* Makes the calls that the lines of its standard input say over a reporter of dochirwa_curl.h, and prints an answer for each:
  * `error TEXT`, `long LENGTH` (an error with a text of that length), `log TEXT`, `transaction CHILDREN`, `session`,
  * `drop TEXT` (of what has it nothing is posted), `flush MILLISECONDS`, `wait` (for a signal of the process, which it
- * sends), `inherited` (how many of its connections a program has that it starts), `refuse COUNT` (so many calls of getrandom)
- * and `close MILLISECONDS`. Its argument is the DSN. tests/c_interface runs it. */
+ * sends), `inherited` (how many of its connections a program has that it starts), `refuse COUNT` (so many calls of getrandom),
+ * `starved TEXT` (a message, and a flush without memory) and `close MILLISECONDS`. Its argument is the DSN.
+ * tests/c_interface runs it. */
 #ifndef _DEFAULT_SOURCE
 #define _DEFAULT_SOURCE
 #endif
@@ -82,6 +83,27 @@ static int waited(void) {
     return kill(getpid(), SIGTERM) || sigwait(&set, &came) ? -1 : came;
 }
 
+static bool is_starved;
+extern void *__libc_realloc(void *, size_t);
+
+/* In place of the C library's. */
+void *realloc(void *old, size_t size) {
+    return __atomic_load_n(&is_starved, __ATOMIC_RELAXED) ? NULL : __libc_realloc(old, size);
+}
+
+/* What a flush answers where there is no memory for the text of a message that waits. */
+static bool starved(const char *text) {
+    dochirwa_id id;
+    dochirwa_fresh fresh = dochirwa_curl_fresh();
+    dochirwa *engine = dochirwa_curl_lock(reporter);
+    uint32_t fault = dochirwa_capture_message(engine, dochirwa_curl_hub(reporter), DOCHIRWA_ERROR, DOCHIRWA_TEXT(text), &fresh, &id);
+    __atomic_store_n(&is_starved, true, __ATOMIC_RELAXED);
+    dochirwa_curl_unlock(reporter);
+    bool is_well = dochirwa_curl_flush(reporter, 1000);
+    __atomic_store_n(&is_starved, false, __ATOMIC_RELAXED);
+    return is_well || fault;
+}
+
 static int inherited(void) {
     int count = 0;
     for (int file = 0; file < 256; file++) {
@@ -119,6 +141,7 @@ int main(int count, char **words) {
         } else if (strcmp(name, "flush") == 0) printf("%d\n", dochirwa_curl_flush(reporter, (uint32_t)atoi(text)));
         else if (strcmp(name, "long") == 0) printf("%u\n", long_error((size_t)atol(text)));
         else if (strcmp(name, "inherited") == 0) printf("%d\n", inherited());
+        else if (strcmp(name, "starved") == 0) printf("%d\n", starved(text));
         else if (strcmp(name, "refuse") == 0) {
             __atomic_store_n(&refused, atol(text), __ATOMIC_RELAXED);
             printf("0\n");

@@ -332,12 +332,14 @@ static void post(dochirwa_curl *curl, waiting *mail, bool is_flush) {
     if (status < 200 || status > 299) lose_locking(curl, mail, DOCHIRWA_BY_SEND_ERROR, status == 429);
 }
 
-/* Takes what waits in the engine into the queue. The lock of the engine is held. */
-static void fetch(dochirwa_curl *curl) {
+/* Takes what waits in the engine into the queue, and answers whether nothing stays for want of memory. The lock of the
+ * engine is held. */
+static bool fetch(dochirwa_curl *curl) {
     uint64_t client;
+    uint32_t fault;
     size_t size = 0, length = 0;
     uint8_t *room = NULL;
-    while (dochirwa_next_envelope(&curl->engine, &client, room, size, &length) == 0 && length) {
+    while (!(fault = dochirwa_next_envelope(&curl->engine, &client, room, size, &length)) && length) {
         if (length > size) {
             uint8_t *more = (uint8_t *)realloc(room, length);
             if (!more) break;
@@ -364,6 +366,7 @@ static void fetch(dochirwa_curl *curl) {
         room = NULL, size = 0;
     }
     free(room);
+    return !fault && !length;
 }
 
 /* The next envelope that waits, or null where none came within a second; and whether somebody flushes. */
@@ -548,14 +551,15 @@ void dochirwa_curl_before_send(dochirwa_curl *curl, bool (*keeps)(void *, const 
 
 bool dochirwa_curl_flush(dochirwa_curl *curl, uint32_t so_long) {
     struct timespec until = deadline(so_long);
-    dochirwa_flush(dochirwa_curl_lock(curl), curl->client);
-    dochirwa_curl_unlock(curl);
+    bool is_sent = dochirwa_flush(dochirwa_curl_lock(curl), curl->client) == 0;
+    if (!fetch(curl)) is_sent = false;
+    pthread_mutex_unlock(&curl->calls);
     pthread_mutex_lock(&curl->mail);
     curl->flushes++;
     while (curl->first || curl->is_posting)
         if (pthread_cond_timedwait(&curl->done, &curl->mail, &until)) break;
     curl->flushes--;
-    bool is_done = !curl->first && !curl->is_posting;
+    bool is_done = is_sent && !curl->first && !curl->is_posting;
     pthread_mutex_unlock(&curl->mail);
     return is_done;
 }

@@ -40,7 +40,8 @@ uint32_t dochirwa_curl_error(dochirwa_curl *curl, const char *type, const char *
 /* Calls a function of yours with each envelope before it is posted, on the thread. Where it answers false, the envelope is
  * not posted, and is counted as lost for DOCHIRWA_BY_BEFORE_SEND. Set it before the first call. */
 void dochirwa_curl_before_send(dochirwa_curl *curl, bool (*keeps)(void *given, const uint8_t *envelope, size_t length), void *given);
-/* Sends what waits, and waits until it is posted or lost, so long at most; answers whether it was in time. */
+/* Sends what waits, and waits until it is posted or lost, so long at most; answers whether it was in time, and false where
+ * something stays for want of memory. */
 bool dochirwa_curl_flush(dochirwa_curl *curl, uint32_t milliseconds);
 /* A flush, after which the thread ends and the reporter is freed; what still waits is lost. Null is closed already. */
 bool dochirwa_curl_close(dochirwa_curl *curl, uint32_t milliseconds);
