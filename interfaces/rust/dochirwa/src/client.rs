@@ -12,7 +12,7 @@ use std::io::{Read, Write};
 use std::panic::{catch_unwind, AssertUnwindSafe};
 use std::sync::atomic::{AtomicBool, Ordering};
 use std::sync::mpsc::{channel, RecvTimeoutError, Sender};
-use std::sync::{Arc, Mutex, PoisonError};
+use std::sync::{Arc, Mutex, MutexGuard, PoisonError};
 use std::time::Duration;
 
 /// The client's label, of which its engine has one.
@@ -27,6 +27,8 @@ pub(crate) struct State {
     random: File,
     /// What ended while something still named it.
     left: Vec<TransactionOrSpanId>,
+    /// Whether an envelope waits in the engine, for want of memory for its text.
+    is_full: bool,
 }
 
 impl State {
@@ -78,12 +80,20 @@ pub(crate) struct Shared {
 }
 
 impl Shared {
+    fn lock(&self) -> MutexGuard<'_, State> {
+        self.state.lock().unwrap_or_else(PoisonError::into_inner)
+    }
+
     /// Makes a call under the lock, and hands the envelopes that it gave to the transport after that.
     pub(crate) fn call<R>(self: &Arc<Shared>, call: impl FnOnce(&mut State) -> Result<R, Fault>) -> Result<R, Fault> {
         let (result, envelopes) = {
-            let mut state = self.state.lock().unwrap_or_else(PoisonError::into_inner);
+            let mut state = self.lock();
             let result = call(&mut state);
-            let waiting = std::iter::from_fn(|| state.engine.next_envelope().ok().flatten());
+            let waiting = std::iter::from_fn(|| {
+                let next = state.engine.next_envelope();
+                state.is_full = next.is_err();
+                next.ok().flatten()
+            });
             (result, waiting.map(|it| it.1).collect::<Vec<_>>())
         };
         envelopes.into_iter().for_each(|it| self.send(it));
@@ -113,17 +123,23 @@ impl Shared {
         self.tolerated(|state| state.engine.record_loss(LABEL, category, reason, quantity));
     }
 
+    /// Makes a call that sends what waits, and answers whether nothing stays for want of memory.
+    fn sends(self: &Arc<Shared>, call: impl FnOnce(&mut Engine, ClientId) -> Result<(), Fault>) -> bool {
+        let is_made = self.tolerated(|state| call(&mut state.engine, self.client).map(|()| true));
+        is_made && !self.lock().is_full
+    }
+
     fn flush(self: &Arc<Shared>, timeout: Duration) -> bool {
-        self.tolerated(|state| state.engine.flush(self.client));
-        caught(|| self.transport.flush(timeout))
+        let is_sent = self.sends(Engine::flush);
+        caught(|| self.transport.flush(timeout)) && is_sent
     }
 
     fn close(self: &Arc<Shared>, timeout: Duration) -> bool {
         if self.is_closed.swap(true, Ordering::SeqCst) {
             return true;
         }
-        self.tolerated(|state| state.engine.close(self.client));
-        caught(|| self.transport.shutdown(timeout))
+        let is_sent = self.sends(Engine::close);
+        caught(|| self.transport.shutdown(timeout)) && is_sent
     }
 }
 
@@ -148,7 +164,7 @@ impl Client {
         let client = engine.add_client(&options, LABEL, Moment::now())?;
         let random = File::open("/dev/urandom").map_err(InitError::Io)?;
         let shared = Arc::new(Shared {
-            state: Mutex::new(State { engine, random, left: Vec::new() }),
+            state: Mutex::new(State { engine, random, left: Vec::new(), is_full: false }),
             client,
             transport: transport_of(&options)?,
             before_send: options.before_send,
@@ -166,7 +182,8 @@ impl Client {
         self.shared.tolerated(|state| state.engine.is_enabled(self.shared.client))
     }
 
-    /// Sends what waits, and waits for the transport, by default as long as at the end. Answers whether it was in time.
+    /// Sends what waits, and waits for the transport, by default as long as at the end. Answers whether it was in time, and
+    /// false where something stays for want of memory.
     pub fn flush(&self, timeout: Option<Duration>) -> bool {
         self.shared.flush(timeout.unwrap_or(self.shared.shutdown_timeout))
     }

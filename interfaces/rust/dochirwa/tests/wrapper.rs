@@ -623,22 +623,58 @@ fn no_thread_takes_signals_of_the_process() {
     assert_eq!(own >> 14 & 1, 0);
 }
 
-/// Runs itself once more, with a standard error that nobody reads.
+/// Runs a test once more, in a process of its own, and answers whether this is that one.
+fn is_alone(name: &str, error: std::process::Stdio) -> bool {
+    if std::env::var_os(name).is_some() {
+        return true;
+    }
+    let mut again = std::process::Command::new(std::env::current_exe().unwrap());
+    again.args(["--exact", name, "--nocapture"]).env(name, "").stdout(std::process::Stdio::null());
+    assert!(again.stderr(error).status().unwrap().success());
+    false
+}
+
 #[test]
 fn a_fault_that_cannot_be_printed_ends_nothing() {
-    const NAME: &str = "a_fault_that_cannot_be_printed_ends_nothing";
-    if std::env::var_os(NAME).is_none() {
-        let (read, written) = std::os::unix::net::UnixStream::pair().unwrap();
-        drop(read);
-        let mut again = std::process::Command::new(std::env::current_exe().unwrap());
-        again.args(["--exact", NAME, "--nocapture"]).env(NAME, "").stdout(std::process::Stdio::null());
-        assert!(again.stderr(std::os::fd::OwnedFd::from(written)).status().unwrap().success());
+    let (read, written) = std::os::unix::net::UnixStream::pair().unwrap();
+    drop(read);
+    if !is_alone("a_fault_that_cannot_be_printed_ends_nothing", std::os::fd::OwnedFd::from(written).into()) {
         return;
     }
     let client = Sent::default().client(ClientOptions::new().debug(true));
     // at a rate that is none
     let sale = TransactionContext::new("sell", "till").sample_rate(7.0);
     assert!(Hub::new(&client).unwrap().start_transaction(&sale).iter_headers().next().is_none());
+}
+
+/// Leaves the process so many bytes of memory more, or no limit.
+#[cfg(target_os = "linux")]
+fn leave(bytes: Option<u64>) {
+    unsafe extern "C" {
+        fn setrlimit(resource: i32, limits: *const [u64; 2]) -> i32;
+    }
+    let status = std::fs::read_to_string("/proc/self/statm").unwrap();
+    let used = status.split(' ').next().unwrap().parse::<u64>().unwrap() * 4096;
+    // SAFETY: the limits are two numbers, as the C library has them.
+    assert_eq!(unsafe { setrlimit(9, &[bytes.map_or(u64::MAX, |it| used + it), u64::MAX]) }, 0);
+}
+
+#[cfg(target_os = "linux")]
+#[test]
+fn a_flush_without_memory_is_not_well() {
+    if !is_alone("a_flush_without_memory_is_not_well", std::process::Stdio::inherit()) {
+        return;
+    }
+    let sent = Sent::default();
+    let client = sent.client(ClientOptions::new());
+    let hub = Hub::new(&client).unwrap();
+    hub.capture_log(&Log::new(LogLevel::Info, "x".repeat(100_000_000)));
+    leave(Some(20_000_000));
+    let answers = [client.flush(None), client.flush(None)];
+    leave(None);
+    assert_eq!((answers, sent.take().len()), ([false, false], 0));
+    assert!(client.flush(None));
+    assert_eq!(sent.take().len(), 1);
 }
 
 #[test]
