@@ -26,7 +26,8 @@
  *   what is written through (the engine, room, and the results) overlaps nothing else;
  * - malloc, realloc and free are those of one allocator, with blocks aligned to 16;
  * - no call from a signal handler, and no fork while another thread is in a call, unless the child makes none. A child
- *   has a copy of all that waits: dochirwa_flush on each client, and dochirwa_drop_envelopes, leave it to the parent.
+ *   has a copy of all that waits, and of sessions: dochirwa_end_session on each hub, dochirwa_flush on each client, and then
+ *   dochirwa_drop_envelopes, leave them to the parent. What was lost, and no envelope has reported yet, both may report.
  */
 #ifndef DOCHIRWA_H
 #define DOCHIRWA_H
