@@ -154,9 +154,22 @@ def all_of(path, env=None):
     yield from full(store, program)
     yield from counted(store, program)
     yield "closing", ("1", 0), (program.do("close 5000"), program.process.wait(20))
+    yield "how often a flush posts reports alone", 199, reports_alone(store, Program(path, program.dsn, env))
     for after in ("99999999999999999999", "18446744073709552", "-1"):
         yield f"how often is posted within a limit of {after} seconds", 1, posts_within(store, Program(path, program.dsn, env), after)
     store.stop()
+
+
+def reports_alone(store, program):
+    """How often is posted, of 200 flushes with a log within a limit: the first has no report of an earlier one."""
+    store.answer = (429, {"X-Sentry-Rate-Limits": "600:log_item:key"})
+    program.do("log refused")
+    flushed(program)
+    store.answer, before = (200, {}), len(store.posts)
+    program.do("flushes 200")
+    program.do("close 5000")
+    program.process.wait(20)
+    return len(store.posts) - before
 
 
 def posts_within(store, program, after):

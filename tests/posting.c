@@ -1,9 +1,9 @@
 /* Makes the calls that the lines of its standard input say over a reporter of dochirwa_curl.h, and prints an answer for each:
  * `error TEXT`, `long LENGTH` (an error with a text of that length), `log TEXT`, `transaction CHILDREN`, `session`,
- * `drop TEXT` (of what has it nothing is posted), `flush MILLISECONDS`, `wait` (for a signal of the process, which it
- * sends), `inherited` (how many of its connections a program has that it starts), `refuse COUNT` (so many calls of getrandom),
- * `starved TEXT` (a message, and a flush without memory) and `close MILLISECONDS`. Its argument is the DSN.
- * tests/c_interface runs it. */
+ * `drop TEXT` (of what has it nothing is posted), `flush MILLISECONDS`, `flushes COUNT` (each of a log), `wait` (for a signal
+ * of the process, which it sends), `inherited` (how many of its connections a program has that it starts), `refuse COUNT`
+ * (so many calls of getrandom), `starved TEXT` (a message, and a flush without memory) and `close MILLISECONDS`. Its
+ * argument is the DSN. tests/c_interface runs it. */
 #ifndef _DEFAULT_SOURCE
 #define _DEFAULT_SOURCE
 #endif
@@ -125,6 +125,12 @@ static uint32_t long_error(size_t length) {
     return fault;
 }
 
+static bool flushes(int count) {
+    bool is_well = true;
+    while (is_well && count-- > 0) is_well = call("log", "a log") == 0 && dochirwa_curl_flush(reporter, 20000);
+    return is_well;
+}
+
 int main(int count, char **words) {
     char options[300], line[300], dropped[300] = "", name[20], text[280];
     snprintf(options, sizeof options, "dsn=%s\nrelease=r\ntraces=1\n", count > 1 ? words[1] : "");
@@ -141,6 +147,7 @@ int main(int count, char **words) {
         } else if (strcmp(name, "flush") == 0) printf("%d\n", dochirwa_curl_flush(reporter, (uint32_t)atoi(text)));
         else if (strcmp(name, "long") == 0) printf("%u\n", long_error((size_t)atol(text)));
         else if (strcmp(name, "inherited") == 0) printf("%d\n", inherited());
+        else if (strcmp(name, "flushes") == 0) printf("%d\n", flushes(atoi(text)));
         else if (strcmp(name, "starved") == 0) printf("%d\n", starved(text));
         else if (strcmp(name, "refuse") == 0) {
             __atomic_store_n(&refused, atol(text), __ATOMIC_RELAXED);

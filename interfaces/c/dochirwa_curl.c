@@ -551,11 +551,13 @@ void dochirwa_curl_before_send(dochirwa_curl *curl, bool (*keeps)(void *, const 
 
 bool dochirwa_curl_flush(dochirwa_curl *curl, uint32_t so_long) {
     struct timespec until = deadline(so_long);
+    pthread_mutex_lock(&curl->mail);
+    curl->flushes++; /* before the thread can take what the engine hands out */
+    pthread_mutex_unlock(&curl->mail);
     bool is_sent = dochirwa_flush(dochirwa_curl_lock(curl), curl->client) == 0;
     if (!fetch(curl)) is_sent = false;
     pthread_mutex_unlock(&curl->calls);
     pthread_mutex_lock(&curl->mail);
-    curl->flushes++;
     while (curl->first || curl->is_posting)
         if (pthread_cond_timedwait(&curl->done, &curl->mail, &until)) break;
     curl->flushes--;
