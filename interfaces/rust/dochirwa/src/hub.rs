@@ -136,18 +136,21 @@ impl Hub {
 
     /// Pushes a copy of the top scope, which the end of the guard pops.
     pub fn push_scope(&self) -> ScopeGuard {
-        let depth = self.shared().call(|state| state.engine.push_scope(self.0.id)).ok();
+        let depth = self.tolerated(|state, hub| state.engine.push_scope(hub).map(Some));
         ScopeGuard { hub: self.clone(), depth }
     }
 
-    /// Calls a function under a scope of its own, which another function has changed.
+    /// Calls a function under a scope of its own, which another function has changed; without memory for the scope, under
+    /// the one that is there.
     pub fn with_scope<R>(&self, change: impl FnOnce(&mut Scope<'_>), call: impl FnOnce() -> R) -> R {
-        let _guard = self.push_scope();
-        self.configure_scope(change);
+        let guard = self.push_scope();
+        if guard.depth.is_some() {
+            self.configure_scope(change);
+        }
         call()
     }
 
-    /// Pops a scope, and what is to be popped below it; later, if scopes above it are pushed.
+    /// Pops a scope, and what is to be popped below it; later, if scopes above it are pushed, or without memory.
     fn pop(&self, depth: Depth) {
         self.tolerated(|state, hub| {
             let mut unpopped = self.0.unpopped.lock().unwrap_or_else(PoisonError::into_inner);
@@ -156,6 +159,7 @@ impl Hub {
             while let Some(top) = unpopped.last() {
                 match state.engine.pop_scope(hub, *top, Moment::now()) {
                     Err(Fault::OUT_OF_ORDER) => break,
+                    Err(Fault::OUT_OF_MEMORY) => return Err(Fault::OUT_OF_MEMORY),
                     popped => {
                         unpopped.pop();
                         popped?;
