@@ -199,6 +199,10 @@ impl ClientOptions {
             }
             lines += &format!("{name}={text}\n");
         }
+        // (it goes into a header)
+        if self.user_agent.as_ref().is_some_and(|it| it.contains(['\r', '\n'])) {
+            return Err(OptionError::LineFeed("user_agent"));
+        }
         for (name, rate) in &self.rates {
             let rate = fraction(*rate).ok_or(OptionError::Rate(name))?;
             lines += &format!("{name}={rate}\n");
@@ -309,6 +313,8 @@ mod tests {
             (ClientOptions::new().drop_breadcrumbs(injected), "drop_breadcrumbs"),
             (ClientOptions::new().drop_logs(injected), "drop_logs"),
             (ClientOptions::new().drop_metrics(injected), "drop_metrics"),
+            (ClientOptions::new().user_agent(injected), "user_agent"),
+            (ClientOptions::new().user_agent("shop\r"), "user_agent"),
         ] {
             assert_eq!(options.lines(), Err(OptionError::LineFeed(name)));
         }
