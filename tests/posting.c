@@ -134,7 +134,9 @@ static bool flushes(int count) {
 int main(int count, char **words) {
     char options[300], line[300], dropped[300] = "", name[20], text[280];
     snprintf(options, sizeof options, "dsn=%s\nrelease=r\ntraces=1\n", count > 1 ? words[1] : "");
-    uint32_t fault = dochirwa_curl_open(&reporter, options, "posting/1");
+    uint32_t fault = dochirwa_curl_open(&reporter, options, "posting\r\n/1");
+    if (fault != DOCHIRWA_FAULT_UNKNOWN || reporter) return 2;
+    fault = dochirwa_curl_open(&reporter, options, "posting/1");
     printf("%u\n", fault);
     while (!fault && fflush(stdout) == 0 && fgets(line, sizeof line, stdin)) {
         text[0] = 0;

@@ -504,9 +504,10 @@ static bool start(dochirwa_curl *curl) {
 }
 
 uint32_t dochirwa_curl_open(dochirwa_curl **made, const char *options, const char *client_agent) {
+    *made = NULL;
+    if (client_agent && strpbrk(client_agent, "\r\n")) return DOCHIRWA_FAULT_UNKNOWN;
     dochirwa_curl *curl = (dochirwa_curl *)calloc(1, sizeof *curl);
     size_t dsn_length;
-    *made = NULL;
     if (!curl) return DOCHIRWA_FAULT_OUT_OF_MEMORY;
     curl->last = &curl->first;
     dsn_of(options, &dsn_length);

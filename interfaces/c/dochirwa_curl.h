@@ -24,7 +24,8 @@ typedef struct dochirwa_curl dochirwa_curl;
 enum { DOCHIRWA_CURL_MOST_WAITING = 100 };
 
 /* Makes a reporter of the options of dochirwa_add_client, each on a line; a client without a DSN sends nothing. The agent is
- * how your program calls itself to the server, such as shop/1.0, or null. Faults: 1, and those of dochirwa_add_client. */
+ * how your program calls itself to the server, such as shop/1.0, or null. Faults: 1, 11 (the agent has a line feed), and
+ * those of dochirwa_add_client. */
 uint32_t dochirwa_curl_open(dochirwa_curl **curl, const char *options, const char *client_agent);
 /* Takes the lock, so that calls can be made on the engine. */
 dochirwa *dochirwa_curl_lock(dochirwa_curl *curl);
