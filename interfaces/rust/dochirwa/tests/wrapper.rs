@@ -315,7 +315,8 @@ fn an_error_is_captured_with_what_led_to_it() {
     }
 }
 
-#[cfg(feature = "backtrace")]
+// (an optimized program has no frames of functions that became parts of others, and no lines)
+#[cfg(all(feature = "backtrace", debug_assertions))]
 #[test]
 fn frames_end_at_the_call_of_the_crate() {
     let stacktrace = current_stacktrace();
