@@ -158,6 +158,17 @@ def all_of(path, env=None):
     for after in ("99999999999999999999", "18446744073709552", "-1"):
         yield f"how often is posted within a limit of {after} seconds", 1, posts_within(store, Program(path, program.dsn, env), after)
     store.stop()
+    if int(subprocess.run(["curl-config", "--vernum"], capture_output=True).stdout, 16) >= 0x075700:
+        yield "whether a close waits for an address", False, waits_for_address(path, env)
+
+
+def waits_for_address(path, env):
+    """Whether half a second of a close is 20 and more, where the host's address comes after 30."""
+    program, begun = Program(path, "http://akey@sentry.invalid/7", env), time.monotonic()
+    program.do("error without an address")
+    program.do("close 500")
+    program.process.wait(60)
+    return time.monotonic() - begun >= 20
 
 
 def reports_alone(store, program):

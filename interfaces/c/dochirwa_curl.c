@@ -459,6 +459,9 @@ static bool set_up_curl(dochirwa_curl *curl, const char *options, const char *ag
     curl_easy_setopt(curl->curl, CURLOPT_HTTPHEADER, curl->headers);
     curl_easy_setopt(curl->curl, CURLOPT_POST, 1L);
     curl_easy_setopt(curl->curl, CURLOPT_NOSIGNAL, 1L);
+#if LIBCURL_VERSION_NUM >= 0x075700
+    curl_easy_setopt(curl->curl, CURLOPT_QUICK_EXIT, 1L); /* waits for no address after a post's time */
+#endif
     curl_easy_setopt(curl->curl, CURLOPT_OPENSOCKETFUNCTION, open_socket);
     curl_easy_setopt(curl->curl, CURLOPT_TIMEOUT_MS, (long)POST_MILLISECONDS);
     curl_easy_setopt(curl->curl, CURLOPT_WRITEFUNCTION, ignore);

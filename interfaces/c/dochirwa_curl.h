@@ -44,7 +44,8 @@ void dochirwa_curl_before_send(dochirwa_curl *curl, bool (*keeps)(void *given, c
 /* Sends what waits, and waits until it is posted or lost, so long at most; answers whether it was in time, and false where
  * something stays for want of memory. */
 bool dochirwa_curl_flush(dochirwa_curl *curl, uint32_t milliseconds);
-/* A flush, after which the thread ends and the reporter is freed; what still waits is lost. Null is closed already. */
+/* A flush, after which the thread ends and the reporter is freed; what still waits is lost. Null is closed already. With
+ * libcurl before 7.87 it waits for the address of a host that is being looked up. */
 bool dochirwa_curl_close(dochirwa_curl *curl, uint32_t milliseconds);
 
 #ifdef __cplusplus
