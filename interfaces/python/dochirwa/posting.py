@@ -70,10 +70,12 @@ def proxy_for(address: Address, named: Mapping[str, Optional[str]]) -> Optional[
 
 
 class TimedReader(io.RawIOBase):
-    """Reads a socket up to a moment, however slowly bytes come."""
+    """Reads a socket up to a moment, however slowly bytes come. `http.client` closes the socket of a connection that isn't
+    kept before the answer is read: it stays open as long as this."""
 
     def __init__(self, sock: socket.socket, end: float) -> None:
         self.sock, self.end = sock, end
+        self.file = sock.makefile("rb", buffering=0)
 
     def readable(self) -> bool:
         return True
@@ -83,7 +85,11 @@ class TimedReader(io.RawIOBase):
         if left <= 0:
             raise socket.timeout("the server answers too slowly")
         self.sock.settimeout(left)
-        return self.sock.recv_into(room)
+        return self.file.readinto(room) or 0
+
+    def close(self) -> None:
+        self.file.close()
+        super().close()
 
 
 class TimedSocket:
@@ -100,6 +106,15 @@ def timed_response(end: float) -> Any:
     """In place of the class of answers: one whose answer has to be there at a moment."""
     made: Any = http.client.HTTPResponse
     return lambda sock, *words, **more: made(TimedSocket(sock, end), *words, **more)
+
+
+def read_whole(answer: http.client.HTTPResponse) -> bool:
+    """Whether the rest of an answer comes as its headers say. Its status holds in any case."""
+    try:
+        answer.read()
+    except (OSError, http.client.HTTPException):
+        return False
+    return True
 
 
 class Poster:
@@ -142,8 +157,7 @@ class Poster:
             connection.response_class = timed_response(end)
             connection.request("POST", target, body, dict(headers))
             answer = connection.getresponse()
-            answer.read()
-            if answer.will_close:
+            if not read_whole(answer) or answer.will_close:
                 self.close()
             return answer.status, dict(answer.headers.items())
         except BaseException:
