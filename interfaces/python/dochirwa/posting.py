@@ -179,3 +179,10 @@ class Poster:
         connection, self.connection = self.connection, None
         if connection is not None:
             connection.close()
+
+    def after_fork(self) -> None:
+        """In a process that was forked off: leaves the connection to the parent. A thread that isn't here any more may hold
+        the lock of an answer, which to close would wait for: so the number of the file alone is closed."""
+        connection, self.connection = self.connection, None
+        if connection is not None and connection.sock is not None:
+            socket.close(connection.sock.detach())

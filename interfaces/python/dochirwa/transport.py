@@ -76,7 +76,7 @@ class Sender:
         self.losses.clear()
         self.in_flight, self.failures, self.told = None, 0, 0
         if isinstance(self.post, Poster):
-            self.post.close()
+            self.post.after_fork()
         if self.spool is not None:
             self.spool.after_fork()
         self.is_closing = self.is_over = self.has_left = False
