@@ -278,7 +278,11 @@ class Sender:
             return False
         spool.remove(name)
         if not 200 <= status < 300:
-            self.lose(split(envelope)[1], "send_error")
+            try:
+                self.lose(split(envelope)[1], "send_error")
+            except Exception as error:  # also a file that was never written to its end
+                tell("a file of the spool folder is no envelope: %r", error)
+                self.failures += 1
         return True
 
     def flush(self, timeout: float, closing: bool = False) -> bool:
