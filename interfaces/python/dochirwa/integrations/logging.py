@@ -2,6 +2,7 @@
 from __future__ import annotations
 
 import logging
+import threading
 from typing import Any, Dict, List, Optional
 
 from .. import client as clients
@@ -10,6 +11,7 @@ from ..errors import exceptions_of
 from ..measures import log
 from ..records import LEVELS, LOG_LEVELS, as_text
 from ..scopes import add_breadcrumb
+from ..transport import POSTING
 from . import Integration
 
 # Whose records are never reported: those of the package.
@@ -58,6 +60,8 @@ def report(record: logging.LogRecord, level: Optional[int], event_level: Optiona
     """Sends a record: from these levels on, as a breadcrumb, an event and a log."""
     client = clients.current
     if client is None or is_ignored(record.name) or getattr(record, "dochirwa_seen", None) is client:
+        return
+    if threading.get_ident() in POSTING:  # a post would make another one
         return
     record.dochirwa_seen = client
     text = text_of(record)
