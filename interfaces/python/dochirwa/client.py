@@ -38,6 +38,8 @@ class Client:
         self.options, self.is_closed = options, False
         self.frame_options, self.set_up = options.frame_options(), integrations.chosen(options)
         self.finished: List[Span] = []
+        # Where the envelopes of the capture go that is under way, while the lock is held.
+        self.capturing: Optional[Callable[[bytes], None]] = None
         self.engine = native.Engine(options.library)
         try:
             self.number = self.engine.number("add_client", options.lines(), LABEL, time.time_ns())

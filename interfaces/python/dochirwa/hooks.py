@@ -4,7 +4,7 @@ from __future__ import annotations
 import contextvars
 from typing import TYPE_CHECKING, Callable, Dict, List, Optional, Tuple, TypeVar
 
-from .envelopes import edited, python_of, split
+from .envelopes import edited, split
 from .hubs import Hub, Processor
 from .notes import LOGGER, tell
 from .records import put_beside
@@ -62,9 +62,17 @@ def captured(
     hooks = hooks_of(client, hub.processors)
     if not more and not hooks["event"] and not hooks["transaction"]:
         return call(), False
+    envelopes: List[bytes] = []
     with client.engine.lock:
-        result = call()
-        envelopes = list(iter(client.engine.next_envelope, None))
+        # What waits before is of calls without hooks, or of that which this one interrupts, in a signal handler.
+        outer = client.capturing
+        client.sender.fetch(outer)
+        client.capturing = envelopes.append
+        try:
+            result = call()
+            client.sender.fetch(envelopes.append)
+        finally:
+            client.capturing = outer
     dropped = False
 
     def edit(kind: str, record: Record) -> Optional[Record]:
@@ -72,9 +80,9 @@ def captured(
             put_beside(record, more)
         return run_hooks(hooks[kind], record, hint)
 
-    for _, envelope in envelopes:
+    for envelope in envelopes:
         try:
-            kept, lost = edited(python_of(envelope), edit)
+            kept, lost = edited(envelope, edit)
         except Exception as error:  # of a hook's record that can't be written
             tell("what a hook answered can't be sent: %r", error)
             client.sender.lose(split(envelope)[1], "internal_sdk_error")

@@ -148,11 +148,11 @@ class Sender:
         except IndexError:
             return None
 
-    def fetch(self) -> None:
-        """Takes what waits in the engine."""
+    def fetch(self, put: Optional[Callable[[bytes], None]] = None) -> None:
+        """Takes what waits in the engine, and has it wait here, or puts it elsewhere."""
         with self.engine.lock:
             while (found := self.engine.next_envelope()) is not None:
-                self.queue(python_of(found[1]))
+                (put or self.queue)(python_of(found[1]))
 
     def queue(self, envelope: bytes) -> None:
         """Has an envelope wait. Beyond the limit, as where the server is slow, the latest ones are lost."""
