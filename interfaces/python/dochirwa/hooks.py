@@ -2,7 +2,7 @@
 from __future__ import annotations
 
 import contextvars
-from typing import TYPE_CHECKING, Callable, Dict, List, Optional, Tuple, TypeVar
+from typing import TYPE_CHECKING, Callable, Dict, List, Optional, Sequence, Tuple, TypeVar
 
 from .envelopes import edited, split
 from .hubs import Hub, Processor
@@ -15,8 +15,9 @@ if TYPE_CHECKING:
 
 T = TypeVar("T")
 GLOBAL_PROCESSORS: List[Processor] = []
-# Whether a hook runs in this context. What it captures would be handed to it again, and so is dropped.
-RUNNING: contextvars.ContextVar[bool] = contextvars.ContextVar("dochirwa_hook", default=False)
+# The hook that runs in this context. What it captures would be handed to it again, and so is dropped. The list is emptied
+# at the end of the hook, since a task that this has begun has it from then on.
+RUNNING: contextvars.ContextVar[Sequence[Hook]] = contextvars.ContextVar("dochirwa_hook", default=())
 
 
 def add_global_event_processor(processor: Processor) -> None:
@@ -26,7 +27,8 @@ def add_global_event_processor(processor: Processor) -> None:
 
 def run_hook(hook: Hook, record: Record, hint: Hint) -> Optional[Record]:
     """What a hook makes of a record: none, where it drops it, and also where it fails."""
-    token = RUNNING.set(True)
+    running = [hook]
+    token = RUNNING.set(running)
     try:
         return hook(record, hint)
     except Exception:
@@ -34,6 +36,7 @@ def run_hook(hook: Hook, record: Record, hint: Hint) -> Optional[Record]:
         LOGGER.debug("the hook's error", exc_info=True)
         return None
     finally:
+        running.clear()
         RUNNING.reset(token)
 
 
