@@ -63,7 +63,7 @@ def captured(
     lock, which only the call and the fetch of its envelopes take together. `more` is put into the event of this id before.
     Answers what the call does, and whether its event was dropped."""
     hooks = hooks_of(client, hub.processors)
-    if not more and not hooks["event"] and not hooks["transaction"]:
+    if not more and not hooks["event"] and not hooks["transaction"] and not RUNNING.get():
         return call(), False
     envelopes: List[bytes] = []
     with client.engine.lock:
@@ -79,6 +79,8 @@ def captured(
     dropped = False
 
     def edit(kind: str, record: Record) -> Optional[Record]:
+        if is_in_hook(client, f"a {kind}"):
+            return None
         if more and record.get("event_id") == str(event_id):
             put_beside(record, more)
         return run_hooks(hooks[kind], record, hint)
