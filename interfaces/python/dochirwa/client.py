@@ -80,8 +80,13 @@ class Client:
 
     def set_span(self, hub: Hub, span: Optional[Span]) -> None:
         if span is not None:
-            self.engine.call("set_span", hub.number, span.is_span, span.number, time.time_ns())
-        else:
+            try:
+                self.engine.call("set_span", hub.number, span.is_span, span.number, time.time_ns())
+            except Fault as fault:
+                if fault.number != native.STALE:
+                    raise
+                span = None  # another thread has finished it meanwhile
+        if span is None:
             self.engine.call("clear_span", hub.number, time.time_ns())
         hub.span = span
 
