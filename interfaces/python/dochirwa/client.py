@@ -240,7 +240,23 @@ def close_with_multiprocessing(client: Client) -> None:
     """A process of `multiprocessing` ends by `os._exit`, and runs none of what `atexit` keeps, but its own finalizers."""
     util = sys.modules.get("multiprocessing.util")
     if util is not None:
-        util.register_after_fork(client, lambda it: util.Finalize(None, close, exitpriority=0))
+        util.register_after_fork(client, lambda it: util.Finalize(None, close_after_threads, exitpriority=0))
+
+
+def close_after_threads() -> None:
+    """Closes once the threads have ended for which such a process waits after its finalizers."""
+    here = threading.current_thread(), threading.main_thread()
+    threads = [it for it in threading.enumerate() if not it.daemon and it not in here]
+
+    def wait() -> None:
+        for it in threads:
+            it.join()
+        close_after_threads()
+
+    if threads:
+        threading.Thread(target=wait, name="dochirwa-end").start()
+    else:
+        close()
 
 
 atexit.register(close)
