@@ -163,7 +163,10 @@ def fraction(rate: float) -> str:
 
 def commit(folder: Optional[str] = None) -> Optional[str]:
     """The commit of the Git repository in which a folder lies."""
-    at = os.path.abspath(folder or os.getcwd())
+    try:
+        at = os.path.abspath(folder or os.getcwd())
+    except OSError:  # the folder is removed
+        return None
     while True:
         found = head_of(os.path.join(at, ".git"))
         if found or os.path.dirname(at) == at:

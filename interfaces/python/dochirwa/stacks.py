@@ -10,7 +10,7 @@ import re
 import sys
 import sysconfig
 from types import FrameType, TracebackType
-from typing import Any, Dict, FrozenSet, Iterator, List, Optional, Tuple
+from typing import Any, Callable, Dict, FrozenSet, Iterator, List, Optional, Tuple
 
 MOST_FRAMES, MOST_VARS, LONGEST, CONTEXT = 100, 25, 200, 5
 FILTERED = "[Filtered]"
@@ -83,7 +83,15 @@ def in_app(path: str, module: str, options: FrameOptions) -> bool:
 def lies_outside(path: str) -> bool:
     """Whether a file is of the standard library, of what is installed, or of the package."""
     parts = f"{os.sep}site-packages{os.sep}", f"{os.sep}dist-packages{os.sep}"
-    return any(it in path for it in parts) or os.path.realpath(path).startswith(OUTSIDE)
+    return any(it in path for it in parts) or whole(path, os.path.realpath).startswith(OUTSIDE)
+
+
+def whole(path: str, function: Callable[[str], str]) -> str:
+    """The whole path of a file by one of these functions, or, where the folder that it is told from is removed, as it is."""
+    try:
+        return function(path)
+    except (OSError, ValueError):
+        return path
 
 
 @functools.lru_cache(1024)
@@ -117,7 +125,7 @@ def frame_of(frame: FrameType, line: Optional[int], options: FrameOptions) -> Di
     path = code.co_filename
     found: Dict[str, Any] = {
         "filename": file_of(path, module),
-        "abs_path": os.path.abspath(path) if not path.startswith("<") else path,
+        "abs_path": whole(path, os.path.abspath) if not path.startswith("<") else path,
         "function": getattr(code, "co_qualname", code.co_name),
         "module": module,
         "lineno": line or 0,
