@@ -11,7 +11,7 @@ from . import native
 from .hooks import is_in_hook, run_hook
 from .hubs import HUB, Hub, Processor, hub_of, hub_to_edit
 from .notes import tell, tolerated
-from .records import as_json, as_text, context_of, crumb_of, dumped, entries, level_of, list_of, user_of
+from .records import as_json, as_text, context_of, crumb_of, dumped, entries, level_of, list_of, request_of, user_of
 
 
 class Scope:
@@ -149,7 +149,7 @@ class Scope:
         with tolerated("a request"):
             hub = self.hub()
             if hub is not None:
-                hub.request = request
+                hub.request = None if request is None else request_of(request)
 
     def clear(self) -> None:
         """Takes all away that the scope has, and gives it a trace of its own."""
