@@ -9,11 +9,11 @@ from typing import Any, Callable, Dict, List, Mapping, Optional, Tuple, Union
 from . import client as clients
 from . import native
 from .client import SDK
-from .errors import ExcInfo, error_of, exceptions_of, is_ignored
+from .errors import ExcInfo, error_of, exceptions_of, is_ignored, member_of
 from .hooks import captured, is_in_hook
 from .native import Fault
 from .notes import tell, tolerated
-from .records import DEEPEST, as_text, beside, dumped, event_of, level_of, plain
+from .records import DEEPEST, as_text, beside, dumped, entries, event_of, level_of, plain
 from .scopes import in_scope
 from .stacks import frames_of, steps_to
 
@@ -52,7 +52,7 @@ CUTS: Tuple[Callable[[List[Any]], List[Any]], ...] = (
 
 def mark_of(error: Optional[BaseException]) -> Optional[Mark]:
     """The mark of an exception, if it was captured last in this context."""
-    mark = getattr(error, MARK, None)
+    mark = member_of(error, MARK)
     return mark if mark is not None and mark is LAST.get() else None
 
 
@@ -135,7 +135,8 @@ def capture_event(
     """Sends an event, a dictionary as Sentry writes it. Answers its id, or `None` where it was dropped. What the engine
     doesn't read of it is put into what is sent as it is. `tags`, `extras`, `contexts`, `user`, `level` and `fingerprint`
     stand over those of the scope."""
-    return in_scope(scope, parts, lambda: send(event_of(event), hint, beside(event), given_id(event)))
+    read = entries(event, "an event") if isinstance(event, Mapping) else event
+    return in_scope(scope, parts, lambda: send(event_of(read), hint, beside(read), given_id(read)))
 
 
 def capture_message(message: Any, level: str = "info", scope: Optional[Any] = None, **parts: Any) -> Optional[str]:

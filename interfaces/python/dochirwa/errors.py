@@ -27,9 +27,17 @@ def cause_of(error: BaseException) -> Tuple[Optional[BaseException], str]:
     return (None if error.__suppress_context__ else error.__context__), "__context__"
 
 
+def member_of(error: Optional[BaseException], name: str) -> Any:
+    """A member of an exception, or none, also where its type finds members in a way of its own that fails."""
+    try:
+        return getattr(error, name, None)
+    except Exception:
+        return None
+
+
 def parts_of(error: BaseException) -> Tuple[BaseException, ...]:
     """The exceptions of a group."""
-    parts = getattr(error, "exceptions", None)
+    parts = member_of(error, "exceptions")
     return tuple(it for it in parts if isinstance(it, BaseException)) if isinstance(parts, (tuple, list)) else ()
 
 
@@ -61,7 +69,7 @@ def kind_of(error: BaseException) -> Dict[str, Any]:
 
 def value_of(error: BaseException) -> str:
     """The text of an exception, and its notes."""
-    notes = getattr(error, "__notes__", None)
+    notes = member_of(error, "__notes__")
     return "\n".join([as_text(error), *map(as_text, notes if isinstance(notes, list) else [])])
 
 

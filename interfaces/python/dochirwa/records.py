@@ -3,6 +3,7 @@ from __future__ import annotations
 
 import json
 import logging
+import math
 from typing import Any, Dict, Iterable, List, Mapping, Optional, Sequence, Tuple
 
 from .notes import tell
@@ -22,18 +23,25 @@ DEEPEST = 12
 READ = {*TEXTS, *"level fingerprint user request contexts breadcrumbs exception stacktrace tags extra sdk".split()}
 
 
-def plain(value: Any, depth: int = 8) -> Any:
-    """A value as the engine takes it: numbers are whole and have 64 bits, and what is no JSON is a text."""
-    if value is None or isinstance(value, (bool, str)):
-        return value
-    if isinstance(value, float) and value.is_integer():
-        value = int(value)
-    if isinstance(value, int) and -(2**63) <= value < 2**64:
-        return value
-    if depth > 0 and isinstance(value, dict):
-        return {as_text(key): plain(it, depth - 1) for key, it in value.items()}
-    if depth > 0 and isinstance(value, (list, tuple, set, frozenset)):
-        return [plain(it, depth - 1) for it in value]
+def plain(value: Any, depth: int = 8, with_fractions: bool = False) -> Any:
+    """A value as the engine takes it: numbers are whole and have 64 bits, and what is no JSON is a text. So is what fails as
+    it is read. What the engine doesn't see may have fractions, too."""
+    try:
+        if value is None or isinstance(value, (bool, str)):
+            return value
+        if isinstance(value, float) and with_fractions and math.isfinite(value):
+            return value
+        if isinstance(value, float) and value.is_integer():
+            value = int(value)
+        if isinstance(value, int) and -(2**63) <= value < 2**64:
+            return value
+        # Copied first, as another thread may change it.
+        if depth > 0 and isinstance(value, dict):
+            return {as_text(key): plain(it, depth - 1, with_fractions) for key, it in [*value.items()]}
+        if depth > 0 and isinstance(value, (list, tuple, set, frozenset)):
+            return [plain(it, depth - 1, with_fractions) for it in [*value]]
+    except Exception:
+        pass
     return as_text(value)
 
 
@@ -56,10 +64,14 @@ def as_json(value: Any) -> bytes:
 
 def entries(value: Any, what: str) -> Dict[str, Any]:
     """The entries of a dictionary, or of a list of pairs."""
-    if isinstance(value, Mapping):
-        return {as_text(key): it for key, it in value.items()}
-    if isinstance(value, (list, tuple)) and all(isinstance(it, (list, tuple)) and len(it) == 2 for it in value):
-        return {as_text(key): it for key, it in value}
+    try:
+        if isinstance(value, Mapping):
+            return {as_text(key): it for key, it in [*value.items()]}
+        if isinstance(value, (list, tuple)) and all(isinstance(it, (list, tuple)) and len(it) == 2 for it in value):
+            return {as_text(key): it for key, it in value}
+    except Exception as why:
+        tell(f"{what} is left out: it can't be read: %r", why)
+        return {}
     tell(f"{what} is left out: it is a %s, and no dictionary", type(value).__name__)
     return {}
 
@@ -113,9 +125,10 @@ def user_of(user: Any) -> Dict[str, Any]:
     for what is no dictionary."""
     if not isinstance(user, Mapping):
         raise TypeError(f"a user is a dictionary, and no {type(user).__name__}")
+    user = entries(user, "a user")
     found: Dict[str, Any] = {key: None if user.get(key) is None else as_text(user[key]) for key in USER_TEXTS if key in user}
     data = user.get("data")
-    more = {**data} if isinstance(data, Mapping) else {} if data is None else {"data": data}
+    more = entries(data, "data of a user") if isinstance(data, Mapping) else {} if data is None else {"data": data}
     more.update((key, it) for key, it in user.items() if key not in (*USER_TEXTS, "data"))
     for key in USER_TEXTS:
         if key in more:  # they stand beside one another in what is sent
@@ -152,9 +165,9 @@ def crumb_of(crumb: Any) -> Dict[str, Any]:
     found: Dict[str, Any] = {key: as_text(read[key]) for key in ("message", "category", "type") if read.get(key) is not None}
     if not isinstance(crumb, Mapping):
         return found
-    if crumb.get("level") is not None:
-        found["level"] = level_of(crumb["level"], "info")
-    data = plain(crumb.get("data"))
+    if read.get("level") is not None:
+        found["level"] = level_of(read["level"], "info")
+    data = plain(read.get("data"))
     return found if data is None else {**found, "data": data if isinstance(data, dict) else {"value": data}}
 
 
@@ -184,7 +197,7 @@ def message_of(event: Mapping[str, Any]) -> Optional[str]:
     text, params = as_text(entry.get("message", "")), entry.get("params")
     try:
         return text % (params if isinstance(params, dict) else tuple(params)) if params else text
-    except (TypeError, ValueError):
+    except Exception:  # also of a parameter
         return text
 
 
@@ -246,7 +259,8 @@ def beside(event: Any) -> Dict[str, Any]:
     more = {key: it for key, it in event.items() if key not in read and key != "event_id" and it is not None}
     values = event.get("exception")
     parts = [beside_exception(it) for it in (values_of(values, "exception of an event") if values is not None else [])]
-    return {**more, "exception": {"values": parts}} if any(parts) else more
+    found: Dict[str, Any] = plain({**more, "exception": {"values": parts}} if any(parts) else more, DEEPEST, True)
+    return found
 
 
 def beside_exception(value: Any) -> Dict[str, Any]:

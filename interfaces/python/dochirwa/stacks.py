@@ -43,19 +43,23 @@ def shown(name: str, value: Any, depth: int = 2) -> Any:
     """A local variable, bounded: texts, lists and objects of these. One whose name says that it is secret is left out."""
     if is_secret(name):
         return FILTERED
+    try:
+        return bounded(value, depth)
+    except Exception:
+        return f"<{type(value).__qualname__}>"
+
+
+def bounded(value: Any, depth: int) -> Any:
     if isinstance(value, dict) and depth > 0:
-        keys = [key for key in list(value)[:MOST_VARS] if isinstance(key, (str, int))]
-        return {str(key)[:LONGEST]: shown(str(key), value[key], depth - 1) for key in keys}
+        found = [(key, it) for key, it in [*value.items()][:MOST_VARS] if isinstance(key, (str, int))]
+        return {str(key)[:LONGEST]: shown(str(key), it, depth - 1) for key, it in found}
     if isinstance(value, (list, tuple)) and depth > 0:
         return [shown("", it, depth - 1) for it in value[:MOST_VARS]]
     if isinstance(value, (list, tuple, set, frozenset, dict)):
         return f"<{type(value).__name__} of {len(value)}>"
     if isinstance(value, (str, bytes)):
         value = value[:LONGEST]
-    try:
-        return repr(value)[:LONGEST]
-    except Exception:
-        return f"<{type(value).__qualname__}>"
+    return repr(value)[:LONGEST]
 
 
 def begins_with(module: str, names: FrozenSet[str]) -> bool:
