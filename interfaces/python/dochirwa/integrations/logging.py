@@ -3,13 +3,14 @@ from __future__ import annotations
 
 import logging
 import threading
-from typing import Any, Dict, List, Optional
+from typing import Any, Dict, List, Mapping, Optional
 
 from .. import client as clients
 from ..capture import capture_event, remember, was_captured
 from ..errors import exceptions_of
 from ..measures import log
-from ..records import LEVELS, LOG_LEVELS, as_text
+from ..notes import tell
+from ..records import LEVELS, LOG_LEVELS, as_text, entries, list_of
 from ..scopes import add_breadcrumb
 from ..transport import POSTING
 from . import Integration
@@ -26,7 +27,8 @@ def ignore_logger(name: str) -> None:
     IGNORED.append(name)
 
 
-def is_ignored(name: str) -> bool:
+def is_ignored(name: Any) -> bool:
+    name = as_text(name)
     return name.partition(".")[0] == OWN or any(name == it or name.startswith(it + ".") for it in IGNORED)
 
 
@@ -39,12 +41,12 @@ def text_of(record: logging.LogRecord) -> str:
 
 def level_number(record: logging.LogRecord) -> int:
     """The place of the record's level among the engine's."""
-    return min(max(record.levelno // 10 - 1, 0), 4)
+    return min(max(int(record.levelno) // 10 - 1, 0), 4)
 
 
 def params_of(record: logging.LogRecord) -> List[str]:
-    args = record.args.values() if isinstance(record.args, dict) else record.args or ()
-    return [as_text(it) for it in args]
+    args: Any = record.args
+    return list_of([*entries(args, "arguments of a log record").values()] if isinstance(args, Mapping) else args)
 
 
 def event_of_record(record: logging.LogRecord, text: str) -> Dict[str, Any]:
@@ -56,8 +58,22 @@ def event_of_record(record: logging.LogRecord, text: str) -> Dict[str, Any]:
     return {**event, "extra": extra} if extra else event
 
 
+def error_of(record: logging.LogRecord) -> Optional[BaseException]:
+    found: Any = record.exc_info
+    error = found[1] if isinstance(found, tuple) and len(found) == 3 else None
+    return error if isinstance(error, BaseException) else None
+
+
 def report(record: logging.LogRecord, level: Optional[int], event_level: Optional[int], logs_level: Optional[int]) -> None:
-    """Sends a record: from these levels on, as a breadcrumb, an event and a log."""
+    """Sends a record: from these levels on, as a breadcrumb, an event and a log. What can't be read of a record, as of one
+    that the program made itself, is told, and never an error of the program that logs."""
+    try:
+        report_read(record, level, event_level, logs_level)
+    except Exception as why:
+        tell("a log record is left out: %r", why)
+
+
+def report_read(record: logging.LogRecord, level: Optional[int], event_level: Optional[int], logs_level: Optional[int]) -> None:
     client = clients.current
     if client is None or is_ignored(record.name) or getattr(record, "dochirwa_seen", None) is client:
         return
@@ -65,7 +81,7 @@ def report(record: logging.LogRecord, level: Optional[int], event_level: Optiona
         return
     record.dochirwa_seen = client
     text = text_of(record)
-    error = record.exc_info[1] if record.exc_info else None
+    error = error_of(record)
     if event_level is not None and record.levelno >= event_level and not was_captured(error):
         event = event_of_record(record, text)
         hint: Dict[str, Any] = {"log_record": record}
