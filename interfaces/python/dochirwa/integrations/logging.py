@@ -3,10 +3,12 @@ from __future__ import annotations
 
 import logging
 import threading
+import weakref
 from typing import Any, Dict, List, Mapping, Optional
 
 from .. import client as clients
 from ..capture import capture_event, remember, was_captured
+from ..client import Client
 from ..errors import exceptions_of
 from ..measures import log
 from ..notes import tell
@@ -18,8 +20,10 @@ from . import Integration
 # Whose records are never reported: those of the package.
 OWN = "dochirwa"
 # The members that each record has.
-USUAL = {*vars(logging.makeLogRecord({})), "message", "asctime", "dochirwa_seen", "taskName"}
+USUAL = {*vars(logging.makeLogRecord({})), "message", "asctime", "taskName"}
 IGNORED: List[str] = []
+# The client that has reported a record. Not a member of the record, all of which other handlers may write.
+SEEN: weakref.WeakKeyDictionary[logging.LogRecord, Client] = weakref.WeakKeyDictionary()
 
 
 def ignore_logger(name: str) -> None:
@@ -75,11 +79,11 @@ def report(record: logging.LogRecord, level: Optional[int], event_level: Optiona
 
 def report_read(record: logging.LogRecord, level: Optional[int], event_level: Optional[int], logs_level: Optional[int]) -> None:
     client = clients.current
-    if client is None or is_ignored(record.name) or getattr(record, "dochirwa_seen", None) is client:
+    if client is None or is_ignored(record.name) or SEEN.get(record) is client:
         return
     if threading.get_ident() in POSTING:  # a post would make another one
         return
-    record.dochirwa_seen = client
+    SEEN[record] = client
     text = text_of(record)
     error = error_of(record)
     if event_level is not None and record.levelno >= event_level and not was_captured(error):
