@@ -2,7 +2,7 @@
 from __future__ import annotations
 
 import contextvars
-from typing import TYPE_CHECKING, Callable, Dict, List, Optional, Sequence, Tuple, TypeVar
+from typing import TYPE_CHECKING, Any, Callable, Dict, List, Optional, Sequence, Tuple, TypeVar
 
 from .envelopes import edited, split
 from .hubs import Hub, Processor
@@ -26,11 +26,15 @@ def add_global_event_processor(processor: Processor) -> None:
 
 
 def run_hook(hook: Hook, record: Record, hint: Hint) -> Optional[Record]:
-    """What a hook makes of a record: none, where it drops it, and also where it fails."""
+    """What a hook makes of a record: none, where it drops it, and also where it fails, or answers something else."""
     running = [hook]
     token = RUNNING.set(running)
     try:
-        return hook(record, hint)
+        found: Any = hook(record, hint)
+        if found is None or isinstance(found, dict):
+            return found
+        tell(f"the hook {getattr(hook, '__name__', hook)!s} answered no dictionary, and what it was handed is dropped")
+        return None
     except Exception:
         tell(f"the hook {getattr(hook, '__name__', hook)!s} failed, and what it was handed is dropped")
         LOGGER.debug("the hook's error", exc_info=True)

@@ -10,7 +10,7 @@ from .client import SDK, Client
 from .hooks import is_in_hook, run_hook
 from .native import Fault
 from .notes import tell, tolerated
-from .records import LOG_LEVELS, METRIC_KINDS, SESSION_STATUSES, as_json, as_text, log_level_of
+from .records import LOG_LEVELS, METRIC_KINDS, SESSION_STATUSES, as_json, as_text, entries, log_level_of
 
 # What logs and metrics say of who made them, if the program doesn't.
 SPEAKER = {"sentry.sdk.name": SDK["name"], "sentry.sdk.version": SDK["version"]}
@@ -56,7 +56,8 @@ def log(level: str, body: Any, **attributes: Any) -> None:
         found = run_hook(hook, record, {})
         if found is None:
             return client.drop("log_item")
-        named, text, attributes = log_level_of(found["severity_text"]), as_text(found["body"]), found["attributes"]
+        named, text = log_level_of(found.get("severity_text", named)), as_text(found.get("body", text))
+        attributes = entries(found.get("attributes") or {}, "attributes of a log")
     attributes = {**SPEAKER, **attributes}
     call_hub(client, "log_item", "capture_log", LOG_LEVELS.index(named), text, as_json(attributes), time.time_ns())
 
@@ -100,7 +101,8 @@ def metric(kind: str, name: str, value: Any, unit: Optional[str], attributes: Di
         found = run_hook(hook, {"type": kind, "name": name, "value": value, "unit": unit, "attributes": attributes}, {})
         if found is None:
             return client.drop("metric")
-        name, value, unit, attributes = found["name"], found["value"], found["unit"], found["attributes"]
+        name, value, unit = found.get("name", name), found.get("value", value), found.get("unit", unit)
+        attributes = entries(found.get("attributes") or {}, "attributes of a metric")
     read = exact(value, unit or "")
     if read is None:
         client.refuse("metric")
