@@ -65,8 +65,8 @@ def log(level: str, body: Any, **attributes: Any) -> None:
 def whole(value: Any) -> Optional[int]:
     """The whole number of 64 bits that is next to a value, or `None`."""
     try:
-        number = round(value)
-    except (ValueError, OverflowError, TypeError):
+        number = int(round(value))
+    except Exception:
         return None
     return number if -(2**63) <= number < 2**63 else None
 
@@ -103,7 +103,7 @@ def metric(kind: str, name: str, value: Any, unit: Optional[str], attributes: Di
             return client.drop("metric")
         name, value, unit = found.get("name", name), found.get("value", value), found.get("unit", unit)
         attributes = entries(found.get("attributes") or {}, "attributes of a metric")
-    read = exact(value, unit or "")
+    read = exact(value, as_text(unit or ""))
     if read is None:
         client.refuse("metric")
         return tell("the metric %s is left out: its value is %r", name, value)

@@ -53,6 +53,13 @@ def as_text(value: Any) -> str:
         return object.__repr__(value)
 
 
+def as_bytes(value: Any) -> bytes:
+    """A value as bytes: those of its text, where it has none of its own."""
+    if isinstance(value, (bytes, bytearray, memoryview)):
+        return bytes(value)
+    return as_text(value).encode("utf-8", "replace")
+
+
 def dumped(value: Any) -> bytes:
     # Half of a pair of surrogates is no text.
     return ENCODER.encode(value).encode("utf-8", "replace")

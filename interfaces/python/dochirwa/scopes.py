@@ -11,7 +11,7 @@ from . import native
 from .hooks import is_in_hook, run_hook
 from .hubs import HUB, Hub, Processor, hub_of, hub_to_edit
 from .notes import tell, tolerated
-from .records import as_json, as_text, context_of, crumb_of, dumped, entries, level_of, list_of, request_of, user_of
+from .records import as_bytes, as_json, as_text, context_of, crumb_of, dumped, entries, level_of, list_of, request_of, user_of
 
 
 class Scope:
@@ -133,7 +133,8 @@ class Scope:
 
     def add_attachment(self, bytes: bytes, filename: str, content_type: Optional[str] = None) -> None:
         """Adds a file, which is sent with each event of the scope."""
-        self.edit("add_attachment", filename, content_type or "", bytes, what="an attachment")
+        about = as_text(filename), as_text(content_type or "")
+        self.edit("add_attachment", *about, as_bytes(bytes), what="an attachment")
 
     def add_event_processor(self, processor: Processor) -> None:
         """Adds a function that is handed each event and transaction of the scope, and a hint. It answers it, changed or

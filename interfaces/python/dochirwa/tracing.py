@@ -13,7 +13,7 @@ from .hooks import captured
 from .hubs import HUB, SPAN
 from .notes import tell, tolerated
 from .options import fraction
-from .records import as_json, as_text, dumped, request_of
+from .records import as_json, as_text, dumped, entries, request_of
 from .statuses import span_status
 
 F = TypeVar("F", bound=Callable[..., Any])
@@ -78,7 +78,7 @@ class Span:
 
     def set_status(self, status: str) -> None:
         """Sets the status of this name, such as `ok`, `internal_error` or `deadline_exceeded`."""
-        self.call("set_span_status", status)
+        self.call("set_span_status", as_text(status))
 
     def set_http_status(self, code: int) -> None:
         """Sets the status that belongs to the answer of a request, and this number as a tag."""
@@ -175,7 +175,8 @@ class Transaction(Span):
 
 def headers_in(found: Mapping[str, Any]) -> Dict[str, str]:
     """The two headers of traces, of the headers of a request or of WSGI's environment."""
-    names = {as_text(key).lower().replace("_", "-").replace("http-", "", 1): it for key, it in found.items()}
+    headers = entries(found, "headers of a trace")
+    names = {key.lower().replace("_", "-").replace("http-", "", 1): it for key, it in headers.items()}
     return {name: as_text(names.get(name, "")) for name in ("sentry-trace", "baggage")}
 
 
