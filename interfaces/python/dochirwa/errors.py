@@ -106,6 +106,6 @@ def is_ignored(error: BaseException, ignored: Ignored) -> bool:
             kinds = type(error).__mro__
             if any(it in (kind.__name__, f"{kind.__module__}.{kind.__qualname__}") for kind in kinds):
                 return True
-        elif isinstance(error, it):
+        elif isinstance(it, type) and isinstance(error, it):
             return True
     return False

@@ -112,6 +112,9 @@ class Options:
             self.environment = given("SENTRY_ENVIRONMENT") or "production"
         if self.server_name is None:
             self.server_name = socket.gethostname()
+        # A single one stands for a list of it. What can be read once alone is kept, for each error.
+        ignored: Any = self.ignore_errors or ()
+        self.ignore_errors = (ignored,) if isinstance(ignored, (str, type)) else tuple(ignored)
 
     def frame_options(self) -> FrameOptions:
         modules = frozenset(self.in_app_include), frozenset(self.in_app_exclude)
