@@ -31,6 +31,11 @@ def unsent(envelope: bytes) -> Answer:
     return 200, {}
 
 
+def waitable(timeout: Optional[float]) -> float:
+    """Seconds as locks take them. `None` is no end."""
+    return threading.TIMEOUT_MAX if timeout is None else min(timeout, threading.TIMEOUT_MAX)
+
+
 class Sender:
     """Ticks the client, and posts what waits.
 
@@ -285,7 +290,7 @@ class Sender:
                 self.failures += 1
         return True
 
-    def flush(self, timeout: float, closing: bool = False) -> bool:
+    def flush(self, timeout: Optional[float], closing: bool = False) -> bool:
         """Waits until what waits now is posted, and answers whether it was in time, and nothing was lost since the last
         call. If it is closing, the thread then ends."""
         with self.idle:
@@ -294,18 +299,18 @@ class Sender:
             # Set last, as the thread reads it first: its last round is one that was asked for here.
             self.is_closing = self.is_closing or closing
             self.wake()
-            self.idle.wait_for(lambda: self.done >= wanted or self.is_over, timeout)
+            self.idle.wait_for(lambda: self.done >= wanted or self.is_over, waitable(timeout))
             is_done = self.done >= wanted
         before, self.told = self.told, self.failures
         return is_done and self.told == before
 
-    def stop(self, timeout: float) -> bool:
+    def stop(self, timeout: Optional[float]) -> bool:
         """A flush after which the thread ends, in this time in all. What can't be sent in this time goes into the spool
         folder, or else is told as lost. Answers as `flush`, and False if anything was left."""
         start = time.monotonic()
         is_well = self.flush(timeout, closing=True)
         if self.thread is not None and self.thread is not threading.current_thread():
-            self.thread.join(max(0, start + timeout - time.monotonic()))
+            self.thread.join(max(0, start + waitable(timeout) - time.monotonic()))
         with self.turn:
             self.has_left = True
             if self.in_flight is not None:
