@@ -21,10 +21,10 @@ class Limits:
     def read(self, status: int, headers: Mapping[str, str]) -> None:
         """Keeps what the answer to a request says, with its headers in any case."""
         found = {name.lower(): it for name, it in headers.items()}
-        limits = found.get("x-sentry-rate-limits")
-        if limits is not None:
-            for limit in limits.split(","):
-                seconds, _, rest = limit.strip().partition(":")
+        limits = [it.strip() for it in found.get("x-sentry-rate-limits", "").split(",") if it.strip()]
+        if limits:
+            for limit in limits:
+                seconds, _, rest = limit.partition(":")
                 for category in rest.split(":")[0].split(";"):
                     self.keep(LIMITED.get(category, category) or None, seconds)
         elif status == 429:
