@@ -42,7 +42,7 @@ class Client:
         self.capturing: Optional[Callable[[bytes], None]] = None
         self.engine = native.Engine(options.library)
         try:
-            self.number = self.engine.number("add_client", options.lines(), LABEL, time.time_ns())
+            self.number = self.engine.number("add_client", options.lines(), LABEL, native.steady_ns())
             # Kept beside the thread, which may end before the client.
             self.main_span: Optional[Span] = None
             task = running_task()

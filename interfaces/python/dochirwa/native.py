@@ -133,6 +133,15 @@ def load(path: Optional[str] = None) -> Dict[str, Any]:
     return found
 
 
+# What the clock that never goes back is behind the time.
+BEHIND = time.time_ns() - time.monotonic_ns()
+
+
+def steady_ns() -> int:
+    """The moment of ticks, which goes on evenly, however the time is set."""
+    return BEHIND + time.monotonic_ns()
+
+
 def fresh(event_id: Optional[Id] = None) -> Fresh:
     """The moment, and random ids."""
     a, b, c, d, e, f = struct.unpack("6Q", os.urandom(48))

@@ -130,7 +130,7 @@ class Sender:
     def send_round(self, closing: bool) -> bool:
         """Posts what waits, and answers whether the thread goes on."""
         try:
-            self.engine.call("tick", self.client, time.time_ns())
+            self.engine.call("tick", self.client, native.steady_ns())
             self.send_all()
             if closing:
                 self.send_report()
