@@ -131,10 +131,12 @@ class WsgiMiddleware:
         if client is None or KEY in environ:
             return self.app(environ, start_response)
         request = environ[KEY] = Request(client, environ, start_response)
-        body = request.run(self.app, environ, request.respond)
-        if isinstance(body, (list, tuple)) or request.served.is_whole:
+        body: Iterable[bytes] = request.run(self.app, environ, request.respond)
+        is_list = isinstance(body, (list, tuple))
+        if is_list or request.served.is_whole:
             request.context.run(request.end)
-        return Body(request, body)
+        # A server finds the length of an answer by that of a list.
+        return body if is_list else Body(request, body)
 
 
 SentryWsgiMiddleware = WsgiMiddleware
