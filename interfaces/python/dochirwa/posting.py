@@ -2,6 +2,7 @@
 from __future__ import annotations
 
 import base64
+import contextlib
 import encodings.idna  # noqa: F401  (a process that is forked off while the posting thread imports it could encode no host)
 import gzip
 import http.client
@@ -149,13 +150,16 @@ class Poster:
     def try_once(self, body: bytes, headers: Mapping[str, str], end: float) -> Answer:
         try:
             connection = self.connection or self.connected()
-            if connection.sock is not None:
-                connection.sock.settimeout(max(0.001, end - time.monotonic()))
+            if connection.sock is None:
+                connection.connect()
+            connection.sock.settimeout(max(0.001, end - time.monotonic()))
             target = self.address.path
             if self.proxy is not None and self.context is None:
                 target, headers = self.address.url, {**headers, **self.proxy.headers}
             connection.response_class = timed_response(end)
-            connection.request("POST", target, body, dict(headers))
+            # A server may answer, and end the connection, before it has read all, as where that is too much for it.
+            with contextlib.suppress(BrokenPipeError, ConnectionResetError):
+                connection.request("POST", target, body, dict(headers))
             answer = connection.getresponse()
             if not read_whole(answer) or answer.will_close:
                 self.close()
