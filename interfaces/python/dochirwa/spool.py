@@ -51,6 +51,7 @@ class Spool:
                 file.write(envelope)
             os.rename(self.path(name + ".new"), self.path(name + ENDING))
         except OSError:
+            self.remove(name + ".new")  # a part of it, where the disk is full
             return False
         return True
 
