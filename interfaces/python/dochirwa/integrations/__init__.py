@@ -104,7 +104,8 @@ class Finder(importlib.abc.MetaPathFinder):
     def find_spec(self, fullname: str, path: Any, target: Optional[ModuleType] = None) -> Any:
         if fullname != self.package:
             return None
-        sys.meta_path[:] = [it for it in sys.meta_path if it is not self]
+        # Another list, since imports that are under way, of other threads too, go through this one.
+        sys.meta_path = [it for it in sys.meta_path if it is not self]
         spec = importlib.util.find_spec(fullname)
         loader: Any = spec.loader if spec is not None else None
         if spec is None or not hasattr(loader, "exec_module"):
