@@ -69,8 +69,13 @@ class Sender:
         self.thread: Optional[threading.Thread] = None
 
     def start(self) -> None:
-        self.thread = threading.Thread(target=self.run, name="dochirwa", daemon=True)
-        self.thread.start()
+        thread = threading.Thread(target=self.run, name="dochirwa", daemon=True)
+        try:
+            thread.start()
+            self.thread = thread
+        except RuntimeError as why:  # too many threads, or the program ends
+            self.is_over = True
+            tell("the thread that posts can't begin, and nothing is sent: %s", why)
 
     def restart(self) -> None:
         """In a process that was forked off: the other threads are gone, and may have held these locks. What waits, and what
@@ -85,6 +90,7 @@ class Sender:
         if self.spool is not None:
             self.spool.after_fork()
         self.is_closing = self.is_over = self.has_left = False
+        self.thread = None
         self.start()
 
     def wake(self) -> None:
