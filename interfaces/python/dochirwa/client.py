@@ -155,6 +155,7 @@ def begin(options: Options) -> Client:
     told.clear()
     current = made
     made.start()
+    close_with_multiprocessing(made)
     integrations.install(made.set_up)
     if options.auto_session_tracking and options.session_mode == "application":
         start_session_of(made)
@@ -237,10 +238,18 @@ def after_fork_in_child() -> None:
 
 
 def close_with_multiprocessing(client: Client) -> None:
-    """A process of `multiprocessing` ends by `os._exit`, and runs none of what `atexit` keeps, but its own finalizers."""
-    util = sys.modules.get("multiprocessing.util")
-    if util is not None:
-        util.register_after_fork(client, lambda it: util.Finalize(None, close_after_threads, exitpriority=0))
+    """A process of `multiprocessing` ends by `os._exit`, and runs none of what `atexit` keeps, but its own finalizers: those
+    that are made once its function runs, or by what is registered for a fork."""
+    util, process = sys.modules.get("multiprocessing.util"), sys.modules.get("multiprocessing.process")
+    if util is None or process is None:
+        return
+    util.register_after_fork(client, finalize_with_multiprocessing)
+    if process.parent_process() is not None:
+        finalize_with_multiprocessing(client)
+
+
+def finalize_with_multiprocessing(client: Client) -> None:
+    sys.modules["multiprocessing.util"].Finalize(None, close_after_threads, exitpriority=0)
 
 
 def close_after_threads() -> None:
