@@ -18,6 +18,8 @@ USER_TEXTS = ("id", "email", "username", "ip_address")
 ENCODER = json.JSONEncoder(ensure_ascii=False)
 # The members of an event that the engine reads.
 TEXTS = ("message", "transaction", "server_name", "release", "environment", "platform")
+# Types whose values never fail as they are read. What is raised there is raised by a signal handler, and the program's.
+SAFE = frozenset((type(None), bool, int, float, str, list, tuple, set, frozenset, dict))
 # How deep frames are.
 DEEPEST = 12
 READ = {*TEXTS, *"level fingerprint user request contexts breadcrumbs exception stacktrace tags extra sdk".split()}
@@ -26,22 +28,34 @@ READ = {*TEXTS, *"level fingerprint user request contexts breadcrumbs exception 
 def plain(value: Any, depth: int = 8, with_fractions: bool = False) -> Any:
     """A value as the engine takes it: numbers are whole and have 64 bits, and what is no JSON is a text. So is what fails as
     it is read. What the engine doesn't see may have fractions, too."""
-    try:
-        if value is None or isinstance(value, (bool, str)):
-            return value
-        if isinstance(value, float) and with_fractions and math.isfinite(value):
-            return value
-        if isinstance(value, float) and value.is_integer():
-            value = int(value)
-        if isinstance(value, int) and -(2**63) <= value < 2**64:
-            return value
-        # Copied first, as another thread may change it.
-        if depth > 0 and isinstance(value, dict):
-            return {as_text(key): plain(it, depth - 1, with_fractions) for key, it in [*value.items()]}
-        if depth > 0 and isinstance(value, (list, tuple, set, frozenset)):
-            return [plain(it, depth - 1, with_fractions) for it in [*value]]
-    except Exception:
-        pass
+    if type(value) in SAFE:
+        found = opened(value, with_fractions)
+    else:
+        try:
+            found = opened(value, with_fractions)
+        except Exception:
+            return as_text(value)
+    if depth > 0 and type(found) is dict:
+        return {as_text(key): plain(it, depth - 1, with_fractions) for key, it in found.items()}
+    if depth > 0 and type(found) is list:
+        return [plain(it, depth - 1, with_fractions) for it in found]
+    return as_text(value) if type(found) in (dict, list) else found
+
+
+def opened(value: Any, with_fractions: bool) -> Any:
+    """The same of one value alone: a dictionary or a list is copied, since another thread may change it."""
+    if value is None or isinstance(value, (bool, str)):
+        return value
+    if isinstance(value, float) and with_fractions and math.isfinite(value):
+        return value
+    if isinstance(value, float) and value.is_integer():
+        value = int(value)
+    if isinstance(value, int) and -(2**63) <= value < 2**64:
+        return value
+    if isinstance(value, dict):
+        return dict([*value.items()])
+    if isinstance(value, (list, tuple, set, frozenset)):
+        return [*value]
     return as_text(value)
 
 
@@ -72,15 +86,21 @@ def as_json(value: Any) -> bytes:
 def entries(value: Any, what: str) -> Dict[str, Any]:
     """The entries of a dictionary, or of a list of pairs."""
     try:
-        if isinstance(value, Mapping):
-            return {as_text(key): it for key, it in [*value.items()]}
-        if isinstance(value, (list, tuple)) and all(isinstance(it, (list, tuple)) and len(it) == 2 for it in value):
-            return {as_text(key): it for key, it in value}
+        pairs = pairs_of(value)
     except Exception as why:
         tell(f"{what} is left out: it can't be read: %r", why)
         return {}
-    tell(f"{what} is left out: it is a %s, and no dictionary", type(value).__name__)
-    return {}
+    if pairs is None:
+        tell(f"{what} is left out: it is a %s, and no dictionary", type(value).__name__)
+    return {as_text(key): it for key, it in pairs or ()}
+
+
+def pairs_of(value: Any) -> Optional[List[Any]]:
+    """Those of a dictionary, copied since another thread may change it, or of a list of them; none of anything else."""
+    if isinstance(value, Mapping):
+        return [*value.items()]
+    is_list = isinstance(value, (list, tuple)) and all(isinstance(it, (list, tuple)) and len(it) == 2 for it in value)
+    return [(key, it) for key, it in value] if is_list else None
 
 
 def texts(value: Any, what: str = "a dictionary") -> Dict[str, str]:
