@@ -148,12 +148,13 @@ UNREPORTED: Dict[str, Losses] = {}
 
 
 def begin(options: Options) -> Client:
-    """Begins to report, in place of what an earlier call began."""
+    """Begins to report, in place of what an earlier call began. While this ends, the new client takes what is captured."""
     global current
     made = Client(options)
-    close()
+    before, current = current, made
     told.clear()
-    current = made
+    if before is not None:
+        before.close()
     made.start()
     close_with_multiprocessing(made)
     integrations.install(made.set_up)
