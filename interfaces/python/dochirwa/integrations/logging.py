@@ -32,8 +32,8 @@ def ignore_logger(name: str) -> None:
 
 
 def is_ignored(name: Any) -> bool:
-    name = as_text(name)
-    return name.partition(".")[0] == OWN or any(name == it or name.startswith(it + ".") for it in IGNORED)
+    text = as_text(name)
+    return text.partition(".")[0] == OWN or any(text == it or text.startswith(it + ".") for it in IGNORED)
 
 
 def text_of(record: logging.LogRecord) -> str:
