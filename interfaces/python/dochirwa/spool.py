@@ -90,13 +90,13 @@ class Spool:
             yield False
             return
         with file:
+            self.held = file
             if fcntl is not None:
                 try:
                     fcntl.flock(file, fcntl.LOCK_EX | fcntl.LOCK_NB)
                 except OSError:
                     yield False
                     return
-            self.held = file
             yield True
 
     def after_fork(self) -> None:
