@@ -21,6 +21,8 @@ SMALL = 1024
 LOOPBACK = "localhost", "127.0.0.1", "::1"
 # Seconds that one post may take in all.
 SECONDS = 10.0
+# How it shows that the server has ended a connection.
+ENDED = http.client.RemoteDisconnected, BrokenPipeError, ConnectionResetError, ssl.SSLEOFError, ssl.SSLZeroReturnError
 
 Answer = Tuple[int, Mapping[str, str]]
 
@@ -141,8 +143,8 @@ class Poster:
         is_kept, end = self.connection is not None, time.monotonic() + self.seconds
         try:
             return self.try_once(envelope, headers, end)
-        except (http.client.RemoteDisconnected, BrokenPipeError, ConnectionResetError):
-            # The server has ended a connection that was kept, perhaps before this post.
+        except ENDED:
+            # It was kept, and has perhaps ended before this post.
             if not is_kept:
                 raise
             return self.try_once(envelope, headers, end)
@@ -158,7 +160,7 @@ class Poster:
                 target, headers = self.address.url, {**headers, **self.proxy.headers}
             connection.response_class = timed_response(end)
             # A server may answer, and end the connection, before it has read all, as where that is too much for it.
-            with contextlib.suppress(BrokenPipeError, ConnectionResetError):
+            with contextlib.suppress(*ENDED):
                 connection.request("POST", target, body, dict(headers))
             answer = connection.getresponse()
             if not read_whole(answer) or answer.will_close:
