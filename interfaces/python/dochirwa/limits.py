@@ -24,8 +24,8 @@ class Limits:
         limits = [it.strip() for it in found.get("x-sentry-rate-limits", "").split(",") if it.strip()]
         if limits:
             for limit in limits:
-                seconds, _, rest = limit.partition(":")
-                for category in rest.split(":")[0].split(";"):
+                seconds, colon, rest = limit.partition(":")
+                for category in rest.split(":")[0].split(";") if colon else ():
                     self.keep(LIMITED.get(category, category) or None, seconds)
         elif status == 429:
             self.keep(None, found.get("retry-after", ""))
