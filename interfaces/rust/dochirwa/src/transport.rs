@@ -9,17 +9,20 @@ use std::error::Error;
 use std::fmt;
 use std::panic::{catch_unwind, AssertUnwindSafe};
 use std::sync::{Arc, Condvar, Mutex, MutexGuard, PoisonError, Weak};
+use std::thread::panicking;
 use std::time::{Duration, Instant};
 
-/// An envelope of a client.
+/// An envelope of a client. One that a panic drops counts as lost.
 pub struct Envelope {
     bytes: Vec<u8>,
     client: Weak<Shared>,
+    /// Whether it was made in the midst of a panic, in which a drop doesn't tell that it is lost.
+    is_of_panic: bool,
 }
 
 impl Envelope {
     pub(crate) fn new(bytes: Vec<u8>, client: Weak<Shared>) -> Envelope {
-        Envelope { bytes, client }
+        Envelope { bytes, client, is_of_panic: panicking() }
     }
 
     /// Its bytes in Sentry's format, as they are to be posted.
@@ -33,8 +36,10 @@ impl Envelope {
     }
 
     /// Counts what it holds as lost for a reason. A later envelope of the client reports it.
-    pub fn lose(self, reason: Reason) {
+    pub fn lose(mut self, reason: Reason) {
         self.lose_those(reason, |_| true);
+        // (its drop counts nothing more)
+        self.client = Weak::new();
     }
 
     fn lose_those(&self, reason: Reason, is_lost: impl Fn(&Item<'_>) -> bool) {
@@ -47,7 +52,7 @@ impl Envelope {
     }
 
     /// Without some items, which are counted as lost; none where no other is left.
-    fn without(self, reason: Reason, is_lost: impl Fn(&Item<'_>) -> bool) -> Option<Envelope> {
+    fn without(mut self, reason: Reason, is_lost: impl Fn(&Item<'_>) -> bool) -> Option<Envelope> {
         if !self.items().any(|it| is_lost(&it)) {
             return Some(self);
         }
@@ -56,7 +61,16 @@ impl Envelope {
         let header = self.bytes.split(|it| *it == b'\n').next()?;
         let lines = std::iter::once(header).chain(kept.iter().copied());
         let bytes = lines.flat_map(|it| [it, b"\n"]).collect::<Vec<_>>().concat();
-        (!kept.is_empty()).then_some(Envelope { bytes, client: self.client })
+        let client = (!kept.is_empty()).then(|| std::mem::take(&mut self.client))?;
+        Some(Envelope { bytes, client, is_of_panic: self.is_of_panic })
+    }
+}
+
+impl Drop for Envelope {
+    fn drop(&mut self) {
+        if panicking() && !self.is_of_panic {
+            self.lose_those(Reason::InternalSdkError, |_| true);
+        }
     }
 }
 
@@ -105,7 +119,8 @@ fn losses(item: &Item<'_>, reason: Reason) -> Vec<(Category, Reason, u64)> {
 /// What takes the envelopes of a client. A closure is one.
 pub trait Transport: Send + Sync {
     /// Takes an envelope, on the thread that made the call which it comes from. What isn't sent is to be lost by
-    /// [`Envelope::lose`]. A panic ends nothing but the envelope.
+    /// [`Envelope::lose`]. A panic ends nothing but the envelope that it drops, which counts as lost by
+    /// [`Reason::InternalSdkError`].
     fn send_envelope(&self, envelope: Envelope);
 
     /// Waits until what it took so far is sent or lost, and answers whether it was in time.

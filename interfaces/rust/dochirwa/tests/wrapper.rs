@@ -381,8 +381,9 @@ fn a_panic_of_a_hook_or_a_transport_loses_its_envelope_alone() {
         std::thread::sleep(Duration::from_millis(10));
     }
     let found = sent.take().iter().map(|it| String::from_utf8_lossy(it.as_bytes()).into_owned()).collect::<String>();
-    for (category, quantity) in [("error", 1), ("transaction", 1), ("log_item", 1)] {
-        let entry = format!("\"reason\":\"before_send\",\"category\":\"{category}\",\"quantity\":{quantity}}}");
+    let lost = ["error", "transaction", "log_item"].map(|it| ("before_send", it));
+    for (reason, category) in lost.into_iter().chain([("internal_sdk_error", "error")]) {
+        let entry = format!("\"reason\":\"{reason}\",\"category\":\"{category}\",\"quantity\":1}}");
         assert_eq!(found.matches(&entry).count(), 1, "{entry} in {found}");
     }
     assert_eq!(found.matches("\"after\"").count(), 1, "{found}");
