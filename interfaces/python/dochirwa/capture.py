@@ -8,7 +8,7 @@ from typing import Any, Callable, Dict, List, Mapping, Optional, Tuple, Union
 
 from . import client as clients
 from . import native
-from .client import SDK
+from .client import SDK, Client, replacing
 from .errors import ExcInfo, error_of, exceptions_of, is_ignored, member_of
 from .hooks import captured, is_in_hook
 from .native import Fault
@@ -108,25 +108,37 @@ def send(
     if client is None or is_in_hook(client, "an event", "error"):
         return None
     with tolerated("an event"):
-        hub = client.hub_with_span()
-        read = {"platform": "python", "sdk": SDK, **read}
-        if hub.request is not None:
-            read.setdefault("request", hub.request)
-        if hub.span is not None and hub.span.containing_transaction.name:
-            read.setdefault("transaction", hub.span.containing_transaction.name)
-        if client.options.attach_stacktrace and not any(it in read or it in more for it in TRACES):
-            read["stacktrace"] = plain(frames_of(steps_to(sys._getframe()), client.frame_options), DEEPEST)
-        fresh = native.fresh(event_id)
-        call = lambda: client.engine.number("capture_event", hub.number, written(read), fresh, type=native.Id)
         try:
-            sent, is_dropped = captured(client, call, hub, hint or {}, fresh.id, more)
+            return send_by(client, read, hint or {}, more, native.fresh(event_id))
         except Fault as fault:
-            if fault.number != native.CLOSED:
-                client.refuse("error")
+            if replacing(client, fault):
+                return send(read, hint, more, event_id)
             raise
-        client.sender.wake()
-        return str(sent) if (sent.high or sent.low) and not is_dropped else None
     return None
+
+
+def send_by(
+    client: Client, read: Dict[str, Any], hint: Dict[str, Any], more: Dict[str, Any], fresh: native.Fresh
+) -> Optional[str]:
+    """The same by one client, which may have been closed meanwhile."""
+    hub = client.hub_with_span()
+    read = {"platform": "python", "sdk": SDK, **read}
+    if hub.request is not None:
+        read.setdefault("request", hub.request)
+    if hub.span is not None and hub.span.containing_transaction.name:
+        read.setdefault("transaction", hub.span.containing_transaction.name)
+    if client.options.attach_stacktrace and not any(it in read or it in more for it in TRACES):
+        read["stacktrace"] = plain(frames_of(steps_to(sys._getframe()), client.frame_options), DEEPEST)
+    text = written(read)
+    call = lambda: client.engine.number("capture_event", hub.number, text, fresh, type=native.Id)
+    try:
+        sent, is_dropped = captured(client, lambda: client.record(call), hub, hint, fresh.id, more)
+    except Fault as fault:
+        if fault.number != native.CLOSED:
+            client.refuse("error")
+        raise
+    client.sender.wake()
+    return str(sent) if (sent.high or sent.low) and not is_dropped else None
 
 
 def capture_event(

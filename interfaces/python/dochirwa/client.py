@@ -7,7 +7,7 @@ import sys
 import threading
 import time
 import weakref
-from typing import TYPE_CHECKING, Any, Callable, Dict, List, Optional
+from typing import TYPE_CHECKING, Any, Callable, Dict, List, Optional, TypeVar
 
 from . import integrations, native
 from .envelopes import NAME, VERSION, Loss, Losses
@@ -26,6 +26,7 @@ if TYPE_CHECKING:
     from .tracing import Span
 
     P = ParamSpec("P")
+T = TypeVar("T")
 
 LABEL = 0
 SDK = {"name": NAME, "version": VERSION}
@@ -120,13 +121,21 @@ class Client:
         with tolerated("the end of the session"):
             self.engine.call("end_session", self.main.number, SESSION_STATUSES.index("exited"), time.time_ns())
 
+    def record(self, call: Callable[[], T]) -> T:
+        """Makes a call that captures something. Raises `Fault` where the client is closed, as the engine doesn't."""
+        with self.engine.lock:
+            if self.is_closed:
+                raise Fault(native.CLOSED)
+            return call()
+
     def close(self, timeout: Optional[float] = None) -> bool:
-        if self.is_closed:
-            return True
-        self.is_closed = True
-        self.end_session()
-        with tolerated("the end"):
-            self.engine.call("close", self.number)
+        with self.engine.lock:
+            if self.is_closed:
+                return True
+            self.end_session()
+            self.is_closed = True
+            with tolerated("the end"):
+                self.engine.call("close", self.number)
         is_well = self.sender.stop(self.options.shutdown_timeout if timeout is None else timeout)
         self.engine.free()
         return is_well
@@ -143,6 +152,8 @@ class Client:
 
 
 current: Optional[Client] = None
+# Held while `current` is replaced, and what it was ends.
+REPLACING = threading.RLock()
 # What was lost and isn't reported, by its DSN: so a client reports what an earlier one could not.
 UNREPORTED: Dict[str, Losses] = {}
 
@@ -151,16 +162,23 @@ def begin(options: Options) -> Client:
     """Begins to report, in place of what an earlier call began. While this ends, the new client takes what is captured."""
     global current
     made = Client(options)
-    before, current = current, made
-    told.clear()
-    if before is not None:
-        before.close()
-    made.start()
-    close_with_multiprocessing(made)
-    integrations.install(made.set_up)
-    if options.auto_session_tracking and options.session_mode == "application":
-        start_session_of(made)
+    with REPLACING:
+        before, current = current, made
+        told.clear()
+        if before is not None:
+            before.close()
+        made.start()
+        close_with_multiprocessing(made)
+        integrations.install(made.set_up)
+        if options.auto_session_tracking and options.session_mode == "application":
+            start_session_of(made)
     return made
+
+
+def replacing(client: Client, fault: Fault) -> Optional[Client]:
+    """The client that has replaced one, whose call found it closed."""
+    later = current
+    return later if fault.number == native.CLOSED and later is not client else None
 
 
 def start_session_of(client: Client) -> None:
@@ -187,7 +205,8 @@ def close(timeout: Optional[float] = None) -> bool:
     since the last `flush`. What could not be posted is in the spool folder, or else told as lost at `WARNING`, and reported
     by a later client of the same DSN."""
     global current
-    client, current = current, None
+    with REPLACING:
+        client, current = current, None
     return client.close(timeout) if client else True
 
 
@@ -226,8 +245,8 @@ def after_fork_in_parent() -> None:
 
 
 def after_fork_in_child() -> None:
-    global forking
-    forking = None
+    global forking, REPLACING
+    forking, REPLACING = None, threading.RLock()
     for it in UNREPORTED.values():
         it.clear()  # the parent's to report
     client = current

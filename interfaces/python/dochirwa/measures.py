@@ -6,7 +6,7 @@ from typing import Any, Dict, Optional, Tuple
 
 from . import client as clients
 from . import native
-from .client import SDK, Client
+from .client import SDK, Client, replacing
 from .hooks import is_in_hook, run_hook
 from .native import Fault
 from .notes import tell, tolerated
@@ -34,10 +34,14 @@ def call_hub(client: Client, category: Optional[str], name: str, *arguments: Any
     """Makes a call on the hub of this context. A record that is refused counts as lost."""
     with tolerated(name.replace("_", " ")):
         try:
-            client.engine.call(name, client.hub_with_span().number, *arguments)
+            hub = client.hub_with_span()
+            client.record(lambda: client.engine.call(name, hub.number, *arguments))
         except Fault as fault:
             if category is not None and fault.number != native.CLOSED:
                 client.refuse(category)
+            later = replacing(client, fault)
+            if later is not None:
+                return call_hub(later, category, name, *arguments)
             raise
         client.sender.wake()
 
