@@ -7,6 +7,8 @@ import os
 import time
 from typing import BinaryIO, Iterator, List, Optional, Tuple
 
+from .notes import tell
+
 try:
     import fcntl
 except ImportError:  # where two programs may send what waits twice
@@ -24,7 +26,10 @@ class Spool:
     def __init__(self, folder: str) -> None:
         self.folder, self.numbers = folder, itertools.count()
         self.held: Optional[BinaryIO] = None
-        os.makedirs(folder, mode=0o700, exist_ok=True)
+        try:
+            os.makedirs(folder, mode=0o700, exist_ok=True)
+        except OSError as why:
+            tell("the spool folder can't be made, and nothing will be kept: %s", why)
 
     def names(self) -> List[str]:
         try:
