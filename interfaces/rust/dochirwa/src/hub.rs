@@ -9,7 +9,7 @@ use crate::value::{Map, Value};
 use std::cell::RefCell;
 use std::error::Error;
 use std::fmt;
-use std::sync::atomic::{AtomicU64, Ordering};
+use std::sync::atomic::{AtomicU64, AtomicUsize, Ordering};
 use std::sync::{Arc, Mutex, PoisonError};
 
 pub(crate) struct HubInner {
@@ -17,6 +17,8 @@ pub(crate) struct HubInner {
     id: HubId,
     /// Scopes whose guards are gone while scopes above them were pushed.
     unpopped: Mutex<Vec<Depth>>,
+    /// How many guards there are whose scopes could not be pushed.
+    unpushed: AtomicUsize,
 }
 
 impl Drop for HubInner {
@@ -35,7 +37,7 @@ pub struct Hub(Arc<HubInner>);
 
 impl Hub {
     pub(crate) fn of(shared: Arc<Shared>, id: HubId) -> Hub {
-        Hub(Arc::new(HubInner { shared, id, unpopped: Mutex::default() }))
+        Hub(Arc::new(HubInner { shared, id, unpopped: Mutex::default(), unpushed: AtomicUsize::new(0) }))
     }
 
     /// A hub of a client with a scope of its own. Faults: `FULL`, `OUT_OF_MEMORY`.
@@ -59,6 +61,14 @@ impl Hub {
 
     pub(crate) fn tolerated<R: Default>(&self, call: impl FnOnce(&mut State, HubId) -> Result<R, Fault>) -> R {
         self.shared().tolerated(|state| call(state, self.0.id))
+    }
+
+    /// Edits the top scope, but not where a guard has no scope of its own, as the edit would stay in the one below.
+    fn edit(&self, call: impl FnOnce(&mut State, HubId) -> Result<(), Fault>) {
+        self.tolerated(|state, hub| match self.0.unpushed.load(Ordering::SeqCst) {
+            0 => call(state, hub),
+            _ => Err(Fault::OUT_OF_MEMORY),
+        });
     }
 
     /// Captures an event, and answers its id: nil where none was sent.
@@ -103,7 +113,7 @@ impl Hub {
 
     /// Adds a breadcrumb to the top scope.
     pub fn add_breadcrumb(&self, breadcrumb: &Breadcrumb) {
-        self.tolerated(|state, hub| state.engine.add_breadcrumb(hub, breadcrumb, Moment::now()));
+        self.edit(|state, hub| state.engine.add_breadcrumb(hub, breadcrumb, Moment::now()));
     }
 
     /// Starts a session, in place of the one that the top scope has; nothing where the client has no release.
@@ -134,19 +144,21 @@ impl Hub {
         change(&mut Scope { hub: self })
     }
 
-    /// Pushes a copy of the top scope, which the end of the guard pops.
+    /// Pushes a copy of the top scope, which the end of the guard pops. Where there is no memory for it, no scope of the hub
+    /// is edited until the guard's end.
     pub fn push_scope(&self) -> ScopeGuard {
         let depth = self.tolerated(|state, hub| state.engine.push_scope(hub).map(Some));
+        if depth.is_none() {
+            self.0.unpushed.fetch_add(1, Ordering::SeqCst);
+        }
         ScopeGuard { hub: self.clone(), depth }
     }
 
     /// Calls a function under a scope of its own, which another function has changed; without memory for the scope, under
-    /// the one that is there.
+    /// the one that is there, unchanged.
     pub fn with_scope<R>(&self, change: impl FnOnce(&mut Scope<'_>), call: impl FnOnce() -> R) -> R {
-        let guard = self.push_scope();
-        if guard.depth.is_some() {
-            self.configure_scope(change);
-        }
+        let _guard = self.push_scope();
+        self.configure_scope(change);
         call()
     }
 
@@ -198,8 +210,9 @@ pub struct ScopeGuard {
 
 impl Drop for ScopeGuard {
     fn drop(&mut self) {
-        if let Some(depth) = self.depth {
-            self.hub.pop(depth);
+        match self.depth {
+            Some(depth) => self.hub.pop(depth),
+            None => _ = self.hub.0.unpushed.fetch_sub(1, Ordering::SeqCst),
         }
     }
 }
@@ -212,12 +225,12 @@ pub struct Scope<'a> {
 impl Scope<'_> {
     fn edit(&mut self, name: &str, value: impl Into<Value>) {
         let edits = Map::from([(name, value.into())]);
-        self.hub.tolerated(|state, hub| state.engine.edit_scope(hub, &edits, Moment::now()));
+        self.hub.edit(|state, hub| state.engine.edit_scope(hub, &edits, Moment::now()));
     }
 
     /// Clears the scope.
     pub fn clear(&mut self) {
-        self.hub.tolerated(|state, hub| {
+        self.hub.edit(|state, hub| {
             let fresh = state.fresh();
             state.engine.clear_scope(hub, &fresh)
         });
@@ -226,7 +239,7 @@ impl Scope<'_> {
     /// Sets a tag.
     pub fn set_tag(&mut self, key: &str, value: impl ToString) {
         let value = value.to_string();
-        self.hub.tolerated(|state, hub| state.engine.set_tag(hub, key, &value, Moment::now()));
+        self.hub.edit(|state, hub| state.engine.set_tag(hub, key, &value, Moment::now()));
     }
 
     /// Takes a tag away.
@@ -276,23 +289,23 @@ impl Scope<'_> {
 
     /// Adds an attachment.
     pub fn add_attachment(&mut self, attachment: &Attachment) {
-        self.hub.tolerated(|state, hub| state.engine.add_attachment(hub, attachment, Moment::now()));
+        self.hub.edit(|state, hub| state.engine.add_attachment(hub, attachment, Moment::now()));
     }
 
     /// Takes the attachments away.
     pub fn clear_attachments(&mut self) {
-        self.hub.tolerated(|state, hub| state.engine.clear_attachments(hub, Moment::now()));
+        self.hub.edit(|state, hub| state.engine.clear_attachments(hub, Moment::now()));
     }
 
     /// Takes the breadcrumbs away.
     pub fn clear_breadcrumbs(&mut self) {
-        self.hub.tolerated(|state, hub| state.engine.clear_breadcrumbs(hub, Moment::now()));
+        self.hub.edit(|state, hub| state.engine.clear_breadcrumbs(hub, Moment::now()));
     }
 
     /// Sets the transaction or span to whose trace the events belong, or takes it away. One of another client is passed
     /// over.
     pub fn set_span(&mut self, span: Option<TransactionOrSpan>) {
-        self.hub.tolerated(|state, hub| {
+        self.hub.edit(|state, hub| {
             match &span {
                 None => state.engine.clear_span(hub, Moment::now())?,
                 Some(span) if !Arc::ptr_eq(span.hub().shared(), self.hub.shared()) => return Err(Fault::STALE),

@@ -92,6 +92,13 @@ fn without_memory_no_scope_stays_or_takes_the_edits_of_another() {
         drop(guard);
     });
     assert!(!popped.is_empty() && !popped.contains(&true), "{popped:?}");
+    let pushed = refusals(|hub, refuse| {
+        refuse();
+        let _guard = hub.push_scope();
+        hub.configure_scope(|scope| scope.set_tag("inner", "set"));
+        hub.add_breadcrumb(&Breadcrumb { data: Map::from([("inner", "set")]), ..Breadcrumb::default() });
+    });
+    assert!(!pushed.is_empty() && !pushed.contains(&true), "{pushed:?}");
     let with_scope = refusals(|hub, refuse| {
         refuse();
         hub.with_scope(|scope| scope.set_tag("inner", "set"), || ());
