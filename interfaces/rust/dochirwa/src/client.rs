@@ -8,7 +8,7 @@ use crate::transport::{Envelope, Transport, TransportThread};
 use crate::types::*;
 use std::fmt;
 use std::fs::File;
-use std::io::{Read, Write};
+use std::io::{BufReader, Read, Write};
 use std::panic::{catch_unwind, AssertUnwindSafe};
 use std::sync::atomic::{AtomicBool, Ordering};
 use std::sync::mpsc::{channel, RecvTimeoutError, Sender};
@@ -24,7 +24,7 @@ const INTERVAL: Duration = Duration::from_secs(1);
 /// An engine, and where it gets random numbers.
 pub(crate) struct State {
     pub(crate) engine: Engine,
-    random: File,
+    random: BufReader<File>,
     /// What ended while something still named it.
     left: Vec<TransactionOrSpanId>,
     /// Whether an envelope waits in the engine, for want of memory for its text.
@@ -32,27 +32,24 @@ pub(crate) struct State {
 }
 
 impl State {
-    fn bits<const COUNT: usize>(&mut self) -> [u8; COUNT] {
-        let mut bytes = [0; COUNT];
-        // Where nothing can be read, they stay 0.
-        let _ = self.random.read_exact(&mut bytes);
-        bytes
+    /// Random numbers, which are 0 where none can be read.
+    fn random<const COUNT: usize>(&mut self) -> [u64; COUNT] {
+        let mut bytes = [[0; 8]; COUNT];
+        let _ = self.random.read_exact(bytes.as_flattened_mut());
+        bytes.map(u64::from_ne_bytes)
     }
 
     /// The moment, and random ids.
     pub(crate) fn fresh(&mut self) -> Fresh {
-        Fresh {
-            now: Moment::now(),
-            id: u128::from_ne_bytes(self.bits()).into(),
-            trace: u128::from_ne_bytes(self.bits()).into(),
-            span: u64::from_ne_bytes(self.bits()),
-            draw: (u64::from_ne_bytes(self.bits()) % 1_000_000) as u32,
-        }
+        let [a, b, c, d, span, draw] = self.random();
+        let id = |high, low| u128::from(high) << 64 | u128::from(low);
+        Fresh { now: Moment::now(), id: id(a, b).into(), trace: id(c, d).into(), span, draw: (draw % 1_000_000) as u32 }
     }
 
     /// The moment, and the random id of a span: all that the start of a child uses.
     pub(crate) fn fresh_span(&mut self) -> Fresh {
-        Fresh { now: Moment::now(), span: u64::from_ne_bytes(self.bits()), ..Fresh::default() }
+        let [span] = self.random();
+        Fresh { now: Moment::now(), span, ..Fresh::default() }
     }
 
     /// Forgets what has ended, as soon as nothing names it.
@@ -162,7 +159,7 @@ impl Client {
         let mut engine = Engine::new()?;
         options.lines()?;
         let client = engine.add_client(&options, LABEL, Moment::now())?;
-        let random = File::open("/dev/urandom").map_err(InitError::Io)?;
+        let random = BufReader::new(File::open("/dev/urandom").map_err(InitError::Io)?);
         let shared = Arc::new(Shared {
             state: Mutex::new(State { engine, random, left: Vec::new(), is_full: false }),
             client,
