@@ -152,7 +152,7 @@ class Client:
 
 
 current: Optional[Client] = None
-# Held while `current` is replaced, and what it was ends.
+# Held by `init` alone, until what it replaces has ended: `close` may be called by a signal handler.
 REPLACING = threading.RLock()
 # What was lost and isn't reported, by its DSN: so a client reports what an earlier one could not.
 UNREPORTED: Dict[str, Losses] = {}
@@ -205,8 +205,7 @@ def close(timeout: Optional[float] = None) -> bool:
     since the last `flush`. What could not be posted is in the spool folder, or else told as lost at `WARNING`, and reported
     by a later client of the same DSN."""
     global current
-    with REPLACING:
-        client, current = current, None
+    client, current = current, None
     return client.close(timeout) if client else True
 
 

@@ -63,12 +63,12 @@ impl Hub {
         self.shared().tolerated(|state| call(state, self.0.id))
     }
 
-    /// Edits the top scope, but not where a guard has no scope of its own, as the edit would stay in the one below.
+    /// Edits the top scope, but not where a guard has no scope of its own, as the edit would stay in the one below. That the
+    /// scope could not be pushed was told then.
     fn edit(&self, call: impl FnOnce(&mut State, HubId) -> Result<(), Fault>) {
-        self.tolerated(|state, hub| match self.0.unpushed.load(Ordering::SeqCst) {
-            0 => call(state, hub),
-            _ => Err(Fault::OUT_OF_MEMORY),
-        });
+        if self.0.unpushed.load(Ordering::SeqCst) == 0 {
+            self.tolerated(call);
+        }
     }
 
     /// Captures an event, and answers its id: nil where none was sent.
@@ -144,8 +144,8 @@ impl Hub {
         change(&mut Scope { hub: self })
     }
 
-    /// Pushes a copy of the top scope, which the end of the guard pops. Where there is no memory for it, no scope of the hub
-    /// is edited until the guard's end.
+    /// Pushes a copy of the top scope, which the end of the guard pops. Where it can't be pushed, as without memory, no scope
+    /// of the hub is edited until the guard's end.
     pub fn push_scope(&self) -> ScopeGuard {
         let depth = self.tolerated(|state, hub| state.engine.push_scope(hub).map(Some));
         if depth.is_none() {
